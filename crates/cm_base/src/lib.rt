@@ -3,18 +3,36 @@
 #![tactic(auto)]
 
 mod boxed;
+mod compiler;
 mod diag;
 mod fault;
+mod folder;
 mod list;
+mod mem_folder;
+mod mem_sink;
+mod plan;
 mod record;
+mod sink;
+mod sure_folder;
+mod sure_sink;
 mod text;
+mod tool;
 
 pub use boxed::Boxed;
+pub use compiler::Compiler;
 pub use diag::{Diag, Place};
 pub use fault::{CompileFault, Fault, FolderFault, NoMemory, SinkFault, ToolFault};
+pub use folder::Folder;
 pub use list::List;
+pub use mem_folder::MemFolder;
+pub use mem_sink::MemSink;
+pub use plan::{CallCounts, CallKind, FailAt, Left};
 pub use record::{
     Built, BuiltUnit, CompileInput, Compiled, Def, Given, How, Import, ModName, Namespace, Need,
     Options, Pid, Skeleton, Spot,
 };
+pub use sink::Sink;
+pub use sure_folder::SureFolder;
+pub use sure_sink::SureSink;
 pub use text::Text;
+pub use tool::Tool;
