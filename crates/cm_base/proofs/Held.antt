@@ -1,10 +1,10 @@
 -- The entries of a sorted table of files, seen as a finite map.
-use Rattle.std.proofs.Common.{◌≡◌, sym, ap, ap₂, subst, ◌∙◌, refl, Bool, true, false, cond, ◌&&◌, T, ℕ, Some, None, Option, List, [], ◌∷◌, map}
+use Rattle.std.proofs.Common.{◌≡◌, sym, ap, subst, ◌∙◌, refl, Bool, true, false, cond, ◌&&◌, T, ℕ, Some, None, List, [], ◌∷◌, map}
 use Rattle.std.specs.Ordering.{nat_cmp, is_lt, eq_by_cmp}
 use Rattle.std.specs.declared.cmp.Ordering.TheVariants.{Less}
-use Rattle.std.specs.Cmp.{IsTotalOrder, eq_by_cmp_equiv}
+use Rattle.std.specs.Cmp.{eq_by_cmp_equiv}
 use Rattle.std.specs.Cmp.Lexicographic.{slice_cmp, nat_list_cmp_total}
-use Rattle.std.specs.FinMap.{get, insert, remove, find, is_sorted, from_entries, from_sorted, entries, keys, same_map, get-from_entries, get-from_sorted, entries-from_sorted, get-insert, get-remove}
+use Rattle.std.specs.FinMap.{get, insert, remove, find, is_sorted, from_entries, from_sorted, keys, same_map, get-from_entries, get-from_sorted, entries-from_sorted, get-insert, get-remove}
 use Rattle.std.specs.FinMap.Entries.{below_all}
 use Rattle.std.specs.List.{AllByRecursion}
 use Rattle.std.specs.List.Sorted.{IsStrictlySortedBy}

@@ -1,2 +1,4 @@
 pub mod FileLemmas
 pub mod Held
+pub mod KeepingLemmas
+pub mod Pushed

@@ -1,5 +1,5 @@
 -- What each call of the four traits answers and leaves, by cases on its result.
-use Rattle.std.specs.Prelude.{◌≡◌, ◌⊎◌, ◌≤◌, ◌+◌, ℕ, Bool, Option, None, Some, Result, Ok, Err, List, [], ◌∷◌, ◌++◌, take, length, is_some, All}
+use Rattle.std.specs.Prelude.{◌≡◌, ◌⊎◌, ◌≤◌, ◌<◌, ◌^◌, ◌+◌, ℕ, Bool, Option, Result, Ok, Err, List, [], ◌∷◌, ◌++◌, take, length, is_some, All}
 use Rattle.std.specs.FinMap.{get, insert, remove}
 use Rattle.cm_base.specs.Files.{Files, told, Told, read_bytes, paths_below}
 use Rattle.cm_base.specs.Causes.{one_more}
@@ -13,6 +13,7 @@ use Rattle.cm_base.specs.declared.fault.CompileFault.{CompileFault}
 use Rattle.cm_base.specs.declared.fault.CompileFault.TheVariants as compile
 use Rattle.cm_base.specs.declared.diag.Diag.{Diag}
 use Rattle.cm_base.specs.declared.record.Skeleton.{Skeleton}
+use Rattle.cm_base.specs.declared.record.Spot.{Spot}
 
 -- a read: whether the file is there, and its first bytes; a failed read may leave anything in the buffer,
 -- and want of memory leaves it as it was
@@ -70,12 +71,18 @@ Grows (Ok value) old new unit = new ≡ old ++ unit ∷ []
 Grows (Err (compile.Diag diag)) old new unit = new ≡ old ++ unit ∷ []
 Grows (Err compile.NoMemory) old new unit = (new ≡ old) ⊎ (new ≡ old ++ unit ∷ [])
 
--- the sizes of a skeleton: at most 1,048,576 entries in each list, and names of at most 255 bytes
+-- a name and its place as they are in a source: at most 255 bytes, and numbers of four bytes
+pub record IsSmallSpot (s : Spot) : Type 0 where
+  pub name : length s.name.name ≤ 255
+  pub line : s.line < 2 ^ 32
+  pub col : s.col < 2 ^ 32
+
+-- the sizes of a skeleton: at most 1,048,576 entries in each list, each of them small
 pub record IsSmallSkeleton (s : Skeleton) : Type 0 where
   pub defined : length s.defined ≤ 1048576
   pub free : length s.free ≤ 1048576
-  pub defined_names : All (λ spot. length spot.name.name ≤ 255) s.defined
-  pub free_names : All (λ need. length need.spot.name.name ≤ 255) s.free
+  pub defined_spots : All IsSmallSpot s.defined
+  pub free_spots : All (λ need. IsSmallSpot need.spot) s.free
 
 -- a skeleton that a compiler gives is small
 abbrev pub GivesSmall : Result Skeleton CompileFault → Type 0

@@ -1,6 +1,6 @@
 -- The text that a tool makes of a member: it is determined by the tool's rule, the unit's name and the input.
 -- A rule is a byte and what follows it: 0 and the spelling of a value name, 1 alone, or 2 and the spelling of a head.
-use Rattle.std.specs.Prelude.{ℕ, ◌+◌, ◌-◌, ◌/◌, ◌%◌, ◌==◌, ◌&&◌, ◌||◌, Bool, true, false, not, if◌then◌else◌, Option, None, Some, List, [], ◌∷◌, ◌++◌, take, drop, length, map, flat_map, codes, nat_le}
+use Rattle.std.specs.Prelude.{ℕ, ◌+◌, ◌-◌, ◌/◌, ◌%◌, ◌==◌, ◌&&◌, ◌||◌, Bool, if◌then◌else◌, Option, None, Some, List, [], ◌∷◌, ◌++◌, take, drop, length, map, flat_map, codes, nat_le}
 use Rattle.std.specs.Int.{w32, from_be_bytes}
 use Rattle.std.specs.List.{before_first, after_last, slice_split, join_with_byte}
 use Rattle.std.specs.Option.{option_map_or}

@@ -1,6 +1,6 @@
 -- What a folder holds: a finite map from paths to bytes. What an object tells of itself is an `Option`:
 -- a folder over a disk tells nothing, and then nothing is said of its content.
-use Rattle.std.specs.Prelude.{◌≡◌, ◌+◌, ◌==◌, ℕ, Bool, Option, None, Some, List, [], filter, take, length}
+use Rattle.std.specs.Prelude.{◌≡◌, ◌+◌, ℕ, Option, None, Some, List, [], filter, take}
 use Rattle.std.specs.Ordering.{nat_cmp}
 use Rattle.std.specs.Cmp.Lexicographic.{slice_cmp}
 use Rattle.std.specs.List.{starts_with}

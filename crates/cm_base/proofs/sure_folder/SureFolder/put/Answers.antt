@@ -1,4 +1,4 @@
-use Rattle.std.proofs.Common.{ap, ap₂, sym, ◌∙◌}
+use Rattle.std.proofs.Common.{ap, ap₂, ◌∙◌}
 use Rattle.std.specs.FinMap.{insert}
 use Rattle.cm_base.proofs.Held.{put_path}
 use Rattle.cm_base.proofs.sure_folder.SureFolder.put.Goals as goal

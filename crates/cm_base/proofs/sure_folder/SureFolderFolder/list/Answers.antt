@@ -1,7 +1,6 @@
 use Rattle.std.proofs.Common.{◌≡◌, ap, sym, ◌∙◌, filter, nat_eq}
 use Rattle.std.specs.List.{starts_with}
 use Rattle.std.specs.FinMap.{keys}
-use Rattle.cm_base.specs.Files.{Files}
 use Rattle.cm_base.proofs.Held.{keys_path}
 use Rattle.cm_base.proofs.sure_folder.SureFolderFolder.list.Goals as goal
 
