@@ -1,0 +1,4 @@
+pub mod Format
+pub mod GoodStore
+pub mod Paths
+pub mod Whole
