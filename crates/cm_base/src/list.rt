@@ -40,6 +40,14 @@ impl<T> List<T> {
         List { items }
     }
 
+    /// The vector of the items, which are moved and not copied.
+    pub fn into_vec(self) -> Vec<T>
+        ensures { result.items ≡ self }
+    {
+        let List { items } = self;
+        items
+    }
+
     /// Adds an item at the end. `Err` hands the item back, and means want of memory alone.
     pub fn push(&mut self, item: T) -> Result<(), T>
         ensures ok { OnOk result (self.new ≡ self.old ++ item ∷ []) }
