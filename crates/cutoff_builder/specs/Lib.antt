@@ -1,0 +1,2 @@
+pub mod PlainBuild
+pub mod Stored

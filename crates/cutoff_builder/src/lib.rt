@@ -1,0 +1,9 @@
+//! The builder: it compiles the units of a project in their order and leaves their interfaces and binfiles in
+//! the store, exactly as the plain build of the project defines.
+#![tactic(auto)]
+
+mod limits;
+mod planned;
+
+pub use limits::{ALL_INTERFACES, CODE, INTERFACE};
+pub use planned::{PlannedUnit, WantedName};
