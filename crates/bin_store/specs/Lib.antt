@@ -1,4 +1,5 @@
 pub mod Format
 pub mod GoodStore
 pub mod Paths
+pub mod Reading
 pub mod Whole
