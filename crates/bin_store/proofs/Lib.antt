@@ -1,3 +1,5 @@
 pub mod Formats
 pub mod PathLaws
 pub mod Steps
+pub mod StoredLaws
+pub mod StoreLaws

@@ -2,4 +2,5 @@ pub mod Format
 pub mod GoodStore
 pub mod Paths
 pub mod Reading
+pub mod Stored
 pub mod Whole
