@@ -1,4 +1,5 @@
 pub mod Formats
+pub mod GoodAfter
 pub mod PathLaws
 pub mod Steps
 pub mod StoredLaws

@@ -167,7 +167,7 @@ interface_apart {before = before} text bin known apart none good same =
     let stored = file-stored before text small stands in
     cc (none, stored)
 
-allows_interface : (by : Definitions) (texts : List (List ℕ)) (before : Files) (text : List ℕ) → length text < 2 ^ 32
+pub allows_interface : (by : Definitions) (texts : List (List ℕ)) (before : Files) (text : List ℕ) → length text < 2 ^ 32
     → Contains texts text → HashesApart texts → stored_interface before (hash_of text) ≡ None
     → Allows by texts before (interface_path (hash_of text)) (interface_file text)
 allows_interface by texts before text below known apart none = record {
@@ -189,7 +189,7 @@ good_after_interface by texts before after text below known apart none touched g
 
 -- ---- a binfile
 
-allows_bin : (by : Definitions) (texts : List (List ℕ)) (before : Files) (bin : Bin) → IsBin bin
+pub allows_bin : (by : Definitions) (texts : List (List ℕ)) (before : Files) (bin : Bin) → IsBin bin
     → IsGoodBin by texts before bin → Allows by texts before (bin_path bin.unit) (binfile bin)
 allows_bin by texts before bin fits good = record {
   apart = λ other was same. bin_is_no_interface bin.unit other.interface (sym same);
@@ -206,7 +206,7 @@ good_after_bin by texts before after bin fits is touched good = good_after (allo
 
 -- ---- a tool's record, and the linked program
 
-allows_record : (by : Definitions) (texts : List (List ℕ)) (before : Files) (run : ToolRecord) → IsRecord run
+pub allows_record : (by : Definitions) (texts : List (List ℕ)) (before : Files) (run : ToolRecord) → IsRecord run
     → run.output ≡ derived_text run.rule run.unit run.input → Allows by texts before (tool_path run.unit) (record_file run)
 allows_record by texts before run fits derived = record {
   apart = λ other was same. tool_is_no_interface run.unit other.interface (sym same);
@@ -223,7 +223,7 @@ pub good_after_record : (by : Definitions) (texts : List (List ℕ)) (before aft
 good_after_record by texts before after run fits derived touched good =
     good_after (allows_record by texts before run fits derived) touched good
 
-allows_linked : (by : Definitions) (texts : List (List ℕ)) (before : Files) (bytes : List ℕ) → Allows by texts before linked_path bytes
+pub allows_linked : (by : Definitions) (texts : List (List ℕ)) (before : Files) (bytes : List ℕ) → Allows by texts before linked_path bytes
 allows_linked by texts before bytes = record {
   apart = λ bin was same. interface_is_not_linked bin.interface same;
   bins = λ n bin whole. absurd (bin_is_not_linked bin.unit (sym whole.place));
