@@ -1,5 +1,6 @@
 pub mod Format
 pub mod GoodStore
+pub mod Laws
 pub mod Paths
 pub mod Reading
 pub mod Stored
