@@ -1,5 +1,5 @@
 -- A good store: whatever whole file stands in it is what a build with this compiler left there.
-use Rattle.std.specs.Prelude.{ℕ, ◌≡◌, List, Some, Result, Ok, map, length, ◌≤◌, All, Contains}
+use Rattle.std.specs.Prelude.{ℕ, ◌≡◌, List, Option, Some, Result, Ok, map, length, ◌≤◌, All, Contains}
 use Rattle.std.specs.FinMap.{get}
 use Rattle.cm_base.specs.Files.{Files}
 use Rattle.cm_base.specs.Derived.{derived_text}
@@ -57,3 +57,9 @@ pub record IsGoodStore (by : Definitions) (texts : List (List ℕ)) (files : Fil
   pub interfaces : (path bytes interface : List ℕ) → get files path ≡ Some bytes → IsWholeInterface path bytes interface → Contains texts interface
   pub records : (path bytes : List ℕ) (run : ToolRecord) → get files path ≡ Some bytes → IsWholeRecord path bytes run
       → run.output ≡ derived_text run.rule run.unit run.input
+
+-- a folder tells its files, and they are a good store
+pub record StoreIsGood (by : Definitions) (texts : List (List ℕ)) (holds : Option Files) : Type 0 where
+  pub files : Files
+  pub told : holds ≡ Some files
+  pub good : IsGoodStore by texts files

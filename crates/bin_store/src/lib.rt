@@ -2,5 +2,6 @@
 #![tactic(auto)]
 
 mod bin;
+pub mod laws;
 
 pub use bin::{Bin, StoreFault, ToolRecord};

@@ -1,0 +1,6 @@
+pub mod Formats
+pub mod GoodAfter
+pub mod PathLaws
+pub mod Steps
+pub mod StoredLaws
+pub mod StoreLaws
