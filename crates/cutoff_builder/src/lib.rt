@@ -2,8 +2,12 @@
 //! the store, exactly as the plain build of the project defines.
 #![tactic(auto)]
 
+mod build;
+mod done;
 mod limits;
 mod planned;
 
+pub use build::{BuildFault, UnitFault};
+pub use done::Done;
 pub use limits::{ALL_INTERFACES, CODE, INTERFACE};
 pub use planned::{PlannedUnit, WantedName};
