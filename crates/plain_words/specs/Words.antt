@@ -1,10 +1,15 @@
 -- The words of a text, with their places: its longest runs of bytes other than space, tab and line feed.
 -- Lines and columns count from 1, columns in bytes.
-use Rattle.std.specs.Prelude.{ℕ, ◌+◌, ◌==◌, ◌||◌, Bool, true, false, not, List, [], ◌∷◌, if◌then◌else◌}
+use Rattle.std.specs.Prelude.{ℕ, ◌+◌, ◌==◌, ◌||◌, Bool, false, not, List, [], ◌∷◌, if◌then◌else◌}
+use Rattle.std.specs.List.{position_or_len}
 use Rattle.plain_words.specs.declared.PlacedWord.{PlacedWord}
 
 abbrev pub is_blank : ℕ → Bool
 is_blank byte = (byte == 32) || ((byte == 9) || (byte == 10))
+
+-- the length of the run at the front of a text that has no blank
+abbrev pub run_len : List ℕ → ℕ
+run_len bytes = position_or_len is_blank bytes
 
 -- the line and the column after a byte
 abbrev pub line_after : ℕ → ℕ → ℕ
