@@ -55,9 +55,7 @@ impl Done {
         let name = unit.unit.copy()?;
         let bytes = unit.interface.as_bytes().len() as u64;
         self.places.insert(name, self.units.len())?;
-        if self.units.push(unit).is_err() {
-            return Err(NoMemory);
-        }
+        self.units.add(unit)?;
         self.interface_bytes += bytes;
         Ok(())
     }

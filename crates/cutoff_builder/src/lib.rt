@@ -6,8 +6,10 @@ mod build;
 mod done;
 mod limits;
 mod planned;
+mod unit;
 
 pub use build::{BuildFault, UnitFault};
 pub use done::Done;
 pub use limits::{ALL_INTERFACES, CODE, INTERFACE};
 pub use planned::{PlannedUnit, WantedName};
+pub use unit::whole_file;

@@ -3,13 +3,12 @@ use Rattle.indexmap.specs.IndexMap.{get}
 use lib.Pointwise.{pointwise}
 use Rattle.cutoff_builder.specs.Answers.{IsIndexed}
 use Rattle.cutoff_builder.specs.PlainBuild.{interface_bytes}
-use Rattle.cm_base.proofs.Pushed.{pushed}
 use Rattle.cutoff_builder.proofs.DoneLemmas.{indexed_more, interface_bytes-add}
 use Rattle.cutoff_builder.proofs.done.Done.add.Goals as goal
 
 pub returns-clause-done : goal.returns-clause-done
 returns-clause-done c =
-    let added : c.push.new.self ≡ c.args.self.now.units ++ c.args.unit ∷ [] = pushed c.push.result (sym c.is_err.ensures.value ∙ c.if-is_err.false) c.push.ensures.ok in
+    let added : c.add.new.self ≡ c.args.self.now.units ++ c.args.unit ∷ [] = c.in_ok-add.ensures.ok in
     record {
       indexed = subst (IsIndexed (get (pointwise nat_eq) c.insert.new.self)) (sym added)
           (indexed_more (get (pointwise nat_eq) c.args.self.now.places) (get (pointwise nat_eq) c.insert.new.self) c.args.self.now.units c.args.unit
