@@ -19,12 +19,19 @@ pub fn is_name_byte(byte: u8) -> bool
     }
 }
 
+/// Whether each byte may stand in a file's name.
+fn are_name_bytes(name: &[u8]) -> bool
+    ensures { result ≡ list_all is_name_byte name.now }
+{
+    name.iter().all(|byte| is_name_byte(*byte))
+}
+
 /// Whether a word is the name of a source: such letters, and `.sml` at the end.
 #[tactic(auto, unfolding(crate::specs::FirstForm::is_source_name))]
 fn is_source_name(name: &[u8]) -> bool
     ensures { result ≡ is_source_name name.now }
 {
-    name.iter().all(|byte| is_name_byte(*byte)) && name.ends_with(b".sml")
+    are_name_bytes(name) && name.ends_with(b".sml")
 }
 
 /// Whether a word is `group`, as it is, with a capital or in capitals.
