@@ -3,5 +3,7 @@
 
 mod bin;
 pub mod laws;
+mod paths;
 
 pub use bin::{Bin, StoreFault, ToolRecord};
+pub use paths::{bin_path, interface_path};
