@@ -1,5 +1,6 @@
 pub mod Formats
 pub mod GoodAfter
+pub mod Items
 pub mod Parts
 pub mod PathLaws
 pub mod Steps
