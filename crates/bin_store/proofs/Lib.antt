@@ -1,7 +1,5 @@
 pub mod Formats
 pub mod GoodAfter
-pub mod Items
-pub mod Parts
 pub mod PathLaws
 pub mod Steps
 pub mod StoredLaws

@@ -1,4 +1,3 @@
-pub mod Faults
 pub mod Format
 pub mod GoodStore
 pub mod Laws

@@ -2,11 +2,6 @@
 #![tactic(auto)]
 
 mod bin;
-mod format;
 pub mod laws;
-mod paths;
-mod store;
 
 pub use bin::{Bin, StoreFault, ToolRecord};
-pub use format::write_bin;
-pub use paths::{bin_path, interface_path};
