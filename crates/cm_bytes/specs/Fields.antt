@@ -18,12 +18,12 @@ None >>= next = None
 pub record IsBytes (bytes : List ℕ) : Type 0 where
   pub below : (i : ℕ) → slice_index bytes i < 256
 
--- a byte stands for itself
+-- the step that reads a byte, which stands for itself
 unfoldable pub byte_at : Step ℕ
 byte_at [] = None
 byte_at (b ∷ rest) = Some (b, rest)
 
--- so many bytes as they are
+-- the step that reads so many bytes as they are
 unfoldable pub raw_at : ℕ → Step (List ℕ)
 raw_at n bytes = if nat_lt (length bytes) n then None else Some (take n bytes, drop n bytes)
 
@@ -31,6 +31,7 @@ raw_at n bytes = if nat_lt (length bytes) n then None else Some (take n bytes, d
 unfoldable pub u32_of : ℕ → List ℕ
 u32_of n = to_be_bytes w32 n
 
+-- the step that reads a number
 unfoldable pub u32_at : Step ℕ
 u32_at bytes = if nat_lt (length bytes) 4 then None else Some (from_be_bytes w32 (take 4 bytes), drop 4 bytes)
 
@@ -38,6 +39,7 @@ u32_at bytes = if nat_lt (length bytes) 4 then None else Some (from_be_bytes w32
 unfoldable pub text_of : List ℕ → List ℕ
 text_of text = u32_of (length text) ++ text
 
+-- the step that reads a text
 unfoldable pub text_at : Step (List ℕ)
 text_at bytes = u32_at bytes >>= λ n. raw_at n.0 n.1
 
@@ -45,12 +47,13 @@ text_at bytes = u32_at bytes >>= λ n. raw_at n.0 n.1
 unfoldable pub list_of : {A : Type 0} → (A → List ℕ) → List A → List ℕ
 list_of item_of xs = u32_of (length xs) ++ flat_map item_of xs
 
--- so many items, one after another
+-- the step that reads so many items, one after another
 unfoldable pub items_at : {A : Type 0} → Step A → ℕ → Step (List A)
 items_at item_at zero bytes = Some ([], bytes)
 items_at item_at (suc n) bytes =
     item_at bytes >>= λ first. items_at item_at n first.1 >>= λ others. Some (first.0 ∷ others.0, others.1)
 
+-- the step that reads a list
 unfoldable pub list_at : {A : Type 0} → Step A → Step (List A)
 list_at item_at bytes = u32_at bytes >>= λ n. items_at item_at n.0 n.1
 

@@ -5,14 +5,14 @@ ghost use Rattle.cm_base.specs.declared.record.Pid.{Pid};
 ghost use Rattle.cm_bytes.specs.Fields.{Step, IsBytes, IsReadAgain, ReadsSpelled, byte_at, raw_at, u32_of, u32_at, text_of, text_at, list_of, list_at};
 ghost use Rattle.cm_bytes.specs.Hashes.{hash_of, pid_text, HashesApart};
 
-/// A byte.
+/// A byte is read again whatever follows it, and bytes that are read so begin with it.
 pub fn byte_is_exact()
     ensures again { (b : ℕ) (rest : List ℕ) → byte_at (b ∷ rest) ≡ Some (b, rest) }
     ensures spelled { (bytes : List ℕ) (b : ℕ) (rest : List ℕ) → IsBytes bytes → byte_at bytes ≡ Some (b, rest)
         → (bytes ≡ b ∷ rest) × (b < 256) }
 {}
 
-/// So many bytes as they are.
+/// So many bytes are read again as they are, and are refused only where fewer are left.
 pub fn raw_is_exact()
     ensures again { (text rest : List ℕ) → raw_at (length text) (text ++ rest) ≡ Some (text, rest) }
     ensures spelled { (n : ℕ) (bytes text rest : List ℕ) → IsBytes bytes → raw_at n bytes ≡ Some (text, rest)
@@ -20,7 +20,7 @@ pub fn raw_is_exact()
     ensures short { (n : ℕ) (bytes : List ℕ) → (raw_at n bytes ≡ None) ↔ (length bytes < n) }
 {}
 
-/// A number in four bytes.
+/// A number has one spelling, of four bytes, which is read again; fewer bytes than four alone are refused.
 pub fn u32_is_exact()
     ensures again { (n : ℕ) (rest : List ℕ) → n < 2 ^ 32 → u32_at (u32_of n ++ rest) ≡ Some (n, rest) }
     ensures spelled { (bytes : List ℕ) (n : ℕ) (rest : List ℕ) → IsBytes bytes → u32_at bytes ≡ Some (n, rest)
@@ -30,7 +30,7 @@ pub fn u32_is_exact()
     ensures bytes { (n : ℕ) → IsBytes (u32_of n) }
 {}
 
-/// A text.
+/// A text below 2^32 bytes has one spelling, which is read again; it is refused only where it is cut.
 pub fn text_is_exact()
     ensures again { (text rest : List ℕ) → length text < 2 ^ 32 → text_at (text_of text ++ rest) ≡ Some (text, rest) }
     ensures spelled { (bytes text rest : List ℕ) → IsBytes bytes → text_at bytes ≡ Some (text, rest)
@@ -41,7 +41,7 @@ pub fn text_is_exact()
     ensures bytes { (text : List ℕ) → IsBytes text → IsBytes (text_of text) }
 {}
 
-/// A list, of items of which the same holds.
+/// A list below 2^32 items has one spelling, which is read again, where each of its items has one.
 pub fn list_is_exact<T>()
     ensures again { (item_of : T → List ℕ) (item_at : Step T) (xs : List T) (rest : List ℕ)
         → All (IsReadAgain item_of item_at) xs → length xs < 2 ^ 32

@@ -8,4 +8,5 @@ pub returns-clause-short : goal.returns-clause-short
 returns-clause-short c = raw_at-none
 
 pub returns-clause-spelled : goal.returns-clause-spelled
-returns-clause-spelled c = λ n bytes text rest h e. ((raw_takes n bytes text rest h e).0.parts, (raw_takes n bytes text rest h e).1)
+returns-clause-spelled c =
+    λ n bytes text rest h e. ((raw_takes n bytes text rest h e).0.parts, (raw_takes n bytes text rest h e).1)
