@@ -12,4 +12,3 @@ pub use build::{BuildFault, UnitFault};
 pub use done::Done;
 pub use limits::{ALL_INTERFACES, CODE, INTERFACE};
 pub use planned::{PlannedUnit, WantedName};
-pub use unit::whole_file;
