@@ -6,6 +6,8 @@ ghost use Rattle.std.specs.Option.{option_copied};
 use std::alloc::Global;
 use std::marker::Model;
 
+use crate::fault::NoMemory;
+
 /// A list of items, which contracts see as the list of what it holds.
 #[derive(Clone, Debug, Drop)]
 pub struct List<T> {
@@ -38,6 +40,14 @@ impl<T> List<T> {
         ensures { result ≡ items.items }
     {
         List { items }
+    }
+
+    /// The vector of the items, which are moved and not copied.
+    pub fn into_vec(self) -> Vec<T>
+        ensures { result.items ≡ self }
+    {
+        let List { items } = self;
+        items
     }
 
     /// Adds an item at the end. `Err` hands the item back, and means want of memory alone.
@@ -84,5 +94,16 @@ impl<T> List<T> {
         ensures { result.now ≡ self.now }
     {
         self.items.as_slice()
+    }
+}
+
+impl<T: Drop> List<T> {
+    /// Adds an item at the end. Want of memory leaves the list as it was, and lets the item go.
+    pub fn add(&mut self, item: T) -> Result<(), NoMemory>
+        ensures ok { OnOk result (self.new ≡ self.old ++ item ∷ []) }
+        ensures err { OnErr result (self.new ≡ self.old) }
+    {
+        self.items.push(item)?;
+        Ok(())
     }
 }

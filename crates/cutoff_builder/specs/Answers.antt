@@ -1,0 +1,83 @@
+-- What the builder's calls answer, by cases on their results.
+use Rattle.std.specs.Prelude.{ℕ, ◌≡◌, ◌≤◌, ◌<◌, ◌⊎◌, List, [], ◌∷◌, ◌++◌, Option, Some, None, Result, Ok, Err, length, slice_get}
+use Rattle.cm_base.specs.Files.{Files, told}
+use Rattle.cm_base.specs.declared.diag.Diag.{Diag}
+use Rattle.cm_base.specs.declared.fault.Fault.{Fault}
+use Rattle.cm_base.specs.declared.fault.Fault.TheVariants as fault
+use Rattle.cm_base.specs.declared.record.Built.{Built}
+use Rattle.cm_base.specs.declared.record.BuiltUnit.{BuiltUnit}
+use Rattle.cm_base.specs.declared.record.Given.{Given}
+use Rattle.cutoff_builder.specs.declared.build.BuildFault.{BuildFault}
+use Rattle.cutoff_builder.specs.declared.build.BuildFault.TheVariants as stop
+use Rattle.cutoff_builder.specs.declared.build.UnitFault.{UnitFault}
+use Rattle.cutoff_builder.specs.declared.build.UnitFault.TheVariants as unit_stop
+use Rattle.cutoff_builder.specs.declared.planned.PlannedUnit.{PlannedUnit}
+use Rattle.cutoff_builder.specs.PlainBuild.{Build, done_unit, interface_bytes}
+use Rattle.cutoff_builder.specs.Stored.{put_unit, put_units, StoresUnit, LeftByBuild}
+use Rattle.cutoff_builder.specs.declared.limits.TheConstants.{ALL_INTERFACES}
+
+-- a list is a front of another
+abbrev pub IsFront : {A : Type 0} → List A → List A → Type 0
+IsFront {A} front whole = (rest : List A) × (front ++ rest ≡ whole)
+
+-- a call gives what its definition gives, or wants memory
+abbrev pub Gives : {A : Type 0} → Result A Fault → Result A Diag → Type 0
+Gives (Ok value) defined = defined ≡ Ok value
+Gives (Err (fault.Diag diag)) defined = defined ≡ Err diag
+Gives (Err fault.NoMemory) defined = Unit {0}
+
+-- a list of what was asked grew so, or by a front of it after want of memory
+abbrev pub Asks : {A : Type 0} → Result A Fault → List (List ℕ) → List (List ℕ) → List (List ℕ) → Type 0
+Asks (Ok value) old new asked = new ≡ old ++ asked
+Asks (Err (fault.Diag diag)) old new asked = new ≡ old ++ asked
+Asks (Err fault.NoMemory) old new asked = IsFront new (old ++ asked)
+
+-- a table of places finds each unit that is done by its name
+abbrev pub unit_at : List BuiltUnit → Option ℕ → Option BuiltUnit
+unit_at units None = None
+unit_at units (Some place) = slice_get units place
+
+pub record IsIndexed (table : List ℕ → Option ℕ) (units : List BuiltUnit) : Type 0 where
+  pub finds : (name : List ℕ) → unit_at units (table name) ≡ done_unit units name
+  pub below : (name : List ℕ) (place : ℕ) → table name ≡ Some place → place < length units
+
+-- one unit of a build: it is done and stored, or its diagnostic comes and nothing is stored, or the build is cut off
+abbrev pub GivesUnit : Result (Unit {0}) UnitFault → Result BuiltUnit Diag → List BuiltUnit → List BuiltUnit → Type 0
+GivesUnit (Ok done) defined before after = (unit : BuiltUnit) × (defined ≡ Ok unit) × (after ≡ before ++ unit ∷ [])
+GivesUnit (Err (unit_stop.Diag diag)) defined before after = (defined ≡ Err diag) × (after ≡ before)
+GivesUnit (Err unit_stop.Folder) defined before after = Unit {0}
+GivesUnit (Err unit_stop.NoMemory) defined before after = Unit {0}
+
+abbrev pub UnitStored : Result (Unit {0}) UnitFault → Result BuiltUnit Diag → Option Files → Option Files → PlannedUnit → Type 0
+UnitStored (Ok done) defined old new planned =
+    (unit : BuiltUnit) × (defined ≡ Ok unit) × (new ≡ told (λ files. put_unit files planned unit) old)
+UnitStored (Err (unit_stop.Diag diag)) defined old new planned = new ≡ old
+UnitStored (Err unit_stop.Folder) defined old new planned =
+    (unit : BuiltUnit) × (defined ≡ Ok unit) × StoresUnit old new planned unit
+UnitStored (Err unit_stop.NoMemory) defined old new planned =
+    (new ≡ old) ⊎ ((unit : BuiltUnit) × (defined ≡ Ok unit) × StoresUnit old new planned unit)
+
+abbrev pub UnitAsked : Result (Unit {0}) UnitFault → List (List ℕ) → List (List ℕ) → List (List ℕ) → Type 0
+UnitAsked (Ok done) old new asked = new ≡ old ++ asked
+UnitAsked (Err (unit_stop.Diag diag)) old new asked = new ≡ old ++ asked
+UnitAsked (Err unit_stop.Folder) old new asked = new ≡ old ++ asked
+UnitAsked (Err unit_stop.NoMemory) old new asked = IsFront new (old ++ asked)
+
+-- a whole build: it ended without a diagnostic, or with the first one, or it was cut off
+abbrev pub GivesBuild : Result Built BuildFault → Build → Type 0
+GivesBuild (Ok built) build = (build.units ≡ built.units) × (build.ended ≡ None)
+GivesBuild (Err (stop.Stop diag done)) build = (build.units ≡ done.units) × (build.ended ≡ Some diag)
+GivesBuild (Err stop.Folder) build = Unit {0}
+GivesBuild (Err stop.NoMemory) build = Unit {0}
+
+abbrev pub BuildAsked : Result Built BuildFault → List (List ℕ) → List (List ℕ) → List (List ℕ) → Type 0
+BuildAsked (Ok built) old new asked = new ≡ old ++ asked
+BuildAsked (Err (stop.Stop diag done)) old new asked = new ≡ old ++ asked
+BuildAsked (Err stop.Folder) old new asked = IsFront new (old ++ asked)
+BuildAsked (Err stop.NoMemory) old new asked = IsFront new (old ++ asked)
+
+abbrev pub BuildStored : Result Built BuildFault → Option Files → Option Files → List PlannedUnit → Build → Type 0
+BuildStored (Ok built) old new planned build = new ≡ told (λ files. put_units files planned build.units) old
+BuildStored (Err (stop.Stop diag done)) old new planned build = new ≡ told (λ files. put_units files planned build.units) old
+BuildStored (Err stop.Folder) old new planned build = LeftByBuild old new planned build
+BuildStored (Err stop.NoMemory) old new planned build = LeftByBuild old new planned build

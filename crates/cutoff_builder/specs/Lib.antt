@@ -1,0 +1,4 @@
+pub mod Answers
+pub mod Doing
+pub mod PlainBuild
+pub mod Stored

@@ -1,0 +1,60 @@
+-- What a build leaves in the store: of each unit that is done its interface file and its binfile.
+use Rattle.std.specs.Prelude.{ℕ, ◌≡◌, ◌⊎◌, List, [], ◌∷◌, ◌++◌, Option, Some, None, take, slice_get}
+use Rattle.std.specs.FinMap.{insert}
+use Rattle.cm_base.specs.Files.{Files, told}
+use Rattle.cm_base.specs.Keeping.{Touches}
+use Rattle.cm_base.specs.declared.record.BuiltUnit.{BuiltUnit}
+use Rattle.bin_store.specs.declared.bin.Bin.{Bin}
+use Rattle.bin_store.specs.Format.{binfile, interface_file}
+use Rattle.bin_store.specs.Paths.{bin_path, interface_path}
+use Rattle.bin_store.specs.Stored.{with_interface, PutsInterface}
+use Rattle.cutoff_builder.specs.declared.planned.PlannedUnit.{PlannedUnit}
+use Rattle.cutoff_builder.specs.PlainBuild.{Build}
+
+-- the binfile's value of a unit that is done
+abbrev pub bin_of_unit : PlannedUnit → BuiltUnit → Bin
+bin_of_unit planned unit = record {
+  unit = planned.unit; options = planned.options; source = planned.source; skeleton = planned.skeleton;
+  imports = unit.imports; interface = unit.hash; code = unit.code }
+
+-- the files with a unit's interface and binfile
+unfoldable pub with_unit : Files → PlannedUnit → BuiltUnit → Files
+with_unit files planned unit =
+    insert (insert files (interface_path unit.hash) (interface_file unit.interface))
+      (bin_path planned.unit) (binfile (bin_of_unit planned unit))
+
+-- .. of each unit that is done, in order
+abbrev pub with_units : Files → List PlannedUnit → List BuiltUnit → Files
+with_units files [] units = files
+with_units files (planned ∷ more) [] = files
+with_units files (planned ∷ more) (unit ∷ units) = with_units (with_unit files planned unit) more units
+
+-- the same where an interface is written only if none stands whole under its hash
+unfoldable pub put_unit : Files → PlannedUnit → BuiltUnit → Files
+put_unit files planned unit =
+    insert (with_interface files unit.interface) (bin_path planned.unit) (binfile (bin_of_unit planned unit))
+
+abbrev pub put_units : Files → List PlannedUnit → List BuiltUnit → Files
+put_units files [] units = files
+put_units files (planned ∷ more) [] = files
+put_units files (planned ∷ more) (unit ∷ units) = put_units (put_unit files planned unit) more units
+
+-- the paths that are written for a unit
+abbrev pub unit_paths : BuiltUnit → List (List ℕ)
+unit_paths unit = interface_path unit.hash ∷ bin_path unit.unit ∷ []
+
+-- what storing a unit leaves, whatever it answers: what a put of its interface leaves, and then, where that was
+-- put, what a write of its binfile leaves
+pub record StoresUnit (old new : Option Files) (planned : PlannedUnit) (unit : BuiltUnit) : Type 0 where
+  pub between : Option Files
+  pub interface : PutsInterface old between unit.interface
+  pub bin : (new ≡ between) ⊎ ((between ≡ told (λ files. with_interface files unit.interface) old)
+      × Touches between new (bin_path planned.unit) (binfile (bin_of_unit planned unit)))
+
+-- what a build leaves that was cut off: some first units are stored, and perhaps the next one as far as it came
+pub record LeftByBuild (old new : Option Files) (planned : List PlannedUnit) (build : Build) : Type 0 where
+  pub done : ℕ
+  pub between : Option Files
+  pub stored : between ≡ told (λ files. put_units files (take done planned) (take done build.units)) old
+  pub next : (new ≡ between) ⊎ ((at : PlannedUnit) × (unit : BuiltUnit) × (slice_get planned done ≡ Some at)
+      × (slice_get build.units done ≡ Some unit) × StoresUnit between new at unit)
