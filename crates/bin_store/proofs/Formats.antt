@@ -1,6 +1,6 @@
 -- Each file of the store is read again, whatever follows it. So no proper front of a whole file is whole, and no
 -- two values are spelled alike.
-use Rattle.std.proofs.Common.{◌≡◌, ◌∙◌, ap, sym, subst, refl, ℕ, ◌+◌, ◌<◌, ◌^◌, Bool, true, false, List, [], ◌∷◌, ◌++◌, length, take, drop, Some, arith}
+use Rattle.std.proofs.Common.{◌≡◌, ◌∙◌, ap, sym, subst, refl, ℕ, ◌+◌, ◌<◌, ◌^◌, Bool, true, false, List, [], ◌∷◌, ◌++◌, length, take, drop, Some, arith, append_assoc}
 use Rattle.std.specs.Prelude.{All}
 use Rattle.std.proofs.lemmas.List.{append-nil, take-append-drop}
 use Rattle.cm_base.specs.declared.record.Namespace.{Namespace}
@@ -15,7 +15,7 @@ use Rattle.cm_bytes.specs.Fields.{Step, byte_at, text_at, list_at, text_of, list
 use Rattle.cm_bytes.proofs.Fields as fields
 use Rattle.bin_store.specs.declared.bin.Bin.{Bin}
 use Rattle.bin_store.specs.declared.bin.ToolRecord.{ToolRecord}
-use Rattle.bin_store.specs.Format.{space_byte, flag_byte, options_byte, name_of, spot_of, need_of, import_of, bin_body, binfile, interface_file, record_body, record_file, IsSpot, IsImport, IsBin, IsRecord}
+use Rattle.bin_store.specs.Format.{space_byte, flag_byte, options_byte, name_of, spot_of, need_of, import_of, bin_body, bin_head, bin_rest, binfile, interface_file, record_body, record_file, IsSpot, IsImport, IsBin, IsRecord}
 use Rattle.bin_store.specs.Reading.{space_from, flag_from, options_from, meant_at, name_at, spot_at, need_at, hash_at, import_at, lists_at, parts_at, bin_body_at, bin_at, interface_at, texts_at, record_body_at, record_at}
 use Rattle.bin_store.proofs.Steps.{Again, both_again, made_again, meant_again, byte_reads_again, raw_reads_again, u32_reads_again, text_reads_again, list_reads_again, front_again, checked_again}
 
@@ -146,3 +146,7 @@ record_front n a b f g e =
 pub length-interface_file : (text : List ℕ) → length (interface_file text) ≡ 8 + length text
 unfolding interface_file
 length-interface_file text = omega (arith, fields.length-text_of text)
+
+pub bin_body_parts : (bin : Bin) → bin_body bin ≡ bin_head bin ++ bin_rest bin
+unfolding bin_body bin_head bin_rest
+bin_body_parts bin = simp append_assoc

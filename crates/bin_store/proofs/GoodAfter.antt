@@ -13,7 +13,7 @@ use Rattle.bin_store.specs.declared.bin.ToolRecord.{ToolRecord}
 use Rattle.bin_store.specs.Format.{binfile, interface_file, record_file, IsBin, IsRecord}
 use Rattle.bin_store.specs.Paths.{bin_path, tool_path, interface_path, linked_path}
 use Rattle.bin_store.specs.GoodStore.{Definitions, IsGoodBin, IsGoodStore, StoreIsGood}
-use Rattle.bin_store.specs.Stored.{stored_interface, with_interface, PutsInterface}
+use Rattle.bin_store.specs.Stored.{stored_interface, with_interface, PutsInterface, PutsBin}
 use Rattle.bin_store.proofs.StoreLaws.{TouchesFiles, Allows, allows_interface, allows_bin, allows_record, allows_linked, good_after, good_empty, good_more}
 use Rattle.bin_store.proofs.StoredLaws.{stored-whole}
 
@@ -128,3 +128,21 @@ interface_is_there by texts old new text known apart put store = λ files is.
     let one = some_is (with_interface store.files text) files new after is in
     subst (λ (f : Files). get f (interface_path (hash_of text)) ≡ Some (interface_file text)) one
     (interface_stands store.files text known apart store.good)
+
+-- after a put of a good binfile, whatever it answered
+pub store_after_put_bin : (by : Definitions) (texts : List (List ℕ)) (old new : Option Files) (bin : Bin)
+    → Told old (λ files. IsGoodBin by texts files bin) → PutsBin old new bin
+    → StoreIsGood by texts old → StoreIsGood by texts new
+store_after_put_bin by texts old new bin is puts store =
+    elim puts.leaves [
+      | inl same ↦ store_same same store
+      | inr wrote ↦ store_after_bin by texts old new bin wrote.0 is wrote.1 store
+    ]
+
+-- a put of a binfile changes its path alone
+pub keeps_put_bin : {old new : Option Files} {bin : Bin} → PutsBin old new bin → Keeps old new (bin_path bin.unit ∷ [])
+keeps_put_bin {old} {new} {bin} puts =
+    elim puts.leaves [
+      | inl same ↦ keeps_same old new (bin_path bin.unit ∷ []) same
+      | inr wrote ↦ keeps_touches wrote.1
+    ]

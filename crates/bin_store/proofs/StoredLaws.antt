@@ -1,12 +1,12 @@
 -- The interface that is stored under a hash is the one that stands whole there.
-use Rattle.std.proofs.Common.{◌≡◌, ◌∙◌, ap, sym, subst, refl, inl, inr, ℕ, ◌+◌, ◌<◌, ◌≤◌, ◌^◌, Bool, true, false, cond, List, [], ◌∷◌, ◌++◌, length, drop, Option, Some, None, arith}
-use Rattle.std.specs.Prelude.{◌&&◌, ◌↔◌, nat_eq, nat_le, is_some, Contains}
+use Rattle.std.proofs.Common.{◌≡◌, ◌∙◌, ap, sym, subst, refl, inl, inr, ℕ, ◌+◌, ◌<◌, ◌≤◌, ◌^◌, Bool, true, false, cond, List, [], ◌∷◌, ◌++◌, length, take, drop, take_all, Option, Some, None, arith}
+use Rattle.std.specs.Prelude.{◌&&◌, ◌↔◌, nat_eq, nat_le, is_some, IsTrue, Contains}
 use Rattle.std.specs.Cmp.Lexicographic.{pointwise, nat_list_eq_equiv, same_text}
 use Rattle.std.specs.FinMap.{get, insert}
-use Rattle.cm_base.specs.Files.{Files}
+use Rattle.cm_base.specs.Files.{Files, Told, told}
 use Rattle.cm_base.specs.declared.record.Pid.{Pid}
-use Rattle.std.proofs.lemmas.Bool.{leb-true, le-leb}
-use Rattle.std.proofs.lemmas.List.{drop_at}
+use Rattle.std.proofs.lemmas.Bool.{cases_lt, leb-true, le-leb}
+use Rattle.std.proofs.lemmas.List.{take_at, drop_at, length-take, take-append-drop}
 use Rattle.cm_base.proofs.FileLemmas.{get-insert_same}
 use Rattle.cm_bytes.specs.Fields.{IsBytes, u32_of, text_of}
 use Rattle.cm_bytes.proofs.Fields.{length-u32_of}
@@ -16,7 +16,7 @@ use Rattle.bin_store.specs.Format.{interface_file}
 use Rattle.bin_store.specs.Paths.{interface_path}
 use Rattle.bin_store.specs.Whole.{IsWholeInterface}
 use Rattle.bin_store.proofs.Formats.{length-interface_file}
-use Rattle.bin_store.specs.Stored.{interface_in, interface_found, stored_interface, with_interface}
+use Rattle.bin_store.specs.Stored.{front_read, interface_in, interface_found, stored_interface, with_interface}
 
 -- the interface stands behind the first eight bytes of its file
 pub drop-interface_file : (text : List ℕ) → drop 8 (interface_file text) ≡ text
@@ -113,3 +113,114 @@ file-stored files text small there =
       small = omega (arith, length-interface_file text);
       hash = refl;
     })
+
+-- ---- how code finds the interface of some bytes
+
+none_unless : (pid : Pid) (bytes : List ℕ) → ((text : List ℕ) → IsInterfaceIn pid bytes text → ⊥) → interface_in pid bytes ≡ None
+none_unless pid bytes never = by_value (interface_in pid bytes) refl
+  where
+    by_value : (o : Option (List ℕ)) → interface_in pid bytes ≡ o → o ≡ None
+    by_value None e = refl
+    by_value (Some text) e = absurd (never text (interface_in-is pid bytes text e))
+
+pub too_long : (pid : Pid) (bytes : List ℕ) → 1048584 < length bytes → interface_in pid bytes ≡ None
+too_long pid bytes lt = none_unless pid bytes (λ text is. omega (arith, is.small))
+
+pub too_short : (pid : Pid) (bytes : List ℕ) → length bytes < 8 → interface_in pid bytes ≡ None
+too_short pid bytes lt = none_unless pid bytes (λ text is. omega (arith, ap length is.spelled, length-interface_file text))
+
+-- the eight bytes before an interface in its file
+take-interface_file : (text : List ℕ) → take 8 (interface_file text) ≡ 67 ∷ 77 ∷ 69 ∷ 49 ∷ u32_of (length text)
+unfolding interface_file text_of
+take-interface_file text =
+    ap (λ (front : List ℕ). 67 ∷ 77 ∷ 69 ∷ 49 ∷ front) (take_at (u32_of (length text)) text 4 (length-u32_of (length text)))
+
+interface_file-parts : (text : List ℕ) → (67 ∷ 77 ∷ 69 ∷ 49 ∷ u32_of (length text)) ++ text ≡ interface_file text
+unfolding interface_file text_of
+interface_file-parts text = refl
+
+-- a test that failed
+pub not_same : {A : Type 0} (a b : A) (r : Bool) → r ≡ false → (IsTrue r ↔ (a ≡ b)) → a ≡ b → ⊥
+not_same a b r is decides same = let holds = decides.1 same in cc
+
+pub same : {A : Type 0} (a b : A) (r : Bool) → r ≡ true → (IsTrue r ↔ (a ≡ b)) → a ≡ b
+same a b r is decides = decides.0 is
+
+-- what the code has of the bytes: those before the interface, and those that are it, and what the first have to be
+pub record Halves (bytes head text made : List ℕ) : Type 0 where
+  pub front : head ≡ take 8 bytes
+  pub back : text ≡ drop 8 bytes
+  pub made_is : made ≡ 67 ∷ 77 ∷ 69 ∷ 49 ∷ u32_of (length text)
+
+text_is : {bytes head text made : List ℕ} {pid : Pid} (found : List ℕ) → Halves bytes head text made → IsInterfaceIn pid bytes found → text ≡ found
+text_is found halves is = halves.back ∙ ap (drop 8) is.spelled ∙ drop-interface_file found
+
+pub head_differs : (pid : Pid) (bytes head text made : List ℕ) → Halves bytes head text made → (head ≡ made → ⊥)
+    → interface_in pid bytes ≡ None
+head_differs pid bytes head text made halves differ = none_unless pid bytes (λ found is.
+    let one = text_is found halves is in
+    differ (halves.front ∙ ap (take 8) is.spelled ∙ take-interface_file found
+    ∙ ap (λ (t : List ℕ). 67 ∷ 77 ∷ 69 ∷ 49 ∷ u32_of (length t)) (sym one) ∙ sym halves.made_is))
+
+pub hash_differs : (pid made_pid : Pid) (bytes head text made : List ℕ) → Halves bytes head text made → made_pid ≡ hash_of text
+    → (made_pid ≡ pid → ⊥) → interface_in pid bytes ≡ None
+hash_differs pid made_pid bytes head text made halves hash differ = none_unless pid bytes (λ found is.
+    differ (hash ∙ ap hash_of (text_is found halves is) ∙ sym is.hash))
+
+pub all_same : (pid made_pid : Pid) (bytes head text made : List ℕ) → Halves bytes head text made → length bytes ≤ 1048584
+    → head ≡ made → made_pid ≡ hash_of text → made_pid ≡ pid → interface_in pid bytes ≡ Some text
+all_same pid made_pid bytes head text made halves small fronts hash pids =
+    interface_in-of pid bytes text (record {
+      spelled =
+          sym (take-append-drop 8 bytes)
+          ∙ ap (λ (t : List ℕ). take 8 bytes ++ t) (sym halves.back)
+          ∙ ap (λ (t : List ℕ). t ++ text) (sym halves.front ∙ fronts ∙ halves.made_is)
+          ∙ interface_file-parts text;
+      small = small;
+      hash = sym pids ∙ hash;
+    })
+
+-- a front of a file of one byte more than an interface file may have is as good as all of it
+pub interface_in-front : (pid : Pid) (there : Option (List ℕ)) → interface_found pid (front_read 1048584 there) ≡ interface_found pid there
+interface_in-front pid None = refl
+interface_in-front pid (Some bytes) =
+    elim (cases_lt 1048584 (length bytes)) [
+      | inl more ↦ too_long pid (take 1048585 bytes) (omega (arith, length-take 1048585 bytes)) ∙ sym (too_long pid bytes more)
+      | inr less ↦ ap (interface_in pid) (take_all 1048585 bytes (omega arith))
+    ]
+
+-- what was read says what is stored
+pub stored_read : (files : Files) (hash : Pid) (path : List ℕ) (file : Option (List ℕ)) → path ≡ interface_path hash
+    → file ≡ front_read 1048584 (get files path) → interface_found hash file ≡ stored_interface files hash
+unfolding stored_interface
+stored_read files hash path file at read =
+    ap (interface_found hash) read ∙ interface_in-front hash (get files path)
+    ∙ ap (λ (p : List ℕ). interface_found hash (get files p)) at
+
+-- where an interface stands whole, a put leaves everything
+pub put_kept : (old new : Option Files) (text : List ℕ) (pid : Pid) (found : Bool) → pid ≡ hash_of text → new ≡ old → found ≡ true
+    → Told old (λ files. found ≡ is_some (stored_interface files pid)) → new ≡ told (λ files. with_interface files text) old
+unfolding with_interface
+put_kept None new text pid found hash same is stands = same
+put_kept (Some files) new text pid found hash same is stands =
+    let there : is_some (stored_interface files (hash_of text)) ≡ true =
+        ap (λ h. is_some (stored_interface files h)) (sym hash) ∙ sym (stands files refl) ∙ is in
+    rw there same
+
+-- where none does, it writes the file
+pub put_written : (old middle new : Option Files) (text path file : List ℕ) (pid : Pid) (found : Bool) → pid ≡ hash_of text
+    → path ≡ interface_path pid → file ≡ interface_file text → middle ≡ old → found ≡ false
+    → Told old (λ files. found ≡ is_some (stored_interface files pid))
+    → new ≡ told (λ files. insert files path file) middle → new ≡ told (λ files. with_interface files text) old
+unfolding with_interface
+put_written old middle new text path file pid found hash at bytes same is stands put =
+    put ∙ ap (told (λ files. insert files path file)) same ∙ by_told old stands
+  where
+    by_told : (old : Option Files) → Told old (λ files. found ≡ is_some (stored_interface files pid))
+        → told (λ (files : Files). insert files path file) old
+        ≡ told (λ files. cond (is_some (stored_interface files (hash_of text))) files (insert files (interface_path (hash_of text)) (interface_file text))) old
+    by_told None stands = refl
+    by_told (Some files) stands =
+        let none : is_some (stored_interface files (hash_of text)) ≡ false =
+            ap (λ h. is_some (stored_interface files h)) (sym hash) ∙ sym (stands files refl) ∙ is in
+        rw none (ap (λ (f : Files). Some f) (ap (λ p. insert files p file) (at ∙ ap interface_path hash) ∙ ap (insert files (interface_path (hash_of text))) bytes))

@@ -51,6 +51,15 @@ bin_body bin =
     ++ (list_of spot_of bin.skeleton.defined ++ (list_of need_of bin.skeleton.free
     ++ (list_of import_of bin.imports ++ (bin.interface.bytes ++ text_of bin.code)))))))
 
+-- .. its parts before its lists, and the rest of it
+unfoldable pub bin_head : Bin → List ℕ
+bin_head bin = 67 ∷ 77 ∷ 66 ∷ 49 ∷ (text_of bin.unit ++ (options_byte bin.options ∷ text_of bin.source))
+
+unfoldable pub bin_rest : Bin → List ℕ
+bin_rest bin =
+    list_of spot_of bin.skeleton.defined ++ (list_of need_of bin.skeleton.free
+    ++ (list_of import_of bin.imports ++ (bin.interface.bytes ++ text_of bin.code)))
+
 -- a binfile: `CMB1`, the unit, its options and source, its skeleton, its imports, the hash of its interface,
 -- its code, and the SHA-256 of all before
 unfoldable pub binfile : Bin → List ℕ
@@ -98,3 +107,19 @@ pub record IsRecord (run : ToolRecord) : Type 0 where
   pub rule : length run.rule < 2 ^ 32
   pub input : length run.input < 2 ^ 32
   pub output : length run.output < 2 ^ 32
+
+-- .. and what of that a program has to see to: the sizes of texts and lists
+pub record IsShortImport (import : Import) : Type 0 where
+  pub name : length import.name.name < 2 ^ 32
+  pub provider : length import.provider < 2 ^ 32
+
+pub record IsShortBin (bin : Bin) : Type 0 where
+  pub unit : length bin.unit < 2 ^ 32
+  pub source : length bin.source < 2 ^ 32
+  pub defined : length bin.skeleton.defined < 2 ^ 32
+  pub each_defined : All (λ spot. length spot.name.name < 2 ^ 32) bin.skeleton.defined
+  pub free : length bin.skeleton.free < 2 ^ 32
+  pub each_free : All (λ need. length need.spot.name.name < 2 ^ 32) bin.skeleton.free
+  pub imports : length bin.imports < 2 ^ 32
+  pub each_import : All IsShortImport bin.imports
+  pub code : length bin.code < 2 ^ 32

@@ -1,3 +1,4 @@
+pub mod Faults
 pub mod Format
 pub mod GoodStore
 pub mod Laws

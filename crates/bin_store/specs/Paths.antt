@@ -1,5 +1,5 @@
 -- Where the store keeps its files: all of it lies under `.cm/`.
-use Rattle.std.specs.Prelude.{ℕ, ◌==◌, List, [], ◌∷◌, if◌then◌else◌}
+use Rattle.std.specs.Prelude.{ℕ, ◌==◌, ◌≡◌, List, [], ◌∷◌, if◌then◌else◌}
 use Rattle.std.specs.List.{slice_split, join_with_byte}
 use Rattle.cm_base.specs.declared.record.Pid.{Pid}
 use Rattle.cm_bytes.specs.Hashes.{pid_text}
@@ -46,3 +46,15 @@ interface_path hash = 46 ∷ 99 ∷ 109 ∷ 47 ∷ 105 ∷ 110 ∷ 116 ∷ 47 �
 -- the linked program of the last build that succeeded: `.cm/linked`
 unfoldable pub linked_path : List ℕ
 linked_path = 46 ∷ 99 ∷ 109 ∷ 47 ∷ 108 ∷ 105 ∷ 110 ∷ 107 ∷ 101 ∷ 100 ∷ []
+
+-- what a unit's part has from its second component on
+unfoldable pub later_path : List ℕ → List ℕ
+later_path name = join_with_byte 47 (later_parts (slice_split (λ byte. byte == 47) name))
+
+-- a name is its first component, a slash, and the rest
+pub record BeginsWith (name part rest : List ℕ) : Type 0 where
+  pub split : slice_split (λ byte. byte == 47) name ≡ part ∷ slice_split (λ byte. byte == 47) rest
+
+-- a name has one component
+pub record IsOnePart (name : List ℕ) : Type 0 where
+  pub split : slice_split (λ byte. byte == 47) name ≡ name ∷ []

@@ -1,13 +1,14 @@
 -- The interface that stands whole under a hash, and a store in which one is put.
-use Rattle.std.specs.Prelude.{ℕ, ◌≡◌, ◌⊎◌, ◌&&◌, if◌then◌else◌, List, length, drop, Option, None, Some, is_some, nat_eq, nat_le}
+use Rattle.std.specs.Prelude.{ℕ, ◌+◌, ◌≡◌, ◌⊎◌, ◌&&◌, if◌then◌else◌, List, length, take, drop, Option, None, Some, is_some, nat_eq, nat_le}
 use Rattle.std.specs.Cmp.Lexicographic.{pointwise}
 use Rattle.std.specs.FinMap.{get, insert}
 use Rattle.cm_base.specs.Files.{Files, Told}
 use Rattle.cm_base.specs.Keeping.{Touches}
 use Rattle.cm_base.specs.declared.record.Pid.{Pid}
 use Rattle.cm_bytes.specs.Hashes.{hash_of}
-use Rattle.bin_store.specs.Format.{interface_file}
-use Rattle.bin_store.specs.Paths.{interface_path}
+use Rattle.bin_store.specs.declared.bin.Bin.{Bin}
+use Rattle.bin_store.specs.Format.{IsBin, binfile, interface_file}
+use Rattle.bin_store.specs.Paths.{bin_path, interface_path}
 
 -- the interface of which some bytes are the file, where they are so, are at most 1,048,584, and it has this hash
 unfoldable pub interface_in : Pid → List ℕ → Option (List ℕ)
@@ -37,3 +38,13 @@ pub record PutsInterface (old new : Option Files) (text : List ℕ) : Type 0 whe
   pub leaves : (new ≡ old)
       ⊎ (Told old (λ files. stored_interface files (hash_of text) ≡ None)
       × Touches old new (interface_path (hash_of text)) (interface_file text))
+
+-- what a put of a binfile leaves, whatever it answers: everything as it was, or at its path the old bytes, nothing,
+-- or a front of the binfile
+pub record PutsBin (old new : Option Files) (bin : Bin) : Type 0 where
+  pub leaves : (new ≡ old) ⊎ (IsBin bin × Touches old new (bin_path bin.unit) (binfile bin))
+
+-- the first bytes of a file, one more than `max`, where there is one
+abbrev pub front_read : ℕ → Option (List ℕ) → Option (List ℕ)
+front_read max None = None
+front_read max (Some bytes) = Some (take (max + 1) bytes)

@@ -1,6 +1,6 @@
 //! What the store keeps of a unit, and of a tool's run.
 
-use cm_base::{Import, List, NoMemory, Options, Pid, Skeleton, Text};
+use cm_base::{FolderFault, Import, List, NoMemory, Options, Pid, Skeleton, Text};
 use thiserror::Error;
 
 /// All that a build leaves of a source unit, beside its interface.
@@ -42,5 +42,19 @@ impl From<NoMemory> for StoreFault {
 
     fn from(_error: NoMemory) -> Self {
         StoreFault::NoMemory
+    }
+}
+
+impl From<FolderFault> for StoreFault {
+    ghost use Rattle.std.specs.Prelude.{◌≡◌};
+    ghost use Rattle.bin_store.specs.Faults.{fault_of};
+
+    ghost from_gives = { λ error fault. fault ≡ fault_of error };
+
+    fn from(error: FolderFault) -> Self {
+        match error {
+            FolderFault::Failed => StoreFault::Folder,
+            FolderFault::NoMemory => StoreFault::NoMemory,
+        }
     }
 }
