@@ -1,0 +1,10 @@
+pub mod Complete
+pub mod Sound
+pub mod Fronts
+pub mod Rounds
+pub mod Follows
+pub mod Values
+pub mod Texts
+pub mod Lawful
+pub mod SumSteps
+pub mod SumHeights
