@@ -1,6 +1,7 @@
 pub mod Complete
 pub mod Sound
 pub mod Fronts
+pub mod Choices
 pub mod Rounds
 pub mod Follows
 pub mod Values

@@ -1,6 +1,6 @@
 -- Rounds, one at a time: the equations that loops in code are proved with.
 use Rattle.std.proofs.Common.{◌≡◌, ℕ, zero, suc, List, [], ◌∷◌, length, None, Bool, true, false, if◌then◌else◌}
-use Rattle.std.proofs.Common.{nat_lt, refl, ap, ◌∙◌, ◌≤◌, arith, length-append}
+use Rattle.std.proofs.Common.{nat_lt, refl, sym, ap, subst, ◌∙◌, ◌≤◌, arith, length-append}
 use Rattle.grammars.specs.Grammar.{Grammar, End, begins, head_or, fold, Tall, above, wrap, wraps}
 use Rattle.grammars.specs.Reading.{Out, Reader, chain, end_of, left_of, rounds, read}
 use Rattle.grammars.proofs.Complete.{goes, stops}
@@ -11,6 +11,12 @@ pub left_shorter : {L A : Type 0} (g : Grammar L A) (xs : List L) → length (le
 left_shorter g xs =
     let one = sound g xs (end_of (read g xs)) (left_of (read g xs)) (is_out (read g xs)) in
     rw (ap length one.1, length-append) (omega arith)
+
+-- What reading leaves is no longer than the text.
+pub not_longer : {L A : Type 0} (g : Grammar L A) (e : End A) (xs rest : List L) → read g xs ≡ Out.out e rest
+    → length rest ≤ length xs
+not_longer {L} {A} g e xs rest h =
+    subst (λ (o : Out L A). length (left_of o) ≤ length xs) h (left_shorter g xs)
 
 -- What follows a part need agree only where no more is left.
 pub same_chain : {L A B : Type 0} (n : ℕ) (o : Out L A) (j k : A → Reader L B) → length (left_of o) ≤ n
@@ -61,6 +67,11 @@ module _ {L A : Type 0} (t : A → L → Bool) (step : A → L → Grammar L A) 
       → read (Grammar.many t step a) xs ≡ Out.out (End.whole a) xs
   many_end a [] h = refl
   many_end a (x ∷ xs) h = many_stop a x xs h
+
+-- A round that is whole: reading goes on from its value.
+pub round_whole : {L A B : Type 0} (o : Out L A) (p : Out L B) (k : A → Reader L B) (a : A) (left : List L)
+    → chain o k ≡ p → o ≡ Out.out (End.whole a) left → k a left ≡ p
+round_whole {L} {A} o p k a left step is = sym (ap (λ (o : Out L A). chain o k) is) ∙ step
 
 -- What follows a part and a value made of its value follows the part.
 pub chain_pure : {L A B C : Type 0} (o : Out L A) (f : A → B) (k : B → Reader L C)

@@ -1,12 +1,12 @@
 -- How the toy grammar's phrases are read, a step at a time.
 use Rattle.std.proofs.Common.{◌≡◌, ◌≢◌, ℕ, ◌+◌, ◌-◌, List, [], ◌∷◌, Option, Some, None, true, false, is_some}
 use Rattle.std.proofs.Common.{nat_lt, refl, ap, ◌∙◌, drop, option_and_then, Result, Ok, Err, add-one, length, sym}
-use Rattle.std.proofs.Common.{subst, ◌≤◌, ◌<◌, arith}
+use Rattle.std.proofs.Common.{subst, ◌<◌, arith}
 use Rattle.std.specs.Result.{IsErrAnd}
 use Rattle.std.proofs.lemmas.Bool.{lt-ltb}
 use Rattle.std.proofs.lemmas.Bool.Decides.{nat_tests}
 use Rattle.grammars.specs.Grammar.{Grammar, End, Phrase, begins, head_or, above, wrap}
-use Rattle.grammars.specs.Reading.{Out, Reader, chain, left_of, read}
+use Rattle.grammars.specs.Reading.{Out, Reader, chain, read}
 use Rattle.grammars.specs.Shape.{Shape, shape, operator_of, joined_by}
 use Rattle.grammars.specs.Sums.{TallShape, g, Level, part, joined, beside, starts_atom, atom_after, atom_of, below}
 use Rattle.grammars.specs.Sums.{level, no_level}
@@ -20,20 +20,19 @@ use Rattle.grammars.proofs.Texts.{phrase_read, refused_read, more_read, too_deep
 use Rattle.grammars.specs.declared.toy.made.Made.{Made}
 use Rattle.grammars.specs.declared.toy.fault.Fault.{Fault}
 use Rattle.grammars.specs.declared.toy.fault.Fault.TheVariants as f
+use Rattle.grammars.proofs.Choices.{on_go, on_stop}
 use Rattle.grammars.proofs.Complete.{goes, stops}
-use Rattle.grammars.proofs.Rounds.{many_go, left_shorter}
+use Rattle.grammars.proofs.Rounds.{many_go, not_longer}
 
 -- An atom is what its first token begins.
 pub atom_go : (b : Level) (x : Token) (xs : List Token) → head_or xs None ≡ Some x → starts_atom x ≡ true
     → read (atom_of b) xs ≡ read (atom_after b x) (drop 1 xs)
-atom_go b x [] h start = absurd (cc)
-atom_go b x (y ∷ xs) h start = let same : y ≡ x = cc in rw same (goes (starts_atom x) _ _ start)
+atom_go b x xs h start = on_go starts_atom (atom_after b) Grammar.refuse x xs h start
 
 -- No atom stands where no token begins one.
 pub atom_stop : (b : Level) (xs : List Token) → begins starts_atom (head_or xs None) ≡ false
     → read (atom_of b) xs ≡ Out.out End.refused xs
-atom_stop b [] h = refl
-atom_stop b (y ∷ xs) h = stops (starts_atom y) _ _ h
+atom_stop b xs h = on_stop starts_atom (atom_after b) Grammar.refuse xs h
 
 -- One level less than some is the level below.
 pub below_some : (n : ℕ) → below (n + 1) ≡ level n
@@ -92,21 +91,11 @@ pub beside_deep : (n : ℕ) (b : Level) (strength : Strength) (op : Operator) (l
 unfolding beside
 beside_deep n b strength op left xs h = stops (nat_lt left.height n) _ _ (grind (arith, nat_tests))
 
--- What reading leaves is no longer than the text.
-pub not_longer : (g : g) (e : End TallShape) (xs rest : List Token) → read g xs ≡ Out.out e rest
-    → length rest ≤ length xs
-not_longer g e xs rest h = subst (λ (o : Out Token TallShape). length (left_of o) ≤ length xs) h (left_shorter g xs)
-
 -- A text that begins with an operator has a token to take.
 pub some_left : (operator : Token → Option Operator) (op : Operator) (xs : List Token)
     → option_and_then operator (head_or xs None) ≡ Some op → length (drop 1 xs) < length xs
 some_left operator op [] h = absurd (cc)
 some_left operator op (x ∷ xs) h = omega arith
-
--- A round that is whole: reading goes on from its value.
-pub round_whole : (o p : Out Token TallShape) (k : TallShape → Reader Token TallShape) (made : TallShape)
-    (left : List Token) → chain o k ≡ p → o ≡ Out.out (End.whole made) left → k made left ≡ p
-round_whole o p k made left step is = sym (ap (λ (o : Out Token TallShape). chain o k) is) ∙ step
 
 -- A round that isn't whole: reading ends there.
 pub round_broken : (o p : Out Token TallShape) (k : TallShape → Reader Token TallShape) (fault : Fault)
@@ -148,8 +137,6 @@ refused_answer limit xs rest h = refused_read (level limit).sum xs rest h
 pub deep_answer : (limit : ℕ) (xs rest : List Token) → read (level limit).sum xs ≡ Out.out End.deep rest
     → Answers limit xs (Err (r.TooDeep (length xs - length rest)))
 deep_answer limit xs rest h = too_deep_read (level limit).sum xs rest h
-
-pub ruleset answers = (not_longer, more_answer, refused_answer, deep_answer, whole_answer)
 
 pub ruleset joined_steps = (joined_go, joined_end, not_longer, some_left)
 

@@ -14,7 +14,7 @@ use super::tree::{Operator, Tree};
 use std::alloc::Global;
 
 /// Reads a whole text as one sum that nests at most so many levels.
-#[tactic(auto, using(crate::proofs::SumSteps::answers))]
+#[tactic(auto, using(crate::proofs::Rounds::not_longer))]
 pub fn read_sum(alloc: Global, tokens: &[Token], limit: u32) -> Result<Tree, Refusal>
     ensures { Answers limit tokens.now result }
 {

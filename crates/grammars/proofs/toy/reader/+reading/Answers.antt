@@ -3,7 +3,8 @@ use Rattle.grammars.specs.Grammar.{head_or}
 use Rattle.grammars.specs.Sums.{below, joined}
 use Rattle.grammars.specs.Seen.{seen}
 use Rattle.grammars.specs.Shape.{operator_of}
-use Rattle.grammars.proofs.SumSteps.{joined_go, round_whole, round_broken, passed_on}
+use Rattle.grammars.proofs.Rounds.{round_whole}
+use Rattle.grammars.proofs.SumSteps.{joined_go, round_broken, passed_on}
 use Rattle.grammars.proofs.toy.reader.+reading.Goals as goal
 
 pub joined-returns-in_err-left-clause-reads : goal.joined-returns-in_err-left-clause-reads
