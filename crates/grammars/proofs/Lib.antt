@@ -6,6 +6,8 @@ pub mod Rounds
 pub mod Follows
 pub mod Values
 pub mod Texts
+pub mod Wider
 pub mod Lawful
 pub mod SumSteps
 pub mod SumHeights
+pub mod SumLimits

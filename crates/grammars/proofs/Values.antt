@@ -9,7 +9,7 @@ pub gives_pure : {L A : Type 0} (a : A) (P : A → Type 0) → P a → Gives {L 
 gives_pure a P p xs next b h =
     let is : End.whole b ≡ End.whole a = h.1 in let same : a ≡ b = cc in subst P same p
 
--- No phrase has no value.
+-- Where there is no phrase, there is no value.
 pub gives_refuse : {L A : Type 0} (P : A → Type 0) → Gives {L = L} (Grammar.refuse {A = A}) P
 gives_refuse P xs next a h = let never : End.whole a ≡ End.refused = h.1 in absurd (cc)
 

@@ -20,12 +20,16 @@
 --
 -- Where they depart from a plain choice, which would allow a text as soon as any alternative does:
 --
--- 1. Rule 1 allows less only where `or` has a phrase that begins with a lexeme of t as well, since that is no phrase
---    then. So alternatives that begin alike are written as one, split behind what they share.
+-- 1. Rule 1 allows less only where a lexeme of t could also stand next the other way: where `or` has a phrase that
+--    begins with it, or has the phrase of no lexeme and what follows the choice may begin with it. Such a text is no
+--    phrase then, unless the first way allows it too. So alternatives that begin alike are written as one, split
+--    behind what they share, and an optional part takes each lexeme that begins it.
 -- 2. Rule 2 allows less only where what follows the rounds may begin with a lexeme that begins a round, since the
---    rounds take it. So of two nested phrases whose rounds begin with the same lexeme, the inner one takes it, and
---    whether lexemes are a phrase depends on the lexeme after them. A round that isn't to begin, as at an operator
---    that clashes with an earlier one, is one whose test says no at the value so far.
+--    rounds take it. So of two nested phrases whose rounds begin with the same lexeme, the inner one takes it. A round
+--    that isn't to begin, as at an operator that clashes with an earlier one, is one whose test says no at the value
+--    so far.
+--
+-- For both reasons whether lexemes are a phrase may depend on the lexeme after them, which `Ends` is given.
 --
 -- A limit is no rule of reading: `within ok g` is g where ok, and otherwise deep before any lexeme. It stands behind
 -- the lexeme that opens a level, so that at one lexeme a level too many comes before a refusal.

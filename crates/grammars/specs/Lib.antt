@@ -3,6 +3,7 @@ pub mod Front
 pub mod Reading
 pub mod After
 pub mod Texts
+pub mod Wider
 pub mod Laws
 pub mod Shape
 pub mod Sums

@@ -6,6 +6,6 @@ mod laws;
 pub mod toy;
 
 pub use laws::{
-    Described, Nested, Repeated, grammars_are_lawful, nesting_keeps_its_limit,
-    rounds_are_read_in_turn,
+    Described, Nested, Repeated, Widened, grammars_are_lawful, nesting_keeps_its_limit,
+    rounds_are_read_in_turn, wider_limits_keep_refusals,
 };

@@ -11,7 +11,7 @@ mod tests;
 mod token;
 mod tree;
 
-pub use laws::{Sums, sums_are_lawful, sums_keep_their_limit};
+pub use laws::{Sums, sums_are_lawful, sums_keep_refusals, sums_keep_their_limit};
 pub use reader::read_sum;
 pub use refusal::Refusal;
 pub use token::Token;

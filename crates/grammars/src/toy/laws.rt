@@ -2,6 +2,8 @@
 
 ghost use Rattle.grammars.specs.Answers.{IsMeasured};
 ghost use Rattle.grammars.specs.Laws.{Gives, IsLawful};
+ghost use Rattle.grammars.specs.Wider.{KeepsRefusals};
+ghost use Rattle.std.specs.Prelude.{◌≤◌};
 ghost use Rattle.grammars.specs.Sums.{level};
 
 use crate::laws::{Described, grammars_are_lawful};
@@ -30,4 +32,10 @@ pub fn sums_are_lawful<const LIMIT: u32>()
 /// The height that a sum has within a limit is that of its tree, and no higher than the limit.
 pub fn sums_keep_their_limit(limit: u32)
     ensures { Gives (level limit).sum (IsMeasured limit) }
+{}
+
+/// What is refused as a sum under one limit is refused at the same place under each wider one.
+pub fn sums_keep_refusals(limit: u32, wider: u32)
+    requires { limit ≤ wider }
+    ensures { KeepsRefusals (level limit).sum (level wider).sum }
 {}
