@@ -28,7 +28,7 @@ pub record IsLeastOnCycle (names edges : List (List ℕ)) (unit : ℕ) : Type 0 
   pub on : IsOnCycle edges unit
   pub least : (other : ℕ) → IsOnCycle edges other → IsNotAfter names unit other
 
--- of a unit's providers the one that is nearest to the goal by number of steps, the least name among equals
+-- the provider of a unit with the fewest steps to the goal; of several as near, the one whose name comes first
 pub record IsNearest (names edges : List (List ℕ)) (goal unit next : ℕ) : Type 0 where
   pub provider : Contains (providers edges unit) next
   pub distance : ℕ

@@ -8,3 +8,6 @@ mod ranks;
 mod unit_order;
 
 pub use unit_order::{OrderFault, UnitOrder, at, order, rank};
+
+#[cfg(test)]
+mod tests;
