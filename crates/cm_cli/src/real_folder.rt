@@ -6,10 +6,9 @@ ghost use Rattle.cm_base.specs.Causes.{HasCause};
 use crate::walk::files_below;
 use cm_base::{Folder, FolderFault, List, NoMemory, Text};
 use std::alloc::Global;
-use std::fs;
-use std::io;
 use std::io::{ErrorKind, Read, Write};
 use std::rt::Files;
+use std::{fs, io};
 
 /// The files below a directory. It tells nothing of what they hold, and counts its failures.
 #[derive(Drop)]
@@ -143,12 +142,7 @@ impl<R: Files + AllocGlobal + Clone + Drop> RealFolder<R> {
     }
 
     /// The first bytes of a file, up to one more than `max`; none where nothing stands there.
-    fn find(
-        &self,
-        alloc: Global,
-        path: &Text,
-        max: u32,
-    ) -> Result<Option<Vec<u8>>, FolderFault>
+    fn find(&self, alloc: Global, path: &Text, max: u32) -> Result<Option<Vec<u8>>, FolderFault>
         ensures { IfOk result (λ found. IfSome found (λ bytes. length bytes.items ≤ max + 1)) }
     {
         let whole = path_below(alloc, &self.top, path)?;

@@ -114,7 +114,10 @@ fn files_are_listed_in_byte_order(rt: HostRuntime) -> Result<(), Fail> {
     let top = new_directory(rt, "list")?;
     let mut files = folder(rt, &top)?;
     for path in ["a/z/c", "a.b", "a/b", "b", "a/B", "az"] {
-        assert_eq!(rt; files.write(alloc, &text(alloc, path.as_bytes())?, b"x"), Ok(()));
+        assert_eq!(rt;
+            files.write(alloc, &text(alloc, path.as_bytes())?, b"x"),
+            Ok(())
+        );
     }
     for (prefix, want) in [
         ("", " a.b a/B a/b a/z/c az b"),
@@ -128,7 +131,9 @@ fn files_are_listed_in_byte_order(rt: HostRuntime) -> Result<(), Fail> {
         ("c/", ""),
         ("c", ""),
     ] {
-        let line = listed(alloc, &mut files, prefix.as_bytes()).ok().ok_or("list")?;
+        let line = listed(alloc, &mut files, prefix.as_bytes())
+            .ok()
+            .ok_or("list")?;
         assert_eq!(rt; line.as_bytes(), want.as_bytes(), "below {prefix}");
     }
     assert_eq!(rt; files.remove(alloc, &text(alloc, b"a/b")?), Ok(()));
