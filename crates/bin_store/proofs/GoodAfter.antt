@@ -1,12 +1,12 @@
 -- A store that is told and good stays so: the laws of good stores, over what a folder tells.
-use Rattle.std.proofs.Common.{◌≡◌, ◌⊎◌, ◌∙◌, ap, sym, subst, refl, inl, inr, ℕ, ◌<◌, ◌^◌, Bool, true, false, List, [], Option, Some, None, length, cond, ◌∷◌}
+use Rattle.std.proofs.Common.{◌≡◌, ◌∙◌, ap, sym, subst, refl, inl, inr, ℕ, ◌<◌, ◌^◌, List, [], Option, Some, None, length, cond, ◌∷◌}
 use Rattle.std.specs.Prelude.{Contains, is_some}
 use Rattle.std.specs.FinMap.{empty, get, insert}
 use Rattle.cm_base.specs.Files.{Files, Told, told}
 use Rattle.cm_base.specs.Keeping.{Touches, Keeps}
 use Rattle.cm_base.specs.Derived.{derived_text}
 use Rattle.cm_base.proofs.FileLemmas.{get-insert_same}
-use Rattle.cm_base.proofs.KeepingLemmas.{keeps_same, keeps_touches, keeps_wider}
+use Rattle.cm_base.proofs.KeepingLemmas.{keeps_same, keeps_touches}
 use Rattle.cm_bytes.specs.Hashes.{hash_of, HashesApart}
 use Rattle.bin_store.specs.declared.bin.Bin.{Bin}
 use Rattle.bin_store.specs.declared.bin.ToolRecord.{ToolRecord}

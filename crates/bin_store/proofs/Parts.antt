@@ -1,12 +1,12 @@
 -- The components of a name, taken one by one.
 use Rattle.std.proofs.Common.{◌≡◌, ◌≢◌, ◌∙◌, ap, subst, sym, refl, ℕ, ◌+◌, ◌-◌, ◌<◌, ◌≤◌, ◌==◌, Bool, true, false, cond, List, [], ◌∷◌, ◌++◌, length, take, drop, get_or, take-append-drop, take_all, append_assoc}
-use Rattle.std.specs.Prelude.{All, slice_index, Result, Ok, Err, OnOk}
+use Rattle.std.specs.Prelude.{All, Result, Ok, Err, OnOk}
 use Rattle.std.specs.List.{slice_split, onto_first, join_with_byte}
 use Rattle.std.proofs.lemmas.List.{drop_more, take_rest}
 use Rattle.std.proofs.lemmas.List.Elements.{All-more}
 use Rattle.std.proofs.lemmas.Bool.{ne_eqb}
 use Rattle.std.proofs.lemmas.List.Splits.{slice_split_none, slice_split_at}
-use Rattle.bin_store.specs.Paths.{directory_part, later_parts, first_part, store_parts, unit_path, later_path, BeginsWith, IsOnePart}
+use Rattle.bin_store.specs.Paths.{later_parts, first_part, store_parts, unit_path, later_path, BeginsWith, IsOnePart}
 
 abbrev is_slash : ℕ → Bool
 is_slash byte = byte == 47

@@ -1,10 +1,9 @@
 -- Paths of the store are injective, and those of one kind are apart from those of another.
-use Rattle.std.proofs.Common.{◌≡◌, ◌≢◌, ◌∙◌, ap, sym, subst, refl, ℕ, zero, suc, ◌+◌, ◌==◌, Bool, true, false, cond, List, [], ◌∷◌, ◌++◌, length, drop, get_or, map, arith}
-use Rattle.std.specs.Prelude.{All, ◌&&◌}
-use Rattle.std.specs.List.{slice_split, onto_first, join_with_byte, list_any}
-use Rattle.std.proofs.lemmas.List.Splits.{join_with_byte-slice_split, slice_split_none, slice_split_at}
+use Rattle.std.proofs.Common.{◌≡◌, ◌≢◌, ◌∙◌, ap, sym, refl, ℕ, ◌==◌, Bool, true, false, cond, List, [], ◌∷◌, ◌++◌, drop, get_or, map, arith}
+use Rattle.std.specs.List.{slice_split, onto_first, join_with_byte}
+use Rattle.std.proofs.lemmas.List.Splits.{join_with_byte-slice_split}
 use Rattle.cm_base.specs.declared.record.Pid.{Pid}
-use Rattle.cm_bytes.specs.Hashes.{hash_of, pid_text}
+use Rattle.cm_bytes.specs.Hashes.{hash_of}
 use Rattle.cm_bytes.proofs.Hashes.{same_hash_from_name}
 use Rattle.bin_store.specs.Paths.{directory_part, later_parts, first_part, store_parts, unit_path, bin_path, tool_path, interface_path, linked_path}
 

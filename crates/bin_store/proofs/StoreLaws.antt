@@ -1,27 +1,23 @@
 -- What keeps a store good: the empty store is, and it stays so whatever a put leaves at its path.
-use Rattle.std.proofs.Common.{◌≡◌, ◌≢◌, ◌⊎◌, ◌∙◌, ap, sym, subst, refl, inl, inr, ℕ, ◌+◌, ◌<◌, ◌≤◌, ◌^◌, Bool, true, false, List, [], ◌∷◌, ◌++◌, length, take, drop, Option, Some, None, Ok, arith}
-use Rattle.std.specs.Prelude.{All, Contains}
+use Rattle.std.proofs.Common.{◌≡◌, ◌≢◌, ◌⊎◌, ◌∙◌, ap, sym, subst, refl, inl, inr, ℕ, ◌<◌, ◌≤◌, ◌^◌, Bool, true, false, List, [], length, take, Some, None, arith}
+use Rattle.std.specs.Prelude.{Contains}
 use Rattle.std.specs.Ordering.{nat_cmp, eq_by_cmp}
 use Rattle.std.specs.Cmp.Lexicographic.{slice_cmp}
-use Rattle.std.specs.FinMap.{empty, get, insert, get-empty}
-use Rattle.cm_base.specs.Files.{Files, Told}
-use Rattle.cm_base.specs.Keeping.{Touches, Keeps}
+use Rattle.std.specs.FinMap.{empty, get, get-empty}
+use Rattle.cm_base.specs.Files.{Files}
 use Rattle.cm_base.specs.Derived.{derived_text}
-use Rattle.cm_base.proofs.FileLemmas.{same_path, path_ties, get-insert_same}
-use Rattle.cm_base.proofs.KeepingLemmas.{keeps_same, keeps_touches}
-use Rattle.cm_base.specs.declared.record.Given.{Given}
-use Rattle.cm_base.specs.declared.record.Pid.{Pid}
+use Rattle.cm_base.proofs.FileLemmas.{same_path, path_ties}
 use Rattle.cm_bytes.specs.Hashes.{hash_of, HashesApart}
 use Rattle.bin_store.specs.declared.bin.Bin.{Bin}
 use Rattle.bin_store.specs.declared.bin.ToolRecord.{ToolRecord}
 use Rattle.bin_store.specs.Format.{binfile, interface_file, record_file, IsBin, IsRecord}
 use Rattle.bin_store.specs.Paths.{bin_path, tool_path, interface_path, linked_path}
 use Rattle.bin_store.specs.Whole.{IsWholeBin, IsWholeInterface, IsWholeRecord}
-use Rattle.bin_store.specs.GoodStore.{Definitions, IsKnown, IsGoodBin, IsGoodStore, StoreIsGood}
-use Rattle.bin_store.specs.Stored.{stored_interface, with_interface, PutsInterface}
+use Rattle.bin_store.specs.GoodStore.{Definitions, IsGoodBin, IsGoodStore}
+use Rattle.bin_store.specs.Stored.{stored_interface}
 use Rattle.bin_store.proofs.Formats.{bin_front, interface_front, record_front, length-interface_file}
 use Rattle.bin_store.proofs.PathLaws.{interface_path-injective, bin_is_no_tool, bin_is_no_interface, bin_is_not_linked, tool_is_no_interface, tool_is_not_linked, interface_is_not_linked}
-use Rattle.bin_store.proofs.StoredLaws.{stored-whole, file-stored}
+use Rattle.bin_store.proofs.StoredLaws.{file-stored}
 
 -- ---- the empty store, and more interfaces
 

@@ -1,16 +1,15 @@
 -- The interface that is stored under a hash is the one that stands whole there.
-use Rattle.std.proofs.Common.{◌≡◌, ◌∙◌, ap, sym, subst, refl, inl, inr, ℕ, ◌+◌, ◌<◌, ◌≤◌, ◌^◌, Bool, true, false, cond, List, [], ◌∷◌, ◌++◌, length, take, drop, take_all, Option, Some, None, arith}
-use Rattle.std.specs.Prelude.{◌&&◌, ◌↔◌, nat_eq, nat_le, is_some, IsTrue, Contains}
+use Rattle.std.proofs.Common.{◌≡◌, ◌∙◌, ap, sym, subst, refl, inl, inr, ℕ, ◌<◌, ◌≤◌, Bool, true, false, cond, List, ◌∷◌, ◌++◌, length, take, drop, take_all, Option, Some, None, arith}
+use Rattle.std.specs.Prelude.{◌&&◌, ◌↔◌, nat_eq, nat_le, is_some, IsTrue}
 use Rattle.std.specs.Cmp.Lexicographic.{pointwise, nat_list_eq_equiv, same_text}
 use Rattle.std.specs.FinMap.{get, insert}
 use Rattle.cm_base.specs.Files.{Files, Told, told}
 use Rattle.cm_base.specs.declared.record.Pid.{Pid}
 use Rattle.std.proofs.lemmas.Bool.{cases_lt, leb-true, le-leb}
 use Rattle.std.proofs.lemmas.List.{take_at, drop_at, length-take, take-append-drop}
-use Rattle.cm_base.proofs.FileLemmas.{get-insert_same}
 use Rattle.cm_bytes.specs.Fields.{IsBytes, u32_of, text_of}
 use Rattle.cm_bytes.proofs.Fields.{length-u32_of}
-use Rattle.cm_bytes.specs.Hashes.{hash_of, HashesApart}
+use Rattle.cm_bytes.specs.Hashes.{hash_of}
 use Rattle.cm_bytes.proofs.Hashes.{pid_text-injective, IsBytes-hash_of}
 use Rattle.bin_store.specs.Format.{interface_file}
 use Rattle.bin_store.specs.Paths.{interface_path}

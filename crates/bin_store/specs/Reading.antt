@@ -11,7 +11,6 @@ use Rattle.cm_base.specs.declared.record.Options.{Options}
 use Rattle.cm_base.specs.declared.record.Spot.{Spot}
 use Rattle.cm_base.specs.declared.record.Need.{Need}
 use Rattle.cm_base.specs.declared.record.Import.{Import}
-use Rattle.cm_base.specs.declared.record.Skeleton.{Skeleton}
 use Rattle.cm_bytes.specs.Fields.{Step, ◌>>=◌, byte_at, raw_at, u32_at, text_at, list_at}
 use Rattle.bin_store.specs.declared.bin.Bin.{Bin}
 use Rattle.bin_store.specs.declared.bin.ToolRecord.{ToolRecord}
