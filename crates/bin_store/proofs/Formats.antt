@@ -1,8 +1,7 @@
 -- Each file of the store is read again, whatever follows it. So no proper front of a whole file is whole, and no
 -- two values are spelled alike.
-use Rattle.std.proofs.Common.{◌≡◌, ◌∙◌, ap, sym, subst, refl, ℕ, ◌+◌, ◌<◌, ◌^◌, Bool, true, false, List, [], ◌∷◌, ◌++◌, length, take, drop, Some, arith, append_assoc}
-use Rattle.std.specs.Prelude.{All}
-use Rattle.std.proofs.lemmas.List.{append-nil, take-append-drop}
+use Rattle.std.proofs.Common.{◌≡◌, ◌∙◌, ap, sym, refl, ℕ, ◌+◌, ◌<◌, ◌^◌, Bool, true, false, List, [], ◌∷◌, ◌++◌, length, take, drop, Some, arith, append_assoc}
+use Rattle.std.proofs.lemmas.List.{take-append-drop}
 use Rattle.cm_base.specs.declared.record.Namespace.{Namespace}
 use Rattle.cm_base.specs.declared.record.Namespace.TheVariants as space
 use Rattle.cm_base.specs.declared.record.ModName.{ModName}
@@ -11,7 +10,7 @@ use Rattle.cm_base.specs.declared.record.Options.{Options}
 use Rattle.cm_base.specs.declared.record.Spot.{Spot}
 use Rattle.cm_base.specs.declared.record.Need.{Need}
 use Rattle.cm_base.specs.declared.record.Import.{Import}
-use Rattle.cm_bytes.specs.Fields.{Step, byte_at, text_at, list_at, text_of, list_of, IsReadAgain}
+use Rattle.cm_bytes.specs.Fields.{byte_at, text_of, list_of, IsReadAgain}
 use Rattle.cm_bytes.proofs.Fields as fields
 use Rattle.bin_store.specs.declared.bin.Bin.{Bin}
 use Rattle.bin_store.specs.declared.bin.ToolRecord.{ToolRecord}
@@ -76,8 +75,10 @@ lists_again : (bin : Bin) → IsBin bin
     (bin.skeleton.defined, (bin.skeleton.free, (bin.imports, (bin.interface, bin.code))))
 unfolding lists_at
 lists_again bin fits =
-    both_again (list_reads_again spot_of spot_at bin.skeleton.defined IsSpot spot_again fits.defined_spots fits.defined)
-    (both_again (list_reads_again need_of need_at bin.skeleton.free (λ need. IsSpot need.spot) need_again fits.free_spots fits.free)
+    both_again (list_reads_again spot_of spot_at bin.skeleton.defined IsSpot spot_again fits.defined_spots
+    fits.defined)
+    (both_again (list_reads_again need_of need_at bin.skeleton.free
+    (λ need. IsSpot need.spot) need_again fits.free_spots fits.free)
     (both_again (list_reads_again import_of import_at bin.imports IsImport import_again fits.each_import fits.imports)
     (both_again (hash_again bin.interface fits.interface) (text_reads_again bin.code fits.code))))
 
@@ -98,7 +99,10 @@ bin_again bin fits = record { again = (checked_again bin_body bin_body_at bin (b
 pub interface_again : (text : List ℕ) → length text < 2 ^ 32 → IsReadAgain interface_file interface_at text
 unfolding interface_file interface_at
 interface_again text below =
-    record { again = (made_again _ (both_again (front_again (67 ∷ 77 ∷ 69 ∷ 49 ∷ [])) (text_reads_again text below))).again }
+    record {
+      again = (made_again _ (both_again (front_again (67 ∷ 77 ∷ 69 ∷ 49 ∷ []))
+          (text_reads_again text below))).again;
+    }
 
 record_body_again : (run : ToolRecord) → IsRecord run → Again (record_body run) record_body_at run
 unfolding record_body record_body_at texts_at
@@ -112,19 +116,25 @@ record_body_again run fits =
 -- a tool's record is read again, whatever follows it
 pub record_again : (run : ToolRecord) → IsRecord run → IsReadAgain record_file record_at run
 unfolding record_file record_at
-record_again run fits = record { again = (checked_again record_body record_body_at run (record_body_again run fits)).again }
+record_again run fits = record {
+  again = (checked_again record_body record_body_at run
+      (record_body_again run fits)).again;
+}
 
 -- no binfile is a front of another, and no two are spelled alike
-pub bin_no_front : (a b : Bin) (more : List ℕ) → IsBin a → IsBin b → binfile a ++ more ≡ binfile b → (a ≡ b) × (more ≡ [])
+pub bin_no_front : (a b : Bin) (more : List ℕ) → IsBin a → IsBin b → binfile a ++ more ≡ binfile b
+    → (a ≡ b) × (more ≡ [])
 bin_no_front a b more f g e = fields.no_front binfile bin_at a b more (bin_again a f) (bin_again b g) e
 
 pub interface_no_front : (a b more : List ℕ) → length a < 2 ^ 32 → length b < 2 ^ 32
     → interface_file a ++ more ≡ interface_file b → (a ≡ b) × (more ≡ [])
-interface_no_front a b more f g e = fields.no_front interface_file interface_at a b more (interface_again a f) (interface_again b g) e
+interface_no_front a b more f g e = fields.no_front interface_file interface_at a b more (interface_again a f)
+    (interface_again b g) e
 
 pub record_no_front : (a b : ToolRecord) (more : List ℕ) → IsRecord a → IsRecord b
     → record_file a ++ more ≡ record_file b → (a ≡ b) × (more ≡ [])
-record_no_front a b more f g e = fields.no_front record_file record_at a b more (record_again a f) (record_again b g) e
+record_no_front a b more f g e = fields.no_front record_file record_at a b more (record_again a f)
+    (record_again b g) e
 
 front_of : (n : ℕ) (whole front : List ℕ) → take n whole ≡ front → front ++ drop n whole ≡ whole
 front_of n whole front e = ap (λ (bytes : List ℕ). bytes ++ drop n whole) (sym e) ∙ take-append-drop n whole
@@ -138,7 +148,8 @@ pub interface_front : (n : ℕ) (a b : List ℕ) → length a < 2 ^ 32 → lengt
 interface_front n a b f g e =
     (interface_no_front a b (drop n (interface_file b)) f g (front_of n (interface_file b) (interface_file a) e)).0
 
-pub record_front : (n : ℕ) (a b : ToolRecord) → IsRecord a → IsRecord b → take n (record_file b) ≡ record_file a → a ≡ b
+pub record_front : (n : ℕ) (a b : ToolRecord) → IsRecord a → IsRecord b → take n (record_file b) ≡ record_file a
+    → a ≡ b
 record_front n a b f g e =
     (record_no_front a b (drop n (record_file b)) f g (front_of n (record_file b) (record_file a) e)).0
 

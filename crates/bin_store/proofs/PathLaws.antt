@@ -1,10 +1,9 @@
 -- Paths of the store are injective, and those of one kind are apart from those of another.
-use Rattle.std.proofs.Common.{◌≡◌, ◌≢◌, ◌∙◌, ap, sym, subst, refl, ℕ, zero, suc, ◌+◌, ◌==◌, Bool, true, false, cond, List, [], ◌∷◌, ◌++◌, length, drop, get_or, map, arith}
-use Rattle.std.specs.Prelude.{All, ◌&&◌}
-use Rattle.std.specs.List.{slice_split, onto_first, join_with_byte, list_any}
-use Rattle.std.proofs.lemmas.List.Splits.{join_with_byte-slice_split, slice_split_none, slice_split_at}
+use Rattle.std.proofs.Common.{◌≡◌, ◌≢◌, ◌∙◌, ap, sym, refl, ℕ, ◌==◌, Bool, true, false, cond, List, [], ◌∷◌, ◌++◌, drop, get_or, map, arith}
+use Rattle.std.specs.List.{slice_split, onto_first, join_with_byte}
+use Rattle.std.proofs.lemmas.List.Splits.{join_with_byte-slice_split}
 use Rattle.cm_base.specs.declared.record.Pid.{Pid}
-use Rattle.cm_bytes.specs.Hashes.{hash_of, pid_text}
+use Rattle.cm_bytes.specs.Hashes.{hash_of}
 use Rattle.cm_bytes.proofs.Hashes.{same_hash_from_name}
 use Rattle.bin_store.specs.Paths.{directory_part, later_parts, first_part, store_parts, unit_path, bin_path, tool_path, interface_path, linked_path}
 
@@ -27,7 +26,8 @@ first_part-back : (part : List ℕ) → first_back (first_part part) ≡ part
 unfolding first_back
 first_part-back [] = refl
 first_part-back (byte ∷ bytes) =
-    elim (byte == 36) as (λ b. byte == 36 ≡ b → first_back (cond b (byte ∷ bytes) (directory_part (byte ∷ bytes))) ≡ byte ∷ bytes) [
+    elim (byte == 36) as (λ b. byte == 36 ≡ b
+    → first_back (cond b (byte ∷ bytes) (directory_part (byte ∷ bytes))) ≡ byte ∷ bytes) [
       | true ↦ λ e. rw e refl
       | false ↦ λ e. refl
     ] refl
@@ -38,7 +38,8 @@ later_parts-back [] = refl
 later_parts-back (part ∷ []) = refl
 later_parts-back (part ∷ next ∷ parts) = ap (λ (ps : List (List ℕ)). part ∷ ps) (later_parts-back (next ∷ parts))
 
-two_parts : (part next : List ℕ) (parts : List (List ℕ)) → (later : List (List ℕ)) × (first : List ℕ) × (later_parts (next ∷ parts) ≡ first ∷ later)
+two_parts : (part next : List ℕ) (parts : List (List ℕ))
+    → (later : List (List ℕ)) × (first : List ℕ) × (later_parts (next ∷ parts) ≡ first ∷ later)
 two_parts part next [] = ([], 61 ∷ next, refl)
 two_parts part next (more ∷ parts) = (later_parts (more ∷ parts), directory_part next, refl)
 
@@ -64,7 +65,8 @@ abbrev EachFree : List (List ℕ) → Type 0
 EachFree [] = Unit {0}
 EachFree (part ∷ parts) = Free part × EachFree parts
 
-EachFree-onto_first : (byte : ℕ) (parts : List (List ℕ)) → is_slash byte ≡ false → EachFree parts → EachFree (onto_first byte parts)
+EachFree-onto_first : (byte : ℕ) (parts : List (List ℕ)) → is_slash byte ≡ false → EachFree parts
+    → EachFree (onto_first byte parts)
 EachFree-onto_first byte [] other free = ((other, tt), tt)
 EachFree-onto_first byte (part ∷ parts) other free = ((other, free.0), free.1)
 
@@ -93,13 +95,18 @@ EachFree-later_parts (part ∷ next ∷ parts) free = ((refl, free.0), EachFree-
 EachFree-store_parts : (parts : List (List ℕ)) → EachFree parts → EachFree (store_parts parts)
 EachFree-store_parts [] free = tt
 EachFree-store_parts (part ∷ []) free = ((refl, free.0), tt)
-EachFree-store_parts (part ∷ next ∷ parts) free = (Free-first_part part free.0, EachFree-later_parts (next ∷ parts) free.1)
+EachFree-store_parts (part ∷ next ∷ parts) free = (
+  Free-first_part part free.0,
+  EachFree-later_parts
+      (next ∷ parts) free.1,
+)
 
 slice_split-free : (part : List ℕ) → Free part → slice_split is_slash part ≡ part ∷ []
 slice_split-free [] free = refl
 slice_split-free (byte ∷ part) free = rw (free.0, slice_split-free part free.1) refl
 
-slice_split-next : (part rest : List ℕ) → Free part → slice_split is_slash (part ++ 47 ∷ rest) ≡ part ∷ slice_split is_slash rest
+slice_split-next : (part rest : List ℕ) → Free part
+    → slice_split is_slash (part ++ 47 ∷ rest) ≡ part ∷ slice_split is_slash rest
 slice_split-next [] rest free = refl
 slice_split-next (byte ∷ part) rest free = rw (free.0, slice_split-next part rest free.1) refl
 
@@ -108,7 +115,8 @@ or_one : List (List ℕ) → List (List ℕ)
 or_one [] = [] ∷ []
 or_one (part ∷ parts) = part ∷ parts
 
-slice_split-joined : (parts : List (List ℕ)) → EachFree parts → slice_split is_slash (join_with_byte 47 parts) ≡ or_one parts
+slice_split-joined : (parts : List (List ℕ)) → EachFree parts
+    → slice_split is_slash (join_with_byte 47 parts) ≡ or_one parts
 unfolding or_one
 slice_split-joined [] free = refl
 slice_split-joined (part ∷ []) free = slice_split-free part free.0
@@ -116,7 +124,8 @@ slice_split-joined (part ∷ next ∷ parts) free =
     slice_split-next part (join_with_byte 47 (next ∷ parts)) free.0
     ∙ ap (λ (ps : List (List ℕ)). part ∷ ps) (slice_split-joined (next ∷ parts) free.1)
 
-joined-back : (parts : List (List ℕ)) → join_with_byte 47 (parts_back (or_one (store_parts parts))) ≡ join_with_byte 47 parts
+joined-back : (parts : List (List ℕ))
+    → join_with_byte 47 (parts_back (or_one (store_parts parts))) ≡ join_with_byte 47 parts
 unfolding or_one parts_back without_mark
 joined-back [] = refl
 joined-back (part ∷ []) = refl
@@ -151,7 +160,8 @@ unfolding tool_path
 tool_path-injective a b e = unit_path-injective a b (ap (drop 9) e)
 
 -- texts whose interface files have one path have one hash
-pub interface_path-injective : (a b : List ℕ) → interface_path (hash_of a) ≡ interface_path (hash_of b) → hash_of a ≡ hash_of b
+pub interface_path-injective : (a b : List ℕ) → interface_path (hash_of a) ≡ interface_path (hash_of b)
+    → hash_of a ≡ hash_of b
 unfolding interface_path
 interface_path-injective a b e = same_hash_from_name a b (ap (drop 8) e)
 

@@ -1,27 +1,23 @@
 -- What keeps a store good: the empty store is, and it stays so whatever a put leaves at its path.
-use Rattle.std.proofs.Common.{◌≡◌, ◌≢◌, ◌⊎◌, ◌∙◌, ap, sym, subst, refl, inl, inr, ℕ, ◌+◌, ◌<◌, ◌≤◌, ◌^◌, Bool, true, false, List, [], ◌∷◌, ◌++◌, length, take, drop, Option, Some, None, Ok, arith}
-use Rattle.std.specs.Prelude.{All, Contains}
+use Rattle.std.proofs.Common.{◌≡◌, ◌≢◌, ◌⊎◌, ◌∙◌, ap, sym, subst, refl, inl, inr, ℕ, ◌<◌, ◌≤◌, ◌^◌, Bool, true, false, List, [], length, take, Some, None, arith}
+use Rattle.std.specs.Prelude.{Contains}
 use Rattle.std.specs.Ordering.{nat_cmp, eq_by_cmp}
 use Rattle.std.specs.Cmp.Lexicographic.{slice_cmp}
-use Rattle.std.specs.FinMap.{empty, get, insert, get-empty}
-use Rattle.cm_base.specs.Files.{Files, Told}
-use Rattle.cm_base.specs.Keeping.{Touches, Keeps}
+use Rattle.std.specs.FinMap.{empty, get, get-empty}
+use Rattle.cm_base.specs.Files.{Files}
 use Rattle.cm_base.specs.Derived.{derived_text}
-use Rattle.cm_base.proofs.FileLemmas.{same_path, path_ties, get-insert_same}
-use Rattle.cm_base.proofs.KeepingLemmas.{keeps_same, keeps_touches}
-use Rattle.cm_base.specs.declared.record.Given.{Given}
-use Rattle.cm_base.specs.declared.record.Pid.{Pid}
+use Rattle.cm_base.proofs.FileLemmas.{same_path, path_ties}
 use Rattle.cm_bytes.specs.Hashes.{hash_of, HashesApart}
 use Rattle.bin_store.specs.declared.bin.Bin.{Bin}
 use Rattle.bin_store.specs.declared.bin.ToolRecord.{ToolRecord}
 use Rattle.bin_store.specs.Format.{binfile, interface_file, record_file, IsBin, IsRecord}
 use Rattle.bin_store.specs.Paths.{bin_path, tool_path, interface_path, linked_path}
 use Rattle.bin_store.specs.Whole.{IsWholeBin, IsWholeInterface, IsWholeRecord}
-use Rattle.bin_store.specs.GoodStore.{Definitions, IsKnown, IsGoodBin, IsGoodStore, StoreIsGood}
-use Rattle.bin_store.specs.Stored.{stored_interface, with_interface, PutsInterface}
+use Rattle.bin_store.specs.GoodStore.{Definitions, IsGoodBin, IsGoodStore}
+use Rattle.bin_store.specs.Stored.{stored_interface}
 use Rattle.bin_store.proofs.Formats.{bin_front, interface_front, record_front, length-interface_file}
 use Rattle.bin_store.proofs.PathLaws.{interface_path-injective, bin_is_no_tool, bin_is_no_interface, bin_is_not_linked, tool_is_no_interface, tool_is_not_linked, interface_is_not_linked}
-use Rattle.bin_store.proofs.StoredLaws.{stored-whole, file-stored}
+use Rattle.bin_store.proofs.StoredLaws.{file-stored}
 
 -- ---- the empty store, and more interfaces
 
@@ -41,7 +37,8 @@ good_empty by = record {
 
 -- a good binfile is good where more interfaces are known
 good_bin_more : {by : Definitions} {texts more : List (List ℕ)} {files : Files} {bin : Bin}
-    → ((text : List ℕ) → Contains texts text → Contains more text) → IsGoodBin by texts files bin → IsGoodBin by more files bin
+    → ((text : List ℕ) → Contains texts text → Contains more text) → IsGoodBin by texts files bin
+    → IsGoodBin by more files bin
 good_bin_more within good = record {
   input = good.input;
   skeleton = good.skeleton;
@@ -57,7 +54,8 @@ good_bin_more within good = record {
 
 -- a store that is good for some interfaces is good for more
 pub good_more : {by : Definitions} {texts more : List (List ℕ)} {files : Files}
-    → ((text : List ℕ) → Contains texts text → Contains more text) → IsGoodStore by texts files → IsGoodStore by more files
+    → ((text : List ℕ) → Contains texts text → Contains more text) → IsGoodStore by texts files
+    → IsGoodStore by more files
 good_more within good = record {
   bins = λ path bytes bin there whole. good_bin_more within (good.bins path bytes bin there whole);
   interfaces = λ path bytes text there whole. within text (good.interfaces path bytes text there whole);
@@ -73,7 +71,8 @@ good_same by texts before after same good = subst (IsGoodStore by texts) (sym sa
 -- each other path is as it was, and this one has its old bytes, nothing, or a front of the new bytes
 pub record TouchesFiles (before after : Files) (path bytes : List ℕ) : Type 0 where
   pub others : (q : List ℕ) → q ≢ path → get after q ≡ get before q
-  pub here : (get after path ≡ get before path) ⊎ ((get after path ≡ None) ⊎ ((n : ℕ) × (get after path ≡ Some (take n bytes))))
+  pub here : (get after path ≡ get before path) ⊎ ((get after path ≡ None) ⊎ ((n : ℕ) × (get after path
+      ≡ Some (take n bytes))))
 
 -- what stands there afterwards stood there before, or is a front of the new bytes
 found_after : (before after : Files) (path bytes q there : List ℕ) → TouchesFiles before after path bytes
@@ -81,17 +80,19 @@ found_after : (before after : Files) (path bytes q there : List ℕ) → Touches
 found_after before after path bytes q there touched is =
     by_test (eq_by_cmp (slice_cmp nat_cmp) q path) refl
   where
-    at_path : q ≡ path → ((get after path ≡ get before path) ⊎ ((get after path ≡ None) ⊎ ((n : ℕ) × (get after path ≡ Some (take n bytes)))))
+    at_path : q ≡ path → ((get after path ≡ get before path) ⊎ ((get after path
+        ≡ None) ⊎ ((n : ℕ) × (get after path ≡ Some (take n bytes)))))
         → (get before q ≡ Some there) ⊎ ((n : ℕ) × (q ≡ path) × (there ≡ take n bytes))
     at_path same (inl old) = inl (ap (get before) same ∙ sym old ∙ ap (get after) (sym same) ∙ is)
     at_path same (inr (inl none)) = let at = ap (get after) (sym same) ∙ is in absurd (cc (none, at))
     at_path same (inr (inr (n, front))) = let at = ap (get after) (sym same) ∙ is in inr (n, same, cc (front, at))
+
     by_test : (b : Bool) → eq_by_cmp (slice_cmp nat_cmp) q path ≡ b
         → (get before q ≡ Some there) ⊎ ((n : ℕ) × (q ≡ path) × (there ≡ take n bytes))
     by_test true tied = at_path (same_path q path tied) touched.here
     by_test false tied =
         let apart : q ≢ path =
-            λ same. cc (tied, ap (λ p. eq_by_cmp (slice_cmp nat_cmp) p path) same, path_ties path) in
+        λ same. cc (tied, ap (λ p. eq_by_cmp (slice_cmp nat_cmp) p path) same, path_ties path) in
         inl (sym (touched.others q apart) ∙ is)
 
 -- what a write has to keep, for the store to stay good: the interfaces of the good binfiles stand elsewhere, and
@@ -139,14 +140,24 @@ good_after {by} {texts} {before} {after} {path} {bytes} allows touched good = re
       ];
 }
   where
-    moved_bin : (q there : List ℕ) (bin : Bin) (n : ℕ) → q ≡ path → there ≡ take n bytes → IsWholeBin q there bin → IsWholeBin path (take n bytes) bin
-    moved_bin q there bin n a b whole = subst (λ p. IsWholeBin p (take n bytes) bin) a (subst (λ t. IsWholeBin q t bin) b whole)
-    moved_interface : (q there text : List ℕ) (n : ℕ) → q ≡ path → there ≡ take n bytes → IsWholeInterface q there text → IsWholeInterface path (take n bytes) text
-    moved_interface q there text n a b whole = subst (λ p. IsWholeInterface p (take n bytes) text) a (subst (λ t. IsWholeInterface q t text) b whole)
-    moved_record : (q there : List ℕ) (run : ToolRecord) (n : ℕ) → q ≡ path → there ≡ take n bytes → IsWholeRecord q there run → IsWholeRecord path (take n bytes) run
-    moved_record q there run n a b whole = subst (λ p. IsWholeRecord p (take n bytes) run) a (subst (λ t. IsWholeRecord q t run) b whole)
+    moved_bin : (q there : List ℕ) (bin : Bin) (n : ℕ) → q ≡ path → there ≡ take n bytes → IsWholeBin q there bin
+        → IsWholeBin path (take n bytes) bin
+    moved_bin q there bin n a b whole = subst (λ p. IsWholeBin p (take n bytes) bin) a (subst
+        (λ t. IsWholeBin q t bin) b whole)
+
+    moved_interface : (q there text : List ℕ) (n : ℕ) → q ≡ path → there ≡ take n bytes
+        → IsWholeInterface q there text → IsWholeInterface path (take n bytes) text
+    moved_interface q there text n a b whole = subst (λ p. IsWholeInterface p (take n bytes) text) a (subst
+        (λ t. IsWholeInterface q t text) b whole)
+
+    moved_record : (q there : List ℕ) (run : ToolRecord) (n : ℕ) → q ≡ path → there ≡ take n bytes
+        → IsWholeRecord q there run → IsWholeRecord path (take n bytes) run
+    moved_record q there run n a b whole = subst (λ p. IsWholeRecord p (take n bytes) run) a (subst
+        (λ t. IsWholeRecord q t run) b whole)
+
     old_bin : (q there : List ℕ) (bin : Bin) → IsWholeBin q there bin
-        → (get before q ≡ Some there) ⊎ ((n : ℕ) × (q ≡ path) × (there ≡ take n bytes)) → IsGoodBin by texts before bin
+        → (get before q ≡ Some there) ⊎ ((n : ℕ) × (q ≡ path) × (there ≡ take n bytes))
+        → IsGoodBin by texts before bin
     old_bin q there bin whole (inl was) = good.bins q there bin was whole
     old_bin q there bin whole (inr new) = allows.bins new.0 bin (moved_bin q there bin new.0 new.1 new.2 whole)
 
@@ -160,21 +171,24 @@ interface_apart {before = before} text bin known apart none good same =
     let made = good.made.interface in
     let hash : bin.interface ≡ hash_of made = ap (λ (b : Bin). b.interface) good.bin_is in
     let one : made ≡ text =
-        apart.apart made text good.known known (interface_path-injective made text (ap interface_path (sym hash) ∙ same)) in
+    apart.apart made text good.known known (interface_path-injective made text (ap interface_path (sym hash)
+    ∙ same)) in
     let stands : get before (interface_path (hash_of text)) ≡ Some (interface_file text) =
-        ap (get before) (sym same) ∙ good.stands ∙ ap (λ t. Some (interface_file t)) one in
+    ap (get before) (sym same) ∙ good.stands ∙ ap (λ t. Some (interface_file t)) one in
     let small : length text ≤ 1048576 = subst (λ (t : List ℕ). length t ≤ 1048576) one good.small in
     let stored = file-stored before text small stands in
     cc (none, stored)
 
-pub allows_interface : (by : Definitions) (texts : List (List ℕ)) (before : Files) (text : List ℕ) → length text < 2 ^ 32
+pub allows_interface : (by : Definitions) (texts : List (List ℕ)) (before : Files) (text : List ℕ)
+    → length text < 2 ^ 32
     → Contains texts text → HashesApart texts → stored_interface before (hash_of text) ≡ None
     → Allows by texts before (interface_path (hash_of text)) (interface_file text)
 allows_interface by texts before text below known apart none = record {
   apart = λ bin good. interface_apart text bin known apart none good;
   bins = λ n bin whole. absurd (bin_is_no_interface bin.unit (hash_of text) (sym whole.place));
   interfaces = λ n found whole.
-      let same = interface_front n found text (omega (arith, whole.small, ap length whole.spelled, length-interface_file found)) below whole.spelled in
+      let same = interface_front n found text (omega
+      (arith, whole.small, ap length whole.spelled, length-interface_file found)) below whole.spelled in
       subst (Contains texts) (sym same) known;
   records = λ n run whole. absurd (tool_is_no_interface run.unit (hash_of text) (sym whole.place));
 }
@@ -193,7 +207,8 @@ pub allows_bin : (by : Definitions) (texts : List (List ℕ)) (before : Files) (
     → IsGoodBin by texts before bin → Allows by texts before (bin_path bin.unit) (binfile bin)
 allows_bin by texts before bin fits good = record {
   apart = λ other was same. bin_is_no_interface bin.unit other.interface (sym same);
-  bins = λ n found whole. subst (IsGoodBin by texts before) (sym (bin_front n found bin whole.fits fits whole.spelled)) good;
+  bins = λ n found whole. subst (IsGoodBin by texts before) (sym
+      (bin_front n found bin whole.fits fits whole.spelled)) good;
   interfaces = λ n text whole. absurd (bin_is_no_interface bin.unit (hash_of text) whole.place);
   records = λ n run whole. absurd (bin_is_no_tool bin.unit run.unit whole.place);
 }
@@ -202,18 +217,22 @@ allows_bin by texts before bin fits good = record {
 pub good_after_bin : (by : Definitions) (texts : List (List ℕ)) (before after : Files) (bin : Bin)
     → IsBin bin → IsGoodBin by texts before bin → TouchesFiles before after (bin_path bin.unit) (binfile bin)
     → IsGoodStore by texts before → IsGoodStore by texts after
-good_after_bin by texts before after bin fits is touched good = good_after (allows_bin by texts before bin fits is) touched good
+good_after_bin by texts before after bin fits is touched good = good_after
+    (allows_bin by texts before bin fits is) touched good
 
 -- ---- a tool's record, and the linked program
 
 pub allows_record : (by : Definitions) (texts : List (List ℕ)) (before : Files) (run : ToolRecord) → IsRecord run
-    → run.output ≡ derived_text run.rule run.unit run.input → Allows by texts before (tool_path run.unit) (record_file run)
+    → run.output ≡ derived_text run.rule run.unit run.input
+    → Allows by texts before (tool_path run.unit) (record_file run)
 allows_record by texts before run fits derived = record {
   apart = λ other was same. tool_is_no_interface run.unit other.interface (sym same);
   bins = λ n bin whole. absurd (bin_is_no_tool bin.unit run.unit (sym whole.place));
   interfaces = λ n text whole. absurd (tool_is_no_interface run.unit (hash_of text) whole.place);
   records = λ n found whole.
-      subst (λ (r : ToolRecord). r.output ≡ derived_text r.rule r.unit r.input) (sym (record_front n found run whole.fits fits whole.spelled)) derived;
+      subst (λ (r : ToolRecord). r.output
+      ≡ derived_text r.rule r.unit r.input) (sym
+      (record_front n found run whole.fits fits whole.spelled)) derived;
 }
 
 pub good_after_record : (by : Definitions) (texts : List (List ℕ)) (before after : Files) (run : ToolRecord)
@@ -223,7 +242,8 @@ pub good_after_record : (by : Definitions) (texts : List (List ℕ)) (before aft
 good_after_record by texts before after run fits derived touched good =
     good_after (allows_record by texts before run fits derived) touched good
 
-pub allows_linked : (by : Definitions) (texts : List (List ℕ)) (before : Files) (bytes : List ℕ) → Allows by texts before linked_path bytes
+pub allows_linked : (by : Definitions) (texts : List (List ℕ)) (before : Files) (bytes : List ℕ)
+    → Allows by texts before linked_path bytes
 allows_linked by texts before bytes = record {
   apart = λ bin was same. interface_is_not_linked bin.interface same;
   bins = λ n bin whole. absurd (bin_is_not_linked bin.unit (sym whole.place));
@@ -233,4 +253,5 @@ allows_linked by texts before bytes = record {
 
 pub good_after_linked : (by : Definitions) (texts : List (List ℕ)) (before after : Files) (bytes : List ℕ)
     → TouchesFiles before after linked_path bytes → IsGoodStore by texts before → IsGoodStore by texts after
-good_after_linked by texts before after bytes touched good = good_after (allows_linked by texts before bytes) touched good
+good_after_linked by texts before after bytes touched good = good_after
+    (allows_linked by texts before bytes) touched good

@@ -72,7 +72,8 @@ interface_file interface = 67 ∷ 77 ∷ 69 ∷ 49 ∷ text_of interface
 -- a tool's record up to the digest that ends it
 unfoldable pub record_body : ToolRecord → List ℕ
 record_body run =
-    67 ∷ 77 ∷ 84 ∷ 49 ∷ (text_of run.unit ++ (text_of run.class ++ (text_of run.rule ++ (text_of run.input ++ text_of run.output))))
+    67 ∷ 77 ∷ 84 ∷ 49 ∷ (text_of run.unit ++ (text_of run.class ++ (text_of run.rule ++ (text_of run.input
+    ++ text_of run.output))))
 
 -- a tool's record: `CMT1`, the unit, the class, the rule, the input and the output, and the SHA-256 of all before
 unfoldable pub record_file : ToolRecord → List ℕ

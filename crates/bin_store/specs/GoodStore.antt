@@ -53,8 +53,10 @@ pub record IsGoodBin (by : Definitions) (texts : List (List ℕ)) (files : Files
 -- a store is good for a list of interfaces where each whole binfile is good, each whole interface file has one of
 -- them, and each whole tool record has the text that its rule derives
 pub record IsGoodStore (by : Definitions) (texts : List (List ℕ)) (files : Files) : Type 0 where
-  pub bins : (path bytes : List ℕ) (bin : Bin) → get files path ≡ Some bytes → IsWholeBin path bytes bin → IsGoodBin by texts files bin
-  pub interfaces : (path bytes interface : List ℕ) → get files path ≡ Some bytes → IsWholeInterface path bytes interface → Contains texts interface
+  pub bins : (path bytes : List ℕ) (bin : Bin) → get files path ≡ Some bytes → IsWholeBin path bytes bin
+      → IsGoodBin by texts files bin
+  pub interfaces : (path bytes interface : List ℕ) → get files path ≡ Some bytes
+      → IsWholeInterface path bytes interface → Contains texts interface
   pub records : (path bytes : List ℕ) (run : ToolRecord) → get files path ≡ Some bytes → IsWholeRecord path bytes run
       → run.output ≡ derived_text run.rule run.unit run.input
 

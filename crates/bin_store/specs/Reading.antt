@@ -11,7 +11,6 @@ use Rattle.cm_base.specs.declared.record.Options.{Options}
 use Rattle.cm_base.specs.declared.record.Spot.{Spot}
 use Rattle.cm_base.specs.declared.record.Need.{Need}
 use Rattle.cm_base.specs.declared.record.Import.{Import}
-use Rattle.cm_base.specs.declared.record.Skeleton.{Skeleton}
 use Rattle.cm_bytes.specs.Fields.{Step, ◌>>=◌, byte_at, raw_at, u32_at, text_at, list_at}
 use Rattle.bin_store.specs.declared.bin.Bin.{Bin}
 use Rattle.bin_store.specs.declared.bin.ToolRecord.{ToolRecord}
@@ -35,7 +34,8 @@ front_at front = meant_at (λ found. if pointwise nat_eq found front then Some t
 
 -- a value and then the SHA-256 of its spelling
 abbrev pub checked_at : {A : Type 0} → (A → List ℕ) → Step A → Step A
-checked_at body step = meant_at (λ x. if pointwise nat_eq x.1 (sha256 (body x.0)) then Some x.0 else None) (both_at step (raw_at 32))
+checked_at body step = meant_at (λ x. if pointwise nat_eq x.1 (sha256 (body x.0)) then Some x.0 else None)
+    (both_at step (raw_at 32))
 
 -- the name space of a byte
 abbrev pub space_from : ℕ → Option Namespace
@@ -72,7 +72,8 @@ unfoldable pub hash_at : Step Pid
 hash_at = made_at (λ bytes. record { bytes = bytes }) (raw_at 32)
 
 unfoldable pub import_at : Step Import
-import_at = made_at (λ p. record { name = p.0; provider = p.1.0; hash = p.1.1 }) (both_at name_at (both_at text_at hash_at))
+import_at = made_at (λ p. record { name = p.0; provider = p.1.0; hash = p.1.1 }) (both_at name_at
+    (both_at text_at hash_at))
 
 -- the lists of a binfile, and what follows them
 abbrev Lists : Type 0
@@ -96,7 +97,8 @@ bin_from p =
     }
 
 unfoldable pub lists_at : Step Lists
-lists_at = both_at (list_at spot_at) (both_at (list_at need_at) (both_at (list_at import_at) (both_at hash_at text_at)))
+lists_at = both_at (list_at spot_at) (both_at (list_at need_at) (both_at (list_at import_at)
+    (both_at hash_at text_at)))
 
 unfoldable pub parts_at : Step Parts
 parts_at = both_at text_at (both_at (meant_at options_from byte_at) (both_at text_at lists_at))

@@ -14,7 +14,7 @@ use Rattle.bin_store.specs.Paths.{bin_path, interface_path}
 unfoldable pub interface_in : Pid → List ℕ → Option (List ℕ)
 interface_in hash bytes =
     if nat_le (length bytes) 1048584 && (pointwise nat_eq bytes (interface_file (drop 8 bytes))
-        && pointwise nat_eq (hash_of (drop 8 bytes)).bytes hash.bytes)
+    && pointwise nat_eq (hash_of (drop 8 bytes)).bytes hash.bytes)
     then Some (drop 8 bytes) else None
 
 -- .. where there is a file

@@ -11,3 +11,6 @@ pub use bin::{Bin, StoreFault, ToolRecord};
 pub use format::write_bin;
 pub use paths::{bin_path, interface_path};
 pub use store::{get_interface, put_bin, put_interface};
+
+#[cfg(test)]
+mod tests;

@@ -31,7 +31,8 @@ pub fn interface_path(alloc: Global, hash: &Pid) -> Result<Text, NoMemory>
 
 // The first component of a name and the rest, if another follows.
 fn first_component(name: &[u8]) -> Option<(&[u8], &[u8])>
-    ensures parts { MatchOption result (paths.IsOnePart name.now) (λ both. paths.BeginsWith name.now both.0.now both.1.now) }
+    ensures parts { MatchOption result (paths.IsOnePart name.now)
+        (λ both. paths.BeginsWith name.now both.0.now both.1.now) }
     ensures shorter { IfSome result (λ both. length both.1.now < length name.now) }
 {
     for at in 0..name.len() {

@@ -28,7 +28,8 @@ fn read_front<F: Folder>(
 ) -> Result<Option<Text>, StoreFault>
     ensures cause { HasCause (F.faults folder.old) (F.faults folder.new) (result ≡ Err StoreFault.Folder) }
     ensures same { F.holds folder.new ≡ F.holds folder.old }
-    ensures read { Told (F.holds folder.old) (λ files. IfOk result (λ found. found ≡ front_read max (get files path.now))) }
+    ensures read { Told (F.holds folder.old) (λ files. IfOk result (λ found. found
+        ≡ front_read max (get files path.now))) }
 {
     let mut bytes = Vec::new(alloc);
     if folder.read(alloc, path, max, &mut bytes)? {
@@ -46,7 +47,8 @@ fn put_file<F: Folder>(
     bytes: &Text,
 ) -> Result<(), StoreFault>
     ensures cause { HasCause (F.faults folder.old) (F.faults folder.new) (result ≡ Err StoreFault.Folder) }
-    ensures done { OnOk result (F.holds folder.new ≡ told (λ files. insert files path.now bytes.now) (F.holds folder.old)) }
+    ensures done { OnOk result (F.holds folder.new
+        ≡ told (λ files. insert files path.now bytes.now) (F.holds folder.old)) }
     ensures touches { Touches (F.holds folder.old) (F.holds folder.new) path.now bytes.now }
 {
     Ok(folder.write(alloc, path, bytes.as_bytes())?)
@@ -95,7 +97,8 @@ fn read_interface<F: Folder>(
 ) -> Result<Option<Text>, StoreFault>
     ensures cause { HasCause (F.faults folder.old) (F.faults folder.new) (result ≡ Err StoreFault.Folder) }
     ensures same { F.holds folder.new ≡ F.holds folder.old }
-    ensures read { Told (F.holds folder.old) (λ files. IfOk result (λ file. interface_found pid.now file ≡ stored_interface files pid.now)) }
+    ensures read { Told (F.holds folder.old) (λ files. IfOk result (λ file. interface_found pid.now file
+        ≡ stored_interface files pid.now)) }
 {
     let path = interface_path(alloc, pid)?;
     let file = read_front(alloc, folder, &path, 1_048_584)?;
@@ -110,7 +113,8 @@ pub fn get_interface<F: Folder>(
 ) -> Result<Option<Text>, StoreFault>
     ensures cause { HasCause (F.faults folder.old) (F.faults folder.new) (result ≡ Err StoreFault.Folder) }
     ensures same { F.holds folder.new ≡ F.holds folder.old }
-    ensures found { Told (F.holds folder.old) (λ files. IfOk result (λ found. found ≡ stored_interface files pid.now)) }
+    ensures found { Told (F.holds folder.old) (λ files. IfOk result (λ found. found
+        ≡ stored_interface files pid.now)) }
 {
     let file = read_interface(alloc, folder, pid)?;
     Ok(taken(alloc, &file, pid)?)
@@ -143,7 +147,8 @@ fn is_there(file: &Option<Text>, pid: &Pid) -> bool
 fn has_interface<F: Folder>(alloc: Global, folder: &mut F, pid: &Pid) -> Result<bool, StoreFault>
     ensures cause { HasCause (F.faults folder.old) (F.faults folder.new) (result ≡ Err StoreFault.Folder) }
     ensures same { F.holds folder.new ≡ F.holds folder.old }
-    ensures found { Told (F.holds folder.old) (λ files. IfOk result (λ found. found ≡ is_some (stored_interface files pid.now))) }
+    ensures found { Told (F.holds folder.old) (λ files. IfOk result (λ found. found
+        ≡ is_some (stored_interface files pid.now))) }
 {
     let file = read_interface(alloc, folder, pid)?;
     Ok(is_there(&file, pid))
@@ -159,7 +164,8 @@ pub fn put_interface<F: Folder>(
     requires { length bytes.now < 2 ^ 32 }
     ensures cause { HasCause (F.faults folder.old) (F.faults folder.new) (result ≡ Err StoreFault.Folder) }
     ensures pid { IfOk result (λ pid. pid ≡ hash_of bytes.now) }
-    ensures done { OnOk result (F.holds folder.new ≡ told (λ files. with_interface files bytes.now) (F.holds folder.old)) }
+    ensures done { OnOk result (F.holds folder.new
+        ≡ told (λ files. with_interface files bytes.now) (F.holds folder.old)) }
     ensures leaves { PutsInterface (F.holds folder.old) (F.holds folder.new) bytes.now }
 {
     let pid = pid_of(bytes.as_bytes());
@@ -178,7 +184,8 @@ pub fn put_bin<F: Folder>(alloc: Global, folder: &mut F, bin: &Bin) -> Result<()
     requires { IsShortBin bin.now }
     ensures cause { HasCause (F.faults folder.old) (F.faults folder.new) (result ≡ Err StoreFault.Folder) }
     ensures fits { OnOk result (IsBin bin.now) }
-    ensures done { OnOk result (F.holds folder.new ≡ told (λ files. insert files (paths.bin_path bin.now.unit) (binfile bin.now)) (F.holds folder.old)) }
+    ensures done { OnOk result (F.holds folder.new
+        ≡ told (λ files. insert files (paths.bin_path bin.now.unit) (binfile bin.now)) (F.holds folder.old)) }
     ensures leaves { PutsBin (F.holds folder.old) (F.holds folder.new) bin.now }
 {
     let path = bin_path(alloc, &bin.unit)?;

@@ -7,7 +7,8 @@ use Rattle.bin_store.proofs.format.write_imports.Goals as goal
 pub loop-import-preserved : goal.loop-import-preserved
 loop-import-preserved c = record {
   written = grind (arith, common_steps);
-  fit = more_fit IsImport c.args.imports.now _ c.import-item.result c.loop-import-test.true c.import-item.is c.loop-import.invariant.fit c.in_ok-write_import.ensures.fits;
+  fit = more_fit IsImport c.args.imports.now _ c.import-item.result c.loop-import-test.true c.import-item.is
+      c.loop-import.invariant.fit c.in_ok-write_import.ensures.fits;
 }
 
 pub returns-clause-fit : goal.returns-clause-fit

@@ -7,7 +7,8 @@ use Rattle.bin_store.proofs.format.write_spots.Goals as goal
 pub loop-spot-preserved : goal.loop-spot-preserved
 loop-spot-preserved c = record {
   written = grind (arith, common_steps);
-  fit = more_fit IsSpot c.args.spots.now _ c.spot-item.result c.loop-spot-test.true c.spot-item.is c.loop-spot.invariant.fit c.in_ok-write_spot.ensures.fits;
+  fit = more_fit IsSpot c.args.spots.now _ c.spot-item.result c.loop-spot-test.true c.spot-item.is
+      c.loop-spot.invariant.fit c.in_ok-write_spot.ensures.fits;
 }
 
 pub returns-clause-fit : goal.returns-clause-fit
