@@ -1,5 +1,10 @@
 //! A diagnostic: what is refused, and where.
 
+ghost use Rattle.std.specs.Prelude.{◌≡◌, IfOk};
+
+use std::alloc::Global;
+
+use crate::fault::NoMemory;
 use crate::list::List;
 use crate::text::Text;
 
@@ -17,4 +22,23 @@ pub struct Diag {
     pub number: u8,
     pub at: Place,
     pub names: List<Text>,
+}
+
+impl Diag {
+    ghost use Rattle.cm_base.specs.Diags.{whole_file};
+
+    /// A diagnostic on a whole file, without names.
+    pub fn on_file(alloc: Global, number: u8, file: &Text) -> Result<Diag, NoMemory>
+        ensures { IfOk result (λ diag. diag ≡ whole_file number file.now) }
+    {
+        Ok(Diag {
+            number,
+            at: Place {
+                file: file.copy()?,
+                line: 0,
+                col: 0,
+            },
+            names: List::new(alloc),
+        })
+    }
 }

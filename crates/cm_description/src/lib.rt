@@ -4,5 +4,5 @@
 mod first_form;
 mod project;
 
-pub use first_form::read_first;
+pub use first_form::{is_name_byte, read_first};
 pub use project::{Project, Unit};

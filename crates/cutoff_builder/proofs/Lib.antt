@@ -1,2 +1,5 @@
+pub mod BuildLemmas
 pub mod DoneLemmas
 pub mod Fronts
+pub mod StoreLemmas
+pub mod UnitLemmas

@@ -7,10 +7,10 @@ use Rattle.cm_base.specs.declared.fault.Fault.TheVariants as fault
 use Rattle.cm_base.specs.declared.record.Built.{Built}
 use Rattle.cm_base.specs.declared.record.BuiltUnit.{BuiltUnit}
 use Rattle.cm_base.specs.declared.record.Given.{Given}
-use Rattle.cutoff_builder.specs.declared.build.BuildFault.{BuildFault}
-use Rattle.cutoff_builder.specs.declared.build.BuildFault.TheVariants as stop
-use Rattle.cutoff_builder.specs.declared.build.UnitFault.{UnitFault}
-use Rattle.cutoff_builder.specs.declared.build.UnitFault.TheVariants as unit_stop
+use Rattle.cutoff_builder.specs.declared.builder.BuildFault.{BuildFault}
+use Rattle.cutoff_builder.specs.declared.builder.BuildFault.TheVariants as stop
+use Rattle.cutoff_builder.specs.declared.builder.UnitFault.{UnitFault}
+use Rattle.cutoff_builder.specs.declared.builder.UnitFault.TheVariants as unit_stop
 use Rattle.cutoff_builder.specs.declared.planned.PlannedUnit.{PlannedUnit}
 use Rattle.cutoff_builder.specs.PlainBuild.{Build, done_unit, interface_bytes}
 use Rattle.cutoff_builder.specs.Stored.{put_unit, put_units, StoresUnit, LeftByBuild}

@@ -9,14 +9,11 @@ use Rattle.cm_base.specs.declared.record.Compiled.{Compiled}
 use Rattle.cm_base.specs.declared.record.Given.{Given}
 use Rattle.cm_base.specs.declared.record.How.TheVariants as how
 use Rattle.cm_base.specs.declared.record.BuiltUnit.{BuiltUnit}
+use Rattle.cm_base.specs.Diags.{whole_file}
 use Rattle.cm_bytes.specs.Hashes.{hash_of}
 use Rattle.cutoff_builder.specs.declared.planned.PlannedUnit.{PlannedUnit}
 use Rattle.cutoff_builder.specs.declared.planned.WantedName.{WantedName}
 use Rattle.cutoff_builder.specs.declared.limits.TheConstants.{INTERFACE, CODE, ALL_INTERFACES}
-
--- a diagnostic on a whole file, without names
-abbrev pub whole_file : ℕ → List ℕ → Diag
-whole_file number file = record { number = number; at = record { file = file; line = 0; col = 0 }; names = [] }
 
 -- the unit of this name among those that are done: the last one, of several
 abbrev pub done_unit : List BuiltUnit → List ℕ → Option BuiltUnit

@@ -1,14 +1,16 @@
 -- What a build leaves in the store: of each unit that is done its interface file and its binfile.
-use Rattle.std.specs.Prelude.{ℕ, ◌≡◌, ◌⊎◌, List, [], ◌∷◌, ◌++◌, Option, Some, None, take, slice_get}
+use Rattle.std.specs.Prelude.{ℕ, ◌≡◌, ◌⊎◌, ◌<◌, ◌^◌, length, All, List, [], ◌∷◌, ◌++◌, Option, Some, None, take, slice_get}
 use Rattle.std.specs.FinMap.{insert}
 use Rattle.cm_base.specs.Files.{Files, told}
-use Rattle.cm_base.specs.Keeping.{Touches}
+use Rattle.std.specs.List.{AllByRecursion}
 use Rattle.cm_base.specs.declared.record.BuiltUnit.{BuiltUnit}
 use Rattle.bin_store.specs.declared.bin.Bin.{Bin}
-use Rattle.bin_store.specs.Format.{binfile, interface_file}
+use Rattle.cm_bytes.specs.Hashes.{hash_of}
+use Rattle.bin_store.specs.Format.{binfile, interface_file, IsShortBin}
 use Rattle.bin_store.specs.Paths.{bin_path, interface_path}
-use Rattle.bin_store.specs.Stored.{with_interface, PutsInterface}
+use Rattle.bin_store.specs.Stored.{with_interface, PutsInterface, PutsBin}
 use Rattle.cutoff_builder.specs.declared.planned.PlannedUnit.{PlannedUnit}
+use Rattle.cutoff_builder.specs.declared.planned.WantedName.{WantedName}
 use Rattle.cutoff_builder.specs.PlainBuild.{Build}
 
 -- the binfile's value of a unit that is done
@@ -43,13 +45,34 @@ put_units files (planned ∷ more) (unit ∷ units) = put_units (put_unit files 
 abbrev pub unit_paths : BuiltUnit → List (List ℕ)
 unit_paths unit = interface_path unit.hash ∷ bin_path unit.unit ∷ []
 
+pub record IsShortWanted (wanted : WantedName) : Type 0 where
+  pub name : length wanted.name.name < 2 ^ 32
+  pub provider : length wanted.provider < 2 ^ 32
+
 -- what storing a unit leaves, whatever it answers: what a put of its interface leaves, and then, where that was
--- put, what a write of its binfile leaves
+-- put, what a put of its binfile leaves
 pub record StoresUnit (old new : Option Files) (planned : PlannedUnit) (unit : BuiltUnit) : Type 0 where
   pub between : Option Files
   pub interface : PutsInterface old between unit.interface
   pub bin : (new ≡ between) ⊎ ((between ≡ told (λ files. with_interface files unit.interface) old)
-      × Touches between new (bin_path planned.unit) (binfile (bin_of_unit planned unit)))
+      × PutsBin between new (bin_of_unit planned unit))
+
+-- texts and lists of fewer than 2^32 bytes and items
+pub record IsShortPlanned (planned : PlannedUnit) : Type 0 where
+  pub unit : length planned.unit < 2 ^ 32
+  pub source : length planned.source < 2 ^ 32
+  pub defined : length planned.skeleton.defined < 2 ^ 32
+  pub each_defined : All (λ spot. length spot.name.name < 2 ^ 32) planned.skeleton.defined
+  pub free : length planned.skeleton.free < 2 ^ 32
+  pub each_free : All (λ need. length need.spot.name.name < 2 ^ 32) planned.skeleton.free
+  pub wanted : length planned.wanted < 2 ^ 32
+  pub each_wanted : AllByRecursion IsShortWanted planned.wanted
+
+-- a unit that can be stored: it has its interface's hash, and the texts and lists of its binfile are short
+pub record IsStorable (planned : PlannedUnit) (unit : BuiltUnit) : Type 0 where
+  pub hash : unit.hash ≡ hash_of unit.interface
+  pub short : IsShortBin (bin_of_unit planned unit)
+  pub interface : length unit.interface < 2 ^ 32
 
 -- what a build leaves that was cut off: some first units are stored, and perhaps the next one as far as it came
 pub record LeftByBuild (old new : Option Files) (planned : List PlannedUnit) (build : Build) : Type 0 where

@@ -2,14 +2,14 @@
 //! the store, exactly as the plain build of the project defines.
 #![tactic(auto)]
 
-mod build;
+mod builder;
 mod done;
 mod limits;
 mod planned;
+mod store;
 mod unit;
 
-pub use build::{BuildFault, UnitFault};
-pub use done::Done;
+pub use builder::{BuildFault, build};
+
 pub use limits::{ALL_INTERFACES, CODE, INTERFACE};
 pub use planned::{PlannedUnit, WantedName};
-pub use unit::whole_file;

@@ -4,11 +4,11 @@ ghost use Rattle.std.specs.Prelude.{◌≡◌, ◌<◌, ◌≤◌, ◌+◌, ◌�
 ghost use Rattle.cm_base.specs.Calls.{Answers, Grows};
 ghost use Rattle.cutoff_builder.specs.Answers.{Gives, Asks};
 ghost use Rattle.cutoff_builder.specs.Doing.{IsDone};
-ghost use Rattle.cutoff_builder.specs.PlainBuild.{given_by, givens_of, asked_for, unit_after, unit_given, within_limits, is_too_large, interface_bytes, whole_file};
+ghost use Rattle.cutoff_builder.specs.PlainBuild.{given_by, givens_of, asked_for, unit_after, unit_given, within_limits, is_too_large, interface_bytes};
 
 use cm_base::{
     BuiltUnit, CompileFault, CompileInput, Compiled, Compiler, Diag, Fault, Given, How, Import, List,
-    NoMemory, Place, Text,
+    NoMemory,
 };
 use cm_bytes::pid_of;
 use std::alloc::Global;
@@ -16,21 +16,6 @@ use std::alloc::Global;
 use crate::done::Done;
 use crate::limits::{ALL_INTERFACES, CODE, INTERFACE};
 use crate::planned::{PlannedUnit, WantedName};
-
-/// A diagnostic on a whole file, without names.
-pub fn whole_file(alloc: Global, number: u8, file: &Text) -> Result<Diag, NoMemory>
-    ensures { IfOk result (λ diag. diag ≡ whole_file number file.now) }
-{
-    Ok(Diag {
-        number,
-        at: Place {
-            file: file.copy()?,
-            line: 0,
-            col: 0,
-        },
-        names: List::new(alloc),
-    })
-}
 
 /// A wanted name with the hash and the interface of its provider.
 fn given(wanted: &WantedName, unit: &BuiltUnit) -> Result<Given, NoMemory>
@@ -96,7 +81,7 @@ fn finished(alloc: Global, input: CompileInput, before: u64, made: Compiled) -> 
     ensures room { IfOk result (λ unit. before + length unit.interface ≤ ALL_INTERFACES) }
 {
     if is_too_large(before, &made) {
-        return Err(Fault::Diag(whole_file(alloc, 12, &input.unit)?));
+        return Err(Fault::Diag(Diag::on_file(alloc, 12, &input.unit)?));
     }
     let imports = imports(alloc, input.imports.as_slice())?;
     let hash = pid_of(made.interface.as_bytes());
@@ -147,7 +132,7 @@ pub fn compile_unit<C: Compiler>(
     ensures room { IfOk result (λ unit. done.now.interface_bytes + length unit.interface ≤ ALL_INTERFACES) }
 {
     let Some(imports) = givens(alloc, done, planned.wanted.as_slice())? else {
-        return Err(Fault::Diag(whole_file(alloc, 60, &planned.unit)?));
+        return Err(Fault::Diag(Diag::on_file(alloc, 60, &planned.unit)?));
     };
     let input = CompileInput {
         unit: planned.unit.copy()?,

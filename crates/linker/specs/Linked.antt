@@ -1,6 +1,6 @@
 -- The linked program of the units that a build has done: each unit with the places of the units that it imports
 -- from, and its code.
-use Rattle.std.specs.Prelude.{ℕ, ◌≡◌, ◌+◌, Bool, true, false, List, [], ◌∷◌, ◌++◌, Option, Some, None, map, length, nat_eq, if◌then◌else◌}
+use Rattle.std.specs.Prelude.{ℕ, ◌≡◌, ◌+◌, ◌<◌, ◌^◌, List, [], ◌∷◌, Option, Some, None, map, length, nat_eq, if◌then◌else◌, All}
 use Rattle.std.specs.Option.{option_or, unwrap_or}
 use lib.Pointwise.{pointwise}
 use Rattle.cm_base.specs.declared.record.Import.{Import}
@@ -16,21 +16,29 @@ place_from first [] name = None
 place_from first (unit ∷ units) name =
     option_or (place_from (first + 1) units name) (if pointwise nat_eq unit.unit name then Some first else None)
 
--- an import by the place of its provider; a provider that isn't there has place 0, which an order never has
-abbrev pub linked_import : List BuiltUnit → Import → LinkedImport
-linked_import units import = record { name = import.name; from = unwrap_or (place_from 0 units import.provider) 0 }
+-- an import by the place of its provider; a provider that has none gets 0, which an order never needs
+abbrev pub import_at : (List ℕ → Option ℕ) → Import → LinkedImport
+import_at place import = record { name = import.name; from = unwrap_or (place import.provider) 0 }
 
-abbrev pub linked_unit : List BuiltUnit → BuiltUnit → LinkedUnit
-linked_unit units unit = record { unit = unit.unit; imports = map (linked_import units) unit.imports; code = unit.code }
+-- a unit with the places of the units that it imports from
+abbrev pub unit_at : (List ℕ → Option ℕ) → BuiltUnit → LinkedUnit
+unit_at place unit = record { unit = unit.unit; imports = map (import_at place) unit.imports; code = unit.code }
 
 -- the units, linked
 unfoldable pub link_of : List BuiltUnit → Linked
-link_of units = record { units = map (linked_unit units) units }
+link_of units = record { units = map (unit_at (place_from 0 units)) units }
 
 -- the bytes of the linked program
 abbrev pub linked_program : List BuiltUnit → List ℕ
 linked_program units = linked_file (link_of units)
 
--- a table of places has that of each name
+-- a table of places has for each name that of its unit
 abbrev pub IsPlaces : (List ℕ → Option ℕ) → List BuiltUnit → Type 0
-IsPlaces table units = (name : List ℕ) → table name ≡ place_from 0 units name
+IsPlaces table units = table ≡ place_from 0 units
+
+-- a unit of a build whose texts and list of imports are shorter than 2^32
+pub record IsShortBuilt (unit : BuiltUnit) : Type 0 where
+  pub name : length unit.unit < 2 ^ 32
+  pub imports : length unit.imports < 2 ^ 32
+  pub code : length unit.code < 2 ^ 32
+  pub each : All (λ import. length import.name.name < 2 ^ 32) unit.imports

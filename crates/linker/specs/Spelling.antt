@@ -1,7 +1,6 @@
 -- The format of a linked program: `CML1` and the list of its units; of each its name, its imports (the byte of
 -- the name space, the name, and the place of an earlier unit), and its code.
-use Rattle.std.specs.Prelude.{ℕ, List, ◌∷◌, ◌++◌}
-use Rattle.cm_base.specs.declared.record.ModName.{ModName}
+use Rattle.std.specs.Prelude.{ℕ, ◌<◌, ◌^◌, List, ◌∷◌, ◌++◌, length, All}
 use Rattle.cm_base.specs.declared.record.Namespace.{Namespace}
 use Rattle.cm_base.specs.declared.record.Namespace.TheVariants as space
 use Rattle.cm_bytes.specs.Fields.{u32_of, text_of, list_of}
@@ -23,3 +22,28 @@ linked_unit_of unit = text_of unit.unit ++ (list_of linked_import_of unit.import
 
 unfoldable pub linked_file : Linked → List ℕ
 linked_file linked = 67 ∷ 77 ∷ 76 ∷ 49 ∷ list_of linked_unit_of linked.units
+
+-- a name of fewer than 2^32 bytes
+pub record IsShortImport (import : LinkedImport) : Type 0 where
+  pub name : length import.name.name < 2 ^ 32
+
+-- a unit whose texts and list of imports are shorter than 2^32
+pub record IsShortUnit (unit : LinkedUnit) : Type 0 where
+  pub name : length unit.unit < 2 ^ 32
+  pub imports : length unit.imports < 2 ^ 32
+  pub code : length unit.code < 2 ^ 32
+  pub each : All IsShortImport unit.imports
+
+-- a program whose texts and lists are shorter than 2^32
+pub record IsShort (linked : Linked) : Type 0 where
+  pub units : length linked.units < 2 ^ 32
+  pub each : All IsShortUnit linked.units
+
+-- a unit whose imports have places of four bytes
+pub record HasSmallPlaces (unit : LinkedUnit) : Type 0 where
+  pub each : All (λ import. import.from < 2 ^ 32) unit.imports
+
+-- a program that the format can spell
+pub record CanBeSpelled (linked : Linked) : Type 0 where
+  pub short : IsShort linked
+  pub places : All HasSmallPlaces linked.units

@@ -1,10 +1,14 @@
 //! The linker: from the units that a build has done to the bytes of the linked program.
 #![tactic(auto)]
 
-mod link;
+pub mod laws;
+mod linking;
 mod program;
-//mod write;
+mod writing;
 
-//pub use link::link;
+pub use linking::link;
 pub use program::{Linked, LinkedImport, LinkedUnit};
-//pub use write::write_linked;
+pub use writing::write_linked;
+
+#[cfg(test)]
+mod tests;

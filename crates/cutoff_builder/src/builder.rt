@@ -1,0 +1,103 @@
+//! The build of a project: its units in order, each compiled and stored.
+
+ghost use Rattle.std.specs.Prelude.{◌≡◌, ◌≤◌, Err, OnOk, All};
+ghost use Rattle.cm_base.specs.Causes.{HasCause};
+ghost use Rattle.cutoff_builder.specs.Answers.{GivesUnit, UnitStored, UnitAsked, GivesBuild, BuildStored, BuildAsked};
+ghost use Rattle.cutoff_builder.specs.Doing.{IsDone};
+ghost use Rattle.cutoff_builder.specs.PlainBuild.{unit_after, asked_for, givens_of, plain_build};
+ghost use Rattle.cutoff_builder.specs.Stored.{IsShortPlanned};
+
+use bin_store::StoreFault;
+use cm_base::{Built, Compiler, Diag, Fault, Folder, NoMemory};
+use std::alloc::Global;
+
+use crate::done::Done;
+use crate::limits::ALL_INTERFACES;
+use crate::planned::PlannedUnit;
+use crate::store::store_unit;
+use crate::unit::compile_unit;
+
+/// Why a build stopped: a diagnostic, with the units done before it; a failing folder; or want of memory.
+#[derive(Debug, Drop)]
+pub enum BuildFault {
+    Stop { diag: Diag, done: Built },
+    Folder,
+    NoMemory,
+}
+
+/// Why a unit wasn't done.
+#[derive(Debug, Drop)]
+pub enum UnitFault {
+    Diag(Diag),
+    Folder,
+    NoMemory,
+}
+
+/// Builds one unit after those that are done: it is compiled and then stored.
+fn build_unit<F: Folder, C: Compiler>(
+    alloc: Global,
+    folder: &mut F,
+    compiler: &mut C,
+    planned: &PlannedUnit,
+    done: &mut Done,
+) -> Result<(), UnitFault>
+    requires done { IsDone done.old }
+    requires few { done.old.interface_bytes ≤ ALL_INTERFACES }
+    requires short { IsShortPlanned planned.now }
+    ensures cause { HasCause (F.faults folder.old) (F.faults folder.new) (result ≡ Err UnitFault.Folder) }
+    ensures gives { GivesUnit result (unit_after C.compiled done.old.units planned.now) done.old.units done.new.units }
+    ensures stored { UnitStored result (unit_after C.compiled done.old.units planned.now)
+        (F.holds folder.old) (F.holds folder.new) planned.now }
+    ensures asked { UnitAsked result (C.asked compiler.old) (C.asked compiler.new)
+        (asked_for planned.now (givens_of done.old.units planned.now.wanted)) }
+    ensures same { C.asked_skeletons compiler.new ≡ C.asked_skeletons compiler.old }
+    ensures done { OnOk result (IsDone done.new) }
+    ensures few { OnOk result (done.new.interface_bytes ≤ ALL_INTERFACES) }
+{
+    let unit = match compile_unit(alloc, compiler, planned, done) {
+        Ok(unit) => unit,
+        Err(Fault::Diag(diag)) => return Err(UnitFault::Diag(diag)),
+        Err(Fault::NoMemory) => return Err(UnitFault::NoMemory),
+    };
+    match store_unit(alloc, folder, planned, &unit) {
+        Ok(()) => {}
+        Err(StoreFault::Folder) => return Err(UnitFault::Folder),
+        Err(StoreFault::NoMemory) => return Err(UnitFault::NoMemory),
+    }
+    match done.add(unit) {
+        Ok(()) => Ok(()),
+        Err(NoMemory) => Err(UnitFault::NoMemory),
+    }
+}
+
+/// Builds the units in their order, as the plain build defines it, and leaves them in the store. It stops at the
+/// first diagnostic, where the folder fails, or for want of memory.
+pub fn build<F: Folder, C: Compiler>(
+    alloc: Global,
+    folder: &mut F,
+    compiler: &mut C,
+    units: &[PlannedUnit],
+) -> Result<Built, BuildFault>
+    requires { All IsShortPlanned units.now }
+    ensures cause { HasCause (F.faults folder.old) (F.faults folder.new) (result ≡ Err BuildFault.Folder) }
+    ensures gives { GivesBuild result (plain_build C.compiled units.now) }
+    ensures stored { BuildStored result (F.holds folder.old) (F.holds folder.new) units.now (plain_build C.compiled units.now) }
+    ensures asked { BuildAsked result (C.asked compiler.old) (C.asked compiler.new) (plain_build C.compiled units.now).asked }
+    ensures same { C.asked_skeletons compiler.new ≡ C.asked_skeletons compiler.old }
+{
+    let mut done = Done::none(alloc);
+    for planned in units {
+        match build_unit(alloc, folder, compiler, planned, &mut done) {
+            Ok(()) => {}
+            Err(UnitFault::Diag(diag)) => {
+                return Err(BuildFault::Stop {
+                    diag,
+                    done: Built { units: done.units },
+                });
+            }
+            Err(UnitFault::Folder) => return Err(BuildFault::Folder),
+            Err(UnitFault::NoMemory) => return Err(BuildFault::NoMemory),
+        }
+    }
+    Ok(Built { units: done.units })
+}

@@ -1,0 +1,13 @@
+pub mod Complete
+pub mod Sound
+pub mod Fronts
+pub mod Choices
+pub mod Rounds
+pub mod Follows
+pub mod Values
+pub mod Texts
+pub mod Wider
+pub mod Lawful
+pub mod SumSteps
+pub mod SumHeights
+pub mod SumLimits

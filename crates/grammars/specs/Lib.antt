@@ -1,0 +1,11 @@
+pub mod Grammar
+pub mod Front
+pub mod Reading
+pub mod After
+pub mod Texts
+pub mod Wider
+pub mod Laws
+pub mod Shape
+pub mod Sums
+pub mod Seen
+pub mod Answers

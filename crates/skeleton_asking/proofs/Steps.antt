@@ -1,0 +1,121 @@
+-- The steps of the asking, one unit after the other.
+use Rattle.std.proofs.Common.{◌≡◌, ◌∙◌, sym, ap, subst, refl, ℕ, suc, ◌+◌, ◌<◌, ◌≤◌, List, [], ◌∷◌, ◌++◌, append-nil, append_assoc, length, drop, get_or, None, add-one, drop-cons}
+use Rattle.std.specs.Prelude.{Result, Ok, Err, IsErrAnd}
+use Rattle.std.proofs.lemmas.List.{drop_all}
+use Rattle.cm_base.specs.declared.diag.Diag.{Diag}
+use Rattle.cm_base.specs.declared.fault.Fault.{Fault}
+use Rattle.cm_base.specs.declared.fault.Fault.TheVariants as fault
+use Rattle.cm_base.specs.declared.record.Skeleton.{Skeleton}
+use Rattle.cm_description.specs.declared.project.Unit.{Unit as SourceUnit}
+use Rattle.skeleton_asking.specs.Answers.{Gives, Asks, GivesSkeletons, IsFront}
+use Rattle.skeleton_asking.specs.Skeletons.{Skeletons, then_skeletons, skeletons_of}
+
+-- what was found and asked before, and the rest, are all that is found and asked
+pub record Continues (before : List Skeleton) (old now : List (List ℕ)) (rest all : Skeletons) : Type 0 where
+  pub found : before ++ rest.found ≡ all.found
+  pub ended : rest.ended ≡ all.ended
+  pub asked : now ++ rest.asked ≡ old ++ all.asked
+
+-- the units that are left begin with the one that is asked for
+pub left_at : (units : List SourceUnit) (i : ℕ) (unit : SourceUnit) → i < length units → unit ≡ get_or units i unit
+    → drop i units ≡ unit ∷ drop (i + 1) units
+left_at units i unit lt is = drop-cons units i unit lt ∙ ap (λ u. u ∷ drop (suc i) units) (sym is) ∙ ap (λ n. unit ∷ drop n units) (sym (add-one i))
+
+-- the rest where the first of it is answered so
+pub rest_at : (skel : List ℕ → List ℕ → Result Skeleton Diag) (units : List SourceUnit) (i : ℕ) (unit : SourceUnit) (answer : Result Skeleton Diag)
+    → i < length units → unit ≡ get_or units i unit → skel unit.name unit.source ≡ answer
+    → skeletons_of skel (drop i units) ≡ then_skeletons unit.name answer (skeletons_of skel (drop (i + 1) units))
+rest_at skel units i unit answer lt here is =
+    ap (skeletons_of skel) (left_at units i unit lt here) ∙ ap (λ a. then_skeletons unit.name a (skeletons_of skel (drop (i + 1) units))) is
+
+-- one skeleton goes from the rest to those before it
+pub continues_more : (before next : List Skeleton) (old now new : List (List ℕ)) (name : List ℕ) (skeleton : Skeleton) (rest whole all : Skeletons)
+    → next ≡ before ++ skeleton ∷ [] → new ≡ now ++ name ∷ [] → rest ≡ then_skeletons name (Ok skeleton) whole
+    → Continues before old now rest all → Continues next old new whole all
+continues_more before next old now new name skeleton rest whole all pushed grown is so = record {
+  found = ap (λ n. n ++ whole.found) pushed ∙ append_assoc before (skeleton ∷ []) whole.found ∙ ap (λ r. before ++ r.found) (sym is) ∙ so.found;
+  ended = ap (λ r. r.ended) (sym is) ∙ so.ended;
+  asked = ap (λ n. n ++ whole.asked) grown ∙ append_assoc now (name ∷ []) whole.asked ∙ ap (λ r. now ++ r.asked) (sym is) ∙ so.asked;
+}
+
+-- what was asked so far is a front of all that is asked
+pub asked_front : (before : List Skeleton) (old now : List (List ℕ)) (rest all : Skeletons)
+    → Continues before old now rest all → IsFront now (old ++ all.asked)
+asked_front before old now rest all so = (rest.asked, so.asked)
+
+-- a unit is asked for, and the answer is want of memory
+front_one : (before : List Skeleton) (old now new : List (List ℕ)) (name : List ℕ) (more : List (List ℕ)) (rest all : Skeletons)
+    → rest.asked ≡ name ∷ more → IsFront new (now ++ name ∷ []) → Continues before old now rest all → IsFront new (old ++ all.asked)
+front_one before old now new name more rest all is front so = (
+  front.0 ++ more,
+  sym (append_assoc new front.0 more) ∙ ap (λ l. l ++ more) front.1 ∙ append_assoc now (name ∷ []) more
+      ∙ ap (λ l. now ++ l) (sym is) ∙ so.asked,
+)
+
+-- what a unit's answer asks of the compiler begins with the unit
+asked_first : (name : List ℕ) (answer : Result Skeleton Diag) (rest : Skeletons)
+    → (more : List (List ℕ)) × ((then_skeletons name answer rest).asked ≡ name ∷ more)
+asked_first name (Ok skeleton) rest = (rest.asked, refl)
+asked_first name (Err diag) rest = ([], refl)
+
+-- a refused unit ends the asking
+pub stops_gives : (e : Fault) (skel : List ℕ → List ℕ → Result Skeleton Diag) (units : List SourceUnit) (i : ℕ) (unit : SourceUnit)
+    (before : List Skeleton) (old now : List (List ℕ)) (all : Skeletons)
+    → i < length units → unit ≡ get_or units i unit → Gives {A = Skeleton} (Err e) (skel unit.name unit.source)
+    → Continues before old now (skeletons_of skel (drop i units)) all → GivesSkeletons (Err e) all
+stops_gives (fault.Diag diag) skel units i unit before old now all lt here is so =
+    sym so.ended ∙ ap (λ r. r.ended) (rest_at skel units i unit (Err diag) lt here is)
+stops_gives fault.NoMemory skel units i unit before old now all lt here is so = tt
+
+-- .. and what was asked is what it defines, or a front of it
+pub stops_asks : (e : Fault) (skel : List ℕ → List ℕ → Result Skeleton Diag) (units : List SourceUnit) (i : ℕ) (unit : SourceUnit)
+    (before : List Skeleton) (old now new : List (List ℕ)) (all : Skeletons)
+    → i < length units → unit ≡ get_or units i unit → Gives {A = Skeleton} (Err e) (skel unit.name unit.source)
+    → Asks {A = Skeleton} (Err e) now new (unit.name ∷ [])
+    → Continues before old now (skeletons_of skel (drop i units)) all → Asks {A = List Skeleton} (Err e) old new all.asked
+stops_asks (fault.Diag diag) skel units i unit before old now new all lt here is grown so =
+    grown ∙ ap (λ r. now ++ r.asked) (sym (rest_at skel units i unit (Err diag) lt here is)) ∙ so.asked
+stops_asks fault.NoMemory skel units i unit before old now new all lt here is grown so =
+    let first = asked_first unit.name (skel unit.name unit.source) (skeletons_of skel (drop (i + 1) units)) in
+    front_one before old now new unit.name first.0 (skeletons_of skel (drop i units)) all
+    (ap (λ r. r.asked) (rest_at skel units i unit (skel unit.name unit.source) lt here refl) ∙ first.1) grown so
+
+-- where no memory is left for an answer, what was asked is a front of all that is asked
+pub kept_asks : (skel : List ℕ → List ℕ → Result Skeleton Diag) (units : List SourceUnit) (i : ℕ) (unit : SourceUnit)
+    (skeleton : Skeleton) (before : List Skeleton) (old now new : List (List ℕ)) (all : Skeletons)
+    → i < length units → unit ≡ get_or units i unit → skel unit.name unit.source ≡ Ok skeleton → new ≡ now ++ unit.name ∷ []
+    → Continues before old now (skeletons_of skel (drop i units)) all → IsFront new (old ++ all.asked)
+kept_asks skel units i unit skeleton before old now new all lt here is grown so =
+    let whole = skeletons_of skel (drop (i + 1) units) in
+    let more = continues_more before (before ++ skeleton ∷ []) old now new unit.name skeleton
+    (skeletons_of skel (drop i units)) whole all refl grown (rest_at skel units i unit (Ok skeleton) lt here is) so in
+    (whole.asked, more.asked)
+
+-- after the last unit all is found
+all_found : (skel : List ℕ → List ℕ → Result Skeleton Diag) (units : List SourceUnit) (i : ℕ)
+    (before : List Skeleton) (old now : List (List ℕ)) (all : Skeletons)
+    → length units ≤ i → Continues before old now (skeletons_of skel (drop i units)) all
+    → Continues before old now (skeletons_of skel []) all
+all_found skel units i before old now all end so =
+    subst (λ us. Continues before old now (skeletons_of skel us) all) (drop_all i units end) so
+
+-- what is given after the last unit
+pub all_gives : (skel : List ℕ → List ℕ → Result Skeleton Diag) (units : List SourceUnit) (i : ℕ)
+    (before : List Skeleton) (old now : List (List ℕ)) (all : Skeletons)
+    → length units ≤ i → Continues before old now (skeletons_of skel (drop i units)) all
+    → (all.found ≡ before) × (all.ended ≡ None)
+all_gives skel units i before old now all end so =
+    let whole = all_found skel units i before old now all end so in
+    (sym whole.found ∙ append-nil before, sym whole.ended)
+
+-- .. and all is asked
+pub all_asks : (skel : List ℕ → List ℕ → Result Skeleton Diag) (units : List SourceUnit) (i : ℕ)
+    (before : List Skeleton) (old now : List (List ℕ)) (all : Skeletons)
+    → length units ≤ i → Continues before old now (skeletons_of skel (drop i units)) all → now ≡ old ++ all.asked
+all_asks skel units i before old now all end so =
+    sym (append-nil now) ∙ (all_found skel units i before old now all end so).asked
+
+-- what holds of a fault holds of the answer that passes it on
+pub passed : {A E : Type 0} (r : Result A E) (e : E) (P : Result A E → Type 0) → IsErrAnd r (λ y. y ≡ e) → P (Err e) → P r
+passed (Ok value) e P is holds = absurd is
+passed (Err y) e P is holds = subst (λ y. P (Err y)) (sym is) holds

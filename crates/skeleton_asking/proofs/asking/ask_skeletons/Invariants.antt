@@ -1,0 +1,13 @@
+use Rattle.std.proofs.Common.{◌≡◌, drop, length}
+use Rattle.skeleton_asking.specs.Skeletons.{skeletons_of}
+use Rattle.skeleton_asking.proofs.Steps.{Continues}
+use Rattle.skeleton_asking.proofs.asking.ask_skeletons.Given as goal
+
+-- what is found and asked so far and what the rest defines are what all units define
+abbrev pub invariant-loop-unit : goal.invariant-loop-unit
+invariant-loop-unit g l = record {
+  count : length l.skeletons ≡ l.unit-index;
+  same : g.C.Compiler.asked l.compiler ≡ g.C.Compiler.asked l.fn.compiler;
+  so : Continues l.skeletons (g.C.Compiler.asked_skeletons l.fn.compiler) (g.C.Compiler.asked_skeletons l.compiler)
+      (skeletons_of g.C.Compiler.skel (drop l.unit-index l.units)) (skeletons_of g.C.Compiler.skel l.fn.units);
+}

@@ -1,0 +1,7 @@
+pub mod Apart
+pub mod Asked
+pub mod Imports
+pub mod Numbers
+pub mod Parts
+pub mod Short
+pub mod Vectors

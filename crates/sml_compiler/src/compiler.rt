@@ -1,0 +1,82 @@
+//! The compiler: it keeps what it was asked, and answers what its definitions say.
+
+ghost use Rattle.std.specs.Prelude.{◌≡◌, [], ◌∷◌, ◌++◌, IfOk, OnOk, OnErr};
+
+use crate::compiled::{binding_of, compiled_binding, skeleton_of};
+use cm_base::{CompileFault, CompileInput, Compiled, Compiler, List, NoMemory, Skeleton, Text};
+use std::alloc::Global;
+
+/// A compiler of structures that bind one integer. It keeps the units of its calls, in order.
+#[derive(Debug, Drop)]
+pub struct SmlCompiler {
+    pub asked_units: List<Text>,
+    pub asked_sources: List<Text>,
+}
+
+/// Adds a unit at the end of what was asked.
+fn ask(asked: &mut List<Text>, unit: &Text) -> Result<(), NoMemory>
+    ensures ok { OnOk result (asked.new ≡ asked.old ++ unit.now ∷ []) }
+    ensures err { OnErr result (asked.new ≡ asked.old) }
+{
+    let name = unit.copy()?;
+    match asked.push(name) {
+        Ok(()) => Ok(()),
+        Err(_name) => Err(NoMemory),
+    }
+}
+
+impl SmlCompiler {
+    /// A compiler that was asked nothing yet.
+    pub fn new(alloc: Global) -> Result<SmlCompiler, NoMemory>
+        ensures { IfOk result (λ compiler. compiler ≡ record { asked_units = []; asked_sources = [] }) }
+    {
+        Ok(SmlCompiler {
+            asked_units: List::new(alloc),
+            asked_sources: List::new(alloc),
+        })
+    }
+
+    /// The units that were compiled, in order. It takes no memory.
+    pub fn asked(&self) -> &List<Text>
+        ensures { result.now ≡ self.now.asked_units }
+    {
+        &self.asked_units
+    }
+
+    /// The units whose skeletons were asked for, in order. It takes no memory.
+    pub fn asked_skeletons(&self) -> &List<Text>
+        ensures { result.now ≡ self.now.asked_sources }
+    {
+        &self.asked_sources
+    }
+}
+
+#[tactic(auto, using(crate::proofs::Asked::asking))]
+impl Compiler for SmlCompiler {
+    ghost use Rattle.sml_compiler.specs.Compiled.{skeleton_definition, compiled_of};
+
+    ghost skel = { skeleton_definition };
+
+    ghost compiled = { compiled_of };
+
+    ghost asked = { λ compiler. compiler.asked_units };
+
+    ghost asked_skeletons = { λ compiler. compiler.asked_sources };
+
+    fn skeleton(
+        &mut self,
+        alloc: Global,
+        unit: &Text,
+        source: &Text,
+    ) -> Result<Skeleton, CompileFault> {
+        ask(&mut self.asked_sources, unit)?;
+        let binding = binding_of(alloc, unit, source)?;
+        Ok(skeleton_of(alloc, &binding)?)
+    }
+
+    fn compile(&mut self, alloc: Global, input: &CompileInput) -> Result<Compiled, CompileFault> {
+        ask(&mut self.asked_units, &input.unit)?;
+        let binding = binding_of(alloc, &input.unit, &input.source)?;
+        compiled_binding(alloc, input, &binding)
+    }
+}

@@ -1,0 +1,17 @@
+//! A compiler of structures that bind one integer.
+#![tactic(auto)]
+
+mod binding;
+mod code;
+mod compiled;
+mod compiler;
+mod first_form;
+mod identifier;
+mod interface;
+pub mod laws;
+
+pub use binding::{Binding, Bound, LongName};
+pub use compiler::SmlCompiler;
+
+#[cfg(test)]
+mod tests;
