@@ -36,3 +36,6 @@ pub use sure_folder::SureFolder;
 pub use sure_sink::SureSink;
 pub use text::Text;
 pub use tool::Tool;
+
+#[cfg(test)]
+mod tests;

@@ -64,6 +64,7 @@ impl MemFolder {
     pub fn new(alloc: Global) -> MemFolder
         ensures files { result.files ≡ empty }
         ensures plan { result.plan ≡ [] }
+        ensures calls { result.calls ≡ no_calls }
         ensures written { result.written ≡ [] }
         ensures faults { result.faults ≡ 0 }
     {
