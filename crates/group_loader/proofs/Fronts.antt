@@ -23,9 +23,11 @@ anchors_front max None = refl
 anchors_front max (Some bytes) = refl
 
 -- the members are those of the description's front
-pub members_front : (root : List ℕ) (file : Option (List ℕ)) → members_of root (front_read DESCRIPTION file) ≡ members_of root file
+pub members_front : (root : List ℕ) (file : Option (List ℕ))
+    → members_of root (front_read DESCRIPTION file) ≡ members_of root file
 members_front root None = refl
-members_front root (Some bytes) = by_front DESCRIPTION bytes (Err (whole_file 12 root)) (λ text. counted_members root (first_members text))
+members_front root (Some bytes) = by_front DESCRIPTION bytes (Err (whole_file 12 root))
+    (λ text. counted_members root (first_members text))
 
 -- the unit is that of the source's front
 pub source_front : (root : List ℕ) (sum : ℕ) (member : PlacedWord) (file : Option (List ℕ))

@@ -18,6 +18,7 @@ use Rattle.group_loader.specs.declared.limits.TheConstants.{WRITTEN_PATH, PATH_C
 unfoldable pub command_file : List ℕ
 command_file = codes "command"
 
+-- the file that binds path anchors
 unfoldable pub pathconfig_path : List ℕ
 pathconfig_path = codes "pathconfig"
 
@@ -30,7 +31,8 @@ abbrev pub ◌>>=◌ : {A B : Type 0} → Result A Diag → (A → Result B Diag
 -- whether a written path or one of its components passes its limit
 unfoldable pub is_long_path : List ℕ → Bool
 is_long_path path =
-    nat_lt WRITTEN_PATH (length path) || list_any (λ part. nat_lt PATH_COMPONENT (length part)) (slice_split (λ byte. byte == 47) path)
+    nat_lt WRITTEN_PATH (length path)
+    || list_any (λ part. nat_lt PATH_COMPONENT (length part)) (slice_split (λ byte. byte == 47) path)
 
 -- a ROOT of the first form: one component of letters, digits, `_`, `.` and `-`, other than `.`, `..` and `.cm`
 unfoldable pub is_root_name : List ℕ → Bool
@@ -49,15 +51,17 @@ abbrev pub without_anchors : Option (List ℕ) → Result (Unit {0}) Diag
 without_anchors None = Ok tt
 without_anchors (Some text) = Err (whole_file 60 pathconfig_path)
 
--- the members of ROOT: 1 where it isn't there, 12 where it or their number is too large, 60 for a text of another form
+-- the members that a text of the first form names: 12 where they are too many, and 60 for a text of another form
 abbrev pub counted_members : List ℕ → Option (List PlacedWord) → Result (List PlacedWord) Diag
 counted_members root None = Err (whole_file 60 root)
 counted_members root (Some members) =
     if nat_lt MEMBERS (length members) then Err (whole_file 12 root) else Ok members
 
+-- a ROOT that isn't there
 abbrev pub missing_root : List ℕ → Diag
 missing_root root = record { number = 1; at = record { file = command_file; line = 0; col = 0 }; names = root ∷ [] }
 
+-- the members of ROOT: 1 where it isn't there, and 12 where it or the number of its members is too large
 abbrev pub members_of : List ℕ → Option (List ℕ) → Result (List PlacedWord) Diag
 members_of root None = Err (missing_root root)
 members_of root (Some text) =
@@ -71,6 +75,7 @@ missing_member root member = record {
   names = member.text ∷ [];
 }
 
+-- a member's options in this form: none is set
 abbrev pub plain_options : Options
 plain_options = record { nobasis = false; opaque = false }
 
@@ -82,6 +87,7 @@ source_found root sum member (Some source) =
     else (if nat_lt ALL_SOURCES (sum + length source) then Err (whole_file 12 member.text)
     else Ok (record { name = member.text; options = plain_options; source = source }))
 
+-- a member's unit after sources of so many bytes: 12 where its path is too long
 abbrev pub unit_of : Files → List ℕ → ℕ → PlacedWord → Result SourceUnit Diag
 unit_of files root sum member =
     if is_long_path member.text then Err (whole_file 12 root) else source_found root sum member (get files member.text)

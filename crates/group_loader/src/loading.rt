@@ -25,7 +25,8 @@ fn read_front<F: Folder>(
 ) -> Result<Option<Text>, FolderFault>
     ensures cause { HasCause (F.faults folder.old) (F.faults folder.new) (result ≡ Err FolderFault.Failed) }
     ensures same { F.holds folder.new ≡ F.holds folder.old }
-    ensures read { Told (F.holds folder.old) (λ files. IfOk result (λ found. found ≡ front_read max (get files path.now))) }
+    ensures read { Told (F.holds folder.old) (λ files. IfOk result (λ found.
+        found ≡ front_read max (get files path.now))) }
 {
     let mut bytes = Vec::new(alloc);
     if folder.read(alloc, path, max, &mut bytes)? {

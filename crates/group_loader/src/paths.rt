@@ -35,7 +35,8 @@ fn is_long_part(part: &[u8]) -> bool
 
 /// Whether a component of a path passes its limit.
 fn has_long_part(path: &[u8]) -> bool
-    ensures { result ≡ list_any (λ part. nat_lt PATH_COMPONENT (length part)) (slice_split (λ byte. byte == 47) path.now) }
+    ensures { result ≡ list_any (λ part. nat_lt PATH_COMPONENT (length part))
+        (slice_split (λ byte. byte == 47) path.now) }
 {
     path.split(|byte| *byte == b'/')
         .any(|part| is_long_part(part))

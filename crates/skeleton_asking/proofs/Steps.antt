@@ -19,23 +19,29 @@ pub record Continues (before : List Skeleton) (old now : List (List ℕ)) (rest 
 -- the units that are left begin with the one that is asked for
 pub left_at : (units : List SourceUnit) (i : ℕ) (unit : SourceUnit) → i < length units → unit ≡ get_or units i unit
     → drop i units ≡ unit ∷ drop (i + 1) units
-left_at units i unit lt is = drop-cons units i unit lt ∙ ap (λ u. u ∷ drop (suc i) units) (sym is) ∙ ap (λ n. unit ∷ drop n units) (sym (add-one i))
+left_at units i unit lt is = drop-cons units i unit lt ∙ ap (λ u. u ∷ drop (suc i) units) (sym is)
+    ∙ ap (λ n. unit ∷ drop n units) (sym (add-one i))
 
 -- the rest where the first of it is answered so
-pub rest_at : (skel : List ℕ → List ℕ → Result Skeleton Diag) (units : List SourceUnit) (i : ℕ) (unit : SourceUnit) (answer : Result Skeleton Diag)
+pub rest_at : (skel : List ℕ → List ℕ → Result Skeleton Diag) (units : List SourceUnit) (i : ℕ) (unit : SourceUnit)
+    (answer : Result Skeleton Diag)
     → i < length units → unit ≡ get_or units i unit → skel unit.name unit.source ≡ answer
     → skeletons_of skel (drop i units) ≡ then_skeletons unit.name answer (skeletons_of skel (drop (i + 1) units))
 rest_at skel units i unit answer lt here is =
-    ap (skeletons_of skel) (left_at units i unit lt here) ∙ ap (λ a. then_skeletons unit.name a (skeletons_of skel (drop (i + 1) units))) is
+    ap (skeletons_of skel) (left_at units i unit lt here)
+      ∙ ap (λ a. then_skeletons unit.name a (skeletons_of skel (drop (i + 1) units))) is
 
 -- one skeleton goes from the rest to those before it
-pub continues_more : (before next : List Skeleton) (old now new : List (List ℕ)) (name : List ℕ) (skeleton : Skeleton) (rest whole all : Skeletons)
+pub continues_more : (before next : List Skeleton) (old now new : List (List ℕ)) (name : List ℕ)
+    (skeleton : Skeleton) (rest whole all : Skeletons)
     → next ≡ before ++ skeleton ∷ [] → new ≡ now ++ name ∷ [] → rest ≡ then_skeletons name (Ok skeleton) whole
     → Continues before old now rest all → Continues next old new whole all
 continues_more before next old now new name skeleton rest whole all pushed grown is so = record {
-  found = ap (λ n. n ++ whole.found) pushed ∙ append_assoc before (skeleton ∷ []) whole.found ∙ ap (λ r. before ++ r.found) (sym is) ∙ so.found;
+  found = ap (λ n. n ++ whole.found) pushed ∙ append_assoc before (skeleton ∷ []) whole.found
+    ∙ ap (λ r. before ++ r.found) (sym is) ∙ so.found;
   ended = ap (λ r. r.ended) (sym is) ∙ so.ended;
-  asked = ap (λ n. n ++ whole.asked) grown ∙ append_assoc now (name ∷ []) whole.asked ∙ ap (λ r. now ++ r.asked) (sym is) ∙ so.asked;
+  asked = ap (λ n. n ++ whole.asked) grown ∙ append_assoc now (name ∷ []) whole.asked
+    ∙ ap (λ r. now ++ r.asked) (sym is) ∙ so.asked;
 }
 
 -- what was asked so far is a front of all that is asked
@@ -44,8 +50,10 @@ pub asked_front : (before : List Skeleton) (old now : List (List ℕ)) (rest all
 asked_front before old now rest all so = (rest.asked, so.asked)
 
 -- a unit is asked for, and the answer is want of memory
-front_one : (before : List Skeleton) (old now new : List (List ℕ)) (name : List ℕ) (more : List (List ℕ)) (rest all : Skeletons)
-    → rest.asked ≡ name ∷ more → IsFront new (now ++ name ∷ []) → Continues before old now rest all → IsFront new (old ++ all.asked)
+front_one : (before : List Skeleton) (old now new : List (List ℕ)) (name : List ℕ) (more : List (List ℕ))
+    (rest all : Skeletons)
+    → rest.asked ≡ name ∷ more → IsFront new (now ++ name ∷ []) → Continues before old now rest all
+    → IsFront new (old ++ all.asked)
 front_one before old now new name more rest all is front so = (
   front.0 ++ more,
   sym (append_assoc new front.0 more) ∙ ap (λ l. l ++ more) front.1 ∙ append_assoc now (name ∷ []) more
@@ -59,7 +67,8 @@ asked_first name (Ok skeleton) rest = (rest.asked, refl)
 asked_first name (Err diag) rest = ([], refl)
 
 -- a refused unit ends the asking
-pub stops_gives : (e : Fault) (skel : List ℕ → List ℕ → Result Skeleton Diag) (units : List SourceUnit) (i : ℕ) (unit : SourceUnit)
+pub stops_gives : (e : Fault) (skel : List ℕ → List ℕ → Result Skeleton Diag)
+    (units : List SourceUnit) (i : ℕ) (unit : SourceUnit)
     (before : List Skeleton) (old now : List (List ℕ)) (all : Skeletons)
     → i < length units → unit ≡ get_or units i unit → Gives {A = Skeleton} (Err e) (skel unit.name unit.source)
     → Continues before old now (skeletons_of skel (drop i units)) all → GivesSkeletons (Err e) all
@@ -68,11 +77,13 @@ stops_gives (fault.Diag diag) skel units i unit before old now all lt here is so
 stops_gives fault.NoMemory skel units i unit before old now all lt here is so = tt
 
 -- .. and what was asked is what it defines, or a front of it
-pub stops_asks : (e : Fault) (skel : List ℕ → List ℕ → Result Skeleton Diag) (units : List SourceUnit) (i : ℕ) (unit : SourceUnit)
+pub stops_asks : (e : Fault) (skel : List ℕ → List ℕ → Result Skeleton Diag)
+    (units : List SourceUnit) (i : ℕ) (unit : SourceUnit)
     (before : List Skeleton) (old now new : List (List ℕ)) (all : Skeletons)
     → i < length units → unit ≡ get_or units i unit → Gives {A = Skeleton} (Err e) (skel unit.name unit.source)
     → Asks {A = Skeleton} (Err e) now new (unit.name ∷ [])
-    → Continues before old now (skeletons_of skel (drop i units)) all → Asks {A = List Skeleton} (Err e) old new all.asked
+    → Continues before old now (skeletons_of skel (drop i units)) all
+    → Asks {A = List Skeleton} (Err e) old new all.asked
 stops_asks (fault.Diag diag) skel units i unit before old now new all lt here is grown so =
     grown ∙ ap (λ r. now ++ r.asked) (sym (rest_at skel units i unit (Err diag) lt here is)) ∙ so.asked
 stops_asks fault.NoMemory skel units i unit before old now new all lt here is grown so =
@@ -83,7 +94,8 @@ stops_asks fault.NoMemory skel units i unit before old now new all lt here is gr
 -- where no memory is left for an answer, what was asked is a front of all that is asked
 pub kept_asks : (skel : List ℕ → List ℕ → Result Skeleton Diag) (units : List SourceUnit) (i : ℕ) (unit : SourceUnit)
     (skeleton : Skeleton) (before : List Skeleton) (old now new : List (List ℕ)) (all : Skeletons)
-    → i < length units → unit ≡ get_or units i unit → skel unit.name unit.source ≡ Ok skeleton → new ≡ now ++ unit.name ∷ []
+    → i < length units → unit ≡ get_or units i unit → skel unit.name unit.source ≡ Ok skeleton
+    → new ≡ now ++ unit.name ∷ []
     → Continues before old now (skeletons_of skel (drop i units)) all → IsFront new (old ++ all.asked)
 kept_asks skel units i unit skeleton before old now new all lt here is grown so =
     let whole = skeletons_of skel (drop (i + 1) units) in
@@ -116,6 +128,7 @@ all_asks skel units i before old now all end so =
     sym (append-nil now) ∙ (all_found skel units i before old now all end so).asked
 
 -- what holds of a fault holds of the answer that passes it on
-pub passed : {A E : Type 0} (r : Result A E) (e : E) (P : Result A E → Type 0) → IsErrAnd r (λ y. y ≡ e) → P (Err e) → P r
+pub passed : {A E : Type 0} (r : Result A E) (e : E) (P : Result A E → Type 0) → IsErrAnd r (λ y. y ≡ e)
+    → P (Err e) → P r
 passed (Ok value) e P is holds = absurd is
 passed (Err y) e P is holds = subst (λ y. P (Err y)) (sym is) holds

@@ -10,10 +10,13 @@ pub record Skeletons : Type 0 where
   pub ended : Option Diag
   pub asked : List (List ℕ)
 
+-- a unit's answer before the rest: a refusal ends the asking
 abbrev pub then_skeletons : List ℕ → Result Skeleton Diag → Skeletons → Skeletons
 then_skeletons unit (Err diag) rest = record { found = []; ended = Some diag; asked = unit ∷ [] }
-then_skeletons unit (Ok skeleton) rest = record { found = skeleton ∷ rest.found; ended = rest.ended; asked = unit ∷ rest.asked }
+then_skeletons unit (Ok skeleton) rest = record {
+  found = skeleton ∷ rest.found; ended = rest.ended; asked = unit ∷ rest.asked }
 
+-- the skeletons of these units
 abbrev pub skeletons_of : (List ℕ → List ℕ → Result Skeleton Diag) → List SourceUnit → Skeletons
 skeletons_of skel [] = record { found = []; ended = None; asked = [] }
 skeletons_of skel (unit ∷ units) = then_skeletons unit.name (skel unit.name unit.source) (skeletons_of skel units)

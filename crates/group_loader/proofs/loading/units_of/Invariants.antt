@@ -12,5 +12,6 @@ invariant-loop-member g l = record {
   later : g.F.Folder.faults l.fn.folder ≤ g.F.Folder.faults l.folder;
   same : g.F.Folder.holds l.folder ≡ g.F.Folder.holds l.fn.folder;
   found : Told (g.F.Folder.holds l.fn.folder) (λ files.
-      with_units l.units (units_of files l.root l.sum (drop l.member-index l.members)) ≡ units_of files l.fn.root 0 l.fn.members);
+      with_units l.units (units_of files l.root l.sum (drop l.member-index l.members))
+      ≡ units_of files l.fn.root 0 l.fn.members);
 }

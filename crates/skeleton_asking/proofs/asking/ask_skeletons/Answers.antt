@@ -20,7 +20,8 @@ loop-unit-preserved g c =
       );
       same = c.in_ok-skeleton.ensures.same ∙ c.loop-unit.invariant.same;
       so = continues_more c.loop-unit.skeletons c.add.new.self (g.C.Compiler.asked_skeletons c.args.compiler.now)
-          (g.C.Compiler.asked_skeletons c.loop-unit.compiler) (g.C.Compiler.asked_skeletons c.ask_skeleton.new.compiler)
+          (g.C.Compiler.asked_skeletons c.loop-unit.compiler)
+          (g.C.Compiler.asked_skeletons c.ask_skeleton.new.compiler)
           c.unit-item.result.name c.in_ok-skeleton.skeleton (skeletons_of skel (drop at units))
           (skeletons_of skel (drop (at + 1) units)) (skeletons_of skel units)
           c.in_ok-add.ensures.ok c.in_ok-skeleton.ensures.asks
@@ -33,7 +34,8 @@ pub returns-in_err-skeleton-clause-gives : goal.returns-in_err-skeleton-clause-g
 returns-in_err-skeleton-clause-gives g c =
     let all = skeletons_of g.C.Compiler.skel c.args.units.now in
     passed c.from_residual.result c.in_err-skeleton.field-0.0 (λ r. GivesSkeletons r all) c.from_residual.ensures.1
-    (stops_gives c.in_err-skeleton.field-0.0 g.C.Compiler.skel c.args.units.now c.loop-unit.unit-index c.unit-item.result
+    (stops_gives c.in_err-skeleton.field-0.0 g.C.Compiler.skel c.args.units.now c.loop-unit.unit-index
+      c.unit-item.result
     c.loop-unit.skeletons (g.C.Compiler.asked_skeletons c.args.compiler.now)
     (g.C.Compiler.asked_skeletons c.loop-unit.compiler) all
     c.loop-unit-test.true c.unit-item.is c.in_err-skeleton.ensures.gives c.loop-unit.invariant.so)
@@ -42,9 +44,11 @@ pub returns-in_err-skeleton-clause-asks : goal.returns-in_err-skeleton-clause-as
 returns-in_err-skeleton-clause-asks g c =
     let all = skeletons_of g.C.Compiler.skel c.args.units.now in
     passed c.from_residual.result c.in_err-skeleton.field-0.0
-    (λ r. Asks r (g.C.Compiler.asked_skeletons c.args.compiler.now) (g.C.Compiler.asked_skeletons c.ask_skeleton.new.compiler) all.asked)
+    (λ r. Asks r (g.C.Compiler.asked_skeletons c.args.compiler.now)
+      (g.C.Compiler.asked_skeletons c.ask_skeleton.new.compiler) all.asked)
     c.from_residual.ensures.1
-    (stops_asks c.in_err-skeleton.field-0.0 g.C.Compiler.skel c.args.units.now c.loop-unit.unit-index c.unit-item.result
+    (stops_asks c.in_err-skeleton.field-0.0 g.C.Compiler.skel c.args.units.now c.loop-unit.unit-index
+      c.unit-item.result
     c.loop-unit.skeletons (g.C.Compiler.asked_skeletons c.args.compiler.now)
     (g.C.Compiler.asked_skeletons c.loop-unit.compiler) (g.C.Compiler.asked_skeletons c.ask_skeleton.new.compiler) all
     c.loop-unit-test.true c.unit-item.is c.in_err-skeleton.ensures.gives c.in_err-skeleton.ensures.asks
@@ -54,7 +58,8 @@ pub returns-in_err-add-clause-asks : goal.returns-in_err-add-clause-asks
 returns-in_err-add-clause-asks g c =
     let all = skeletons_of g.C.Compiler.skel c.args.units.now in
     passed c.from_residual-in_err-add.result fault.NoMemory
-    (λ r. Asks r (g.C.Compiler.asked_skeletons c.args.compiler.now) (g.C.Compiler.asked_skeletons c.ask_skeleton.new.compiler) all.asked)
+    (λ r. Asks r (g.C.Compiler.asked_skeletons c.args.compiler.now)
+      (g.C.Compiler.asked_skeletons c.ask_skeleton.new.compiler) all.asked)
     c.from_residual-in_err-add.ensures.1
     (kept_asks g.C.Compiler.skel c.args.units.now c.loop-unit.unit-index c.unit-item.result c.in_ok-skeleton.skeleton
     c.loop-unit.skeletons (g.C.Compiler.asked_skeletons c.args.compiler.now)
