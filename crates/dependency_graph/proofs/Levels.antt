@@ -30,7 +30,12 @@ users_units edges users are unit d known at e within =
     let same = get_or_default users unit d [] known in
     let has = subst (λ (l : List ℕ). Contains l (get_or (get_or users unit d) at e)) same
     (Contains-get_or (get_or users unit d) at e within) in
-    omega (arith, are.counted, user_known edges (get_or (get_or users unit d) at e) unit (are.back unit (get_or (get_or users unit d) at e) has))
+    omega (
+      arith,
+      are.counted,
+      user_known edges (get_or (get_or users unit d) at e) unit
+          (are.back unit (get_or (get_or users unit d) at e) has),
+    )
 
 -- the units of a level are units
 pub level_known : (edges : List (List ℕ)) (goal steps : ℕ) (distances : List (Option ℕ)) (now : List ℕ) (n : ℕ) →
@@ -68,7 +73,12 @@ level_near edges users goal steps old new now next are is spreads unit walk shor
         let found = is.near provider steps (omega arith) rest in
         elim (cases_lt found.0 steps) [
           | inl nearer ↦
-              let more = is.near unit (suc found.0) (omega (arith, nearer)) (provider, edge, is.way provider found.0 found.1) in
+              let more = is.near unit (suc found.0) (omega (arith, nearer)) (
+                provider,
+                edge,
+                is.way provider found.0
+                    found.1,
+              ) in
               (more.0, spreads.kept unit more.0 more.1, omega (arith, more.2, nearer))
           | inr level ↦
               let e : found.0 ≡ steps = omega (arith, found.2, level) in
@@ -106,7 +116,12 @@ level_more edges users goal steps old new now next are is spreads = record {
 -- once a level is empty all distances are noted
 pub levels_end : (edges : List (List ℕ)) (goal steps : ℕ) (distances : List (Option ℕ)) →
     IsLevel edges goal steps distances [] → AreDistances edges goal distances
-levels_end edges goal steps distances is = record { counted = is.counted; way = is.way; near = λ unit walk. near walk unit }
+levels_end edges goal steps distances is = record {
+  counted = is.counted;
+  way = is.way;
+  near = λ unit walk. near walk
+      unit;
+}
   where
     near : (walk unit : ℕ) → Walk edges walk unit goal →
         (distance : ℕ) × (distance_of distances unit ≡ Some distance) × (distance ≤ walk)
@@ -115,7 +130,12 @@ levels_end edges goal steps distances is = record { counted = is.counted; way = 
         let found = near walk provider rest in
         elim (cases_lt found.0 steps) [
           | inl nearer ↦
-              let more = is.near unit (suc found.0) (omega (arith, nearer)) (provider, edge, is.way provider found.0 found.1) in
+              let more = is.near unit (suc found.0) (omega (arith, nearer)) (
+                provider,
+                edge,
+                is.way provider found.0
+                    found.1,
+              ) in
               (more.0, more.1, omega (arith, more.2, found.2))
           | inr level ↦
               let top = is.upto provider found.0 found.1 in

@@ -4,3 +4,8 @@ pub mod Sorting
 pub mod Spreading
 pub mod Levels
 pub mod Nearest
+pub mod Holding
+pub mod Groups
+pub mod Searching
+pub mod Finishing
+pub mod Stepping

@@ -6,10 +6,9 @@ use Rattle.std.specs.Ordering.{ordering_then, ordering_reverse, nat_cmp, is_lt, 
 use Rattle.std.specs.Cmp.Lexicographic.{slice_cmp, nat_list_cmp_total}
 use Rattle.std.specs.declared.cmp.Ordering.{Ordering}
 use Rattle.std.specs.declared.cmp.Ordering.TheVariants.{Less, Equal, Greater}
-use Rattle.std.proofs.lemmas.Bool.{cases_lt, cases_eq}
+use Rattle.std.proofs.lemmas.Bool.{cases_eq}
 use Rattle.std.proofs.lemmas.Cmp.{ranked, upto, tied_itself, then_total, on_total, nat_cmp_total}
-use Rattle.std.proofs.lemmas.List.{length_push, get_or_append_left, get_or_push, get_or_past}
-use Rattle.dependency_graph.specs.OnCycles.{AreOnCycles, HasDistance, IsLeast, IsLeastFlag, flag_of}
+use Rattle.dependency_graph.specs.OnCycles.{AreOnCycles, IsLeast, IsLeastFlag, flag_of}
 use Rattle.dependency_graph.proofs.Walks.{user_known}
 use Rattle.std.proofs.lemmas.List.Elements.{Contains-append_left, Contains-push, Contains-push_cases}
 use Rattle.dependency_graph.specs.Order.{providers, name_of, Walk}
@@ -18,7 +17,8 @@ use Rattle.dependency_graph.specs.Distances.{AreDistances, IsBest, IsFirst, dist
 
 -- the order by distance and name is total
 key_total : IsTotalOrder key_cmp
-key_total = then_total (on_total (λ (k : ℕ × List ℕ). k.0) nat_cmp_total) (on_total (λ (k : ℕ × List ℕ). k.1) nat_list_cmp_total)
+key_total = then_total (on_total (λ (k : ℕ × List ℕ). k.0) nat_cmp_total) (on_total (λ (k : ℕ × List ℕ). k.1)
+    nat_list_cmp_total)
 
 -- what is less isn't greater
 not_greater : (o : Ordering) → is_lt o ≡ true → is_gt o ≡ false
@@ -41,7 +41,8 @@ itself : (names : List (List ℕ)) (distances : List (Option ℕ)) (unit other n
     distance_of distances unit ≡ Some near → unit ≡ other → distance_of distances other ≡ Some far →
     is_gt (key_cmp (near, name_of names unit) (far, name_of names other)) ≡ false
 itself names distances unit other near far noted same is =
-    let e : near ≡ far = one_distance (distance_of distances other) near far (ap (distance_of distances) (sym same) ∙ noted) is in
+    let e : near ≡ far = one_distance (distance_of distances other) near far (ap (distance_of distances) (sym same) ∙
+    noted) is in
     subst (λ f. is_gt (key_cmp (near, name_of names unit) (f, name_of names other)) ≡ false) e
     (subst (λ u. is_gt (key_cmp (near, name_of names unit) (near, name_of names u)) ≡ false) same
     (ap is_gt (tied_itself key_total (near, name_of names unit))))
@@ -100,7 +101,8 @@ first_kept names distances list best unit near is noted other_nearer = record {
       elim (Contains-push_cases list unit other has) [
         | inl early ↦ is.first other far early told
         | inr same ↦
-            let e : near ≡ far = one_distance (distance_of distances other) near far (ap (distance_of distances) (sym same) ∙ noted) told in
+            let e : near ≡ far = one_distance (distance_of distances other) near far
+            (ap (distance_of distances) (sym same) ∙ noted) told in
             let not_less = sym (compared names distances unit best near is.distance noted is.noted) ∙ other_nearer in
             subst (λ f. is_gt (key_cmp (is.distance, name_of names best) (f, name_of names other)) ≡ false) e
             (subst (λ u. is_gt (key_cmp (is.distance, name_of names best) (near, name_of names u)) ≡ false) same
@@ -276,47 +278,14 @@ least_new names flags unit found is flagged after = record {
 }
 
 -- the unit that the test says
-on_true : (b : Bool) (P Q : Type 0) → MatchBool b P Q → b ≡ true → P
+pub on_true : (b : Bool) (P Q : Type 0) → MatchBool b P Q → b ≡ true → P
 on_true true P Q is e = is
 on_true false P Q is e = cc
 
 -- the unit that the test denies
-on_false : (b : Bool) (P Q : Type 0) → MatchBool b P Q → b ≡ false → Q
+pub on_false : (b : Bool) (P Q : Type 0) → MatchBool b P Q → b ≡ false → Q
 on_false true P Q is e = cc
 on_false false P Q is e = is
-
--- the flag of one more unit
-pub flags_more : (edges : List (List ℕ)) (flags : List Bool) (count : ℕ) (on : Bool) → AreOnCycles edges flags count →
-    MatchBool on (IsOnCycle edges count) (IsOnCycle edges count → ⊥) →
-    AreOnCycles edges (flags ++ on ∷ []) (count + 1)
-flags_more edges flags count on are is = record {
-  counted = length_push flags on ∙ ap (λ n. n + 1) are.counted;
-  on = λ unit flagged.
-      elim (cases_lt unit count) [
-        | inl early ↦ are.on unit (sym (get_or_append_left flags (on ∷ []) false unit (omega (arith, are.counted))) ∙ flagged)
-        | inr late ↦
-            elim (cases_eq unit count) [
-              | inl same ↦
-                  subst (IsOnCycle edges) (sym same)
-                  (on_true on (IsOnCycle edges count) (IsOnCycle edges count → ⊥) is
-                  (sym (get_or_push flags on false count are.counted) ∙ ap (flag_of (flags ++ on ∷ [])) (sym same) ∙ flagged))
-              | inr other ↦
-                  let e : false ≡ true =
-                  sym (get_or_past (flags ++ on ∷ []) unit false (omega (arith, length_push flags on, are.counted))) ∙ flagged in
-                  let bad : ⊥ = cc in absurd bad
-            ]
-      ];
-  off = λ unit before clear.
-      elim (cases_lt unit count) [
-        | inl early ↦
-            are.off unit early (sym (get_or_append_left flags (on ∷ []) false unit (omega (arith, are.counted))) ∙ clear)
-        | inr late ↦
-            let same : unit ≡ count = omega arith in
-            subst (λ u. IsOnCycle edges u → ⊥) (sym same)
-            (on_false on (IsOnCycle edges count) (IsOnCycle edges count → ⊥) is
-            (sym (get_or_push flags on false count are.counted) ∙ ap (flag_of (flags ++ on ∷ [])) (sym same) ∙ clear))
-      ];
-}
 
 -- where there is a cycle some unit has a flag
 pub some_flag : (edges : List (List ℕ)) (flags : List Bool) (n : ℕ) → AreOnCycles edges flags (length edges) →
@@ -341,16 +310,3 @@ least_is names edges flags n unit are same is = record {
 
     flagged : (other : ℕ) → other < length edges → IsOnCycle edges other → flag_of flags other ≡ true
     flagged other known on = decide (flag_of flags other) (λ clear. are.off other known clear on)
-
--- a provider from which a walk leads back closes a cycle, and there is no other
-pub on_by_distance : (edges : List (List ℕ)) (distances : List (Option ℕ)) (unit : ℕ) (list : List ℕ) (some : Bool) →
-    AreDistances edges unit distances → list ≡ providers edges unit →
-    MatchBool some (HasDistance distances list)
-    ((other : ℕ) → Contains list other → distance_of distances other ≡ None) →
-    MatchBool some (IsOnCycle edges unit) (IsOnCycle edges unit → ⊥)
-on_by_distance edges distances unit list true are same (provider, listed, (distance, noted)) =
-    (distance, (provider, subst (λ l. Contains l provider) same listed, are.way provider distance noted))
-on_by_distance edges distances unit list false are same none = λ on.
-    let found = are.near on.1.0 on.0 on.1.2 in
-    let e : None ≡ Some found.0 = sym (none on.1.0 (subst (λ l. Contains l on.1.0) (sym same) on.1.1)) ∙ found.1 in
-    cc

@@ -9,7 +9,7 @@ use Rattle.dependency_graph.specs.Order.{providers}
 use Rattle.dependency_graph.specs.Distances.{AddsUser, AreUsers, Spreads, IsUserOf, distance_of}
 
 -- an element after one element is set
-set_cases : {X : Type 0} (xs : List X) (at : ℕ) (x d : X) (k : ℕ) → at < length xs →
+pub set_cases : {X : Type 0} (xs : List X) (at : ℕ) (x d : X) (k : ℕ) → at < length xs →
     ((k ≡ at) × (get_or (set xs at x) k d ≡ x)) ⊎ ((k ≢ at) × (get_or (set xs at x) k d ≡ get_or xs k d))
 set_cases xs at x d k within =
     elim (cases_eq k at) [
@@ -120,21 +120,32 @@ spread_set unit steps old before within none = record {
   fresh = λ u d is.
       elim (set_cases old unit (Some steps) None u within) [
         | inl (same, e) ↦
-            inr (some_same steps d (sym e ∙ is), same, subst (Contains (before ++ unit ∷ [])) (sym same) (Contains-push before unit))
+            inr (
+              some_same steps d (sym e ∙ is),
+              same,
+              subst (Contains (before ++ unit ∷ [])) (sym same)
+                  (Contains-push before unit),
+            )
         | inr (_, e) ↦ inl (sym e ∙ is)
       ];
-  met = λ u same. (steps, ap (distance_of (set old unit (Some steps))) same ∙ get_or-set_same old unit (Some steps) None within);
+  met = λ u same. (
+    steps,
+    ap (distance_of (set old unit (Some steps))) same ∙ get_or-set_same old unit (Some steps)
+        None within,
+  );
   queued = λ u has. Contains-append_left before (unit ∷ []) u has;
   marked = λ u has.
       elim (Contains-push_cases before unit u has) [
         | inl early ↦ inl early
         | inr same ↦
-            inr (ap (distance_of (set old unit (Some steps))) (sym same) ∙ get_or-set_same old unit (Some steps) None within)
+            inr (ap (distance_of (set old unit (Some steps))) (sym same) ∙ get_or-set_same old unit (Some steps) None
+            within)
       ];
   fewer =
       let e = sum_by-set (λ o. cond (is_none o) 1 0) old unit (Some steps) None within in
       let one : is_none (get_or old unit None) ≡ true = ap is_none none in
-      let counts = subst (λ b. count_by is_none (set old unit (Some steps)) + cond b 1 0 ≡ count_by is_none old + 0) one e in
+      let counts = subst (λ b. count_by is_none (set old unit (Some steps)) + cond b 1 0 ≡ count_by is_none old + 0)
+      one e in
       omega (arith, counts, length_push before unit);
 }
   where
@@ -202,7 +213,8 @@ pub widen_more : (users : List (List ℕ)) (steps : ℕ) (a b c : List (Option �
     Spreads (Contains (providers users unit)) steps b c m n →
     Spreads (IsUserOf users (now ++ unit ∷ [])) steps a c l n
 widen_more users steps a b c l m n now unit first then =
-    spread_then (IsUserOf users now) (Contains (providers users unit)) (IsUserOf users (now ++ unit ∷ [])) steps a b c l m n
+    spread_then (IsUserOf users now) (Contains (providers users unit)) (IsUserOf users (now ++ unit ∷ [])) steps a b c
+    l m n
     (λ u either.
     elim either [
       | inl (x, has, edge) ↦ (x, Contains-append_left now (unit ∷ []) x has, edge)

@@ -84,10 +84,11 @@ provider_known edges unit provider units known edge =
 -- what is known of the top frame
 pub top_part : (edges : List (List ℕ)) (stack : List Frame) (frame : Frame) →
     All (IsPart edges) (stack ++ frame ∷ []) → IsPart edges frame
-top_part edges stack frame parts = All-contains (IsPart edges) (stack ++ frame ∷ []) frame parts (Contains-push stack frame)
+top_part edges stack frame parts = All-contains (IsPart edges) (stack ++ frame ∷ []) frame parts
+    (Contains-push stack frame)
 
 -- a member of a list is one of the list with one more item in front
-member_more : {X : Type 0} (x : X) (xs : List X) (y : X) → Contains xs y → Contains (x ∷ xs) y
+pub member_more : {X : Type 0} (x : X) (xs : List X) (y : X) → Contains xs y → Contains (x ∷ xs) y
 member_more x xs y (k, within, is) = (suc k, omega arith, is)
 
 -- the top unit is finished
@@ -95,7 +96,8 @@ pub finished : (edges : List (List ℕ)) (marks : List Mark) (ranks : List ℕ) 
     (rank : ℕ) → IsVisiting edges marks ranks (stack ++ frame ∷ []) → IsRank edges frame.unit rank →
     IsVisiting edges (set marks frame.unit Done) (set ranks frame.unit rank) stack
 finished edges marks ranks stack frame rank visiting is = record {
-  noted = noted_set edges marks ranks frame.unit rank visiting.noted (top_part edges stack frame visiting.parts).known is;
+  noted = noted_set edges marks ranks frame.unit rank visiting.noted (top_part edges stack frame visiting.parts).known
+      is;
   parts = all_front (IsPart edges) stack frame visiting.parts;
   path = path_rest edges frame.unit (path_of stack) (subst (IsPath edges) (path_push stack frame) visiting.path);
   on = λ (u : ℕ) (met : mark_of (set marks frame.unit Done) u ≡ Open).
@@ -155,7 +157,8 @@ pub begun : (edges : List (List ℕ)) (marks : List Mark) (ranks : List ℕ) (un
     IsVisiting edges (set marks unit Open) ranks (record { unit = unit; next = 0; rank = 0 } ∷ [])
 begun edges marks ranks unit noted none known = record {
   noted = noted_opened edges marks ranks unit noted known;
-  parts = All-push (IsPart edges) [] (record { unit = unit; next = 0; rank = 0 }) (All-nil (IsPart edges)) (fresh_part edges unit known);
+  parts = All-push (IsPart edges) [] (record { unit = unit; next = 0; rank = 0 }) (All-nil (IsPart edges))
+      (fresh_part edges unit known);
   path = tt;
   on = λ (u : ℕ) (met : mark_of (set marks unit Open) u ≡ Open).
       elim (mark_set marks unit Open u (omega (arith, noted.marked)))
@@ -183,7 +186,8 @@ pub count_opened : (marks : List Mark) (at : ℕ) → at < length marks → mark
 count_opened marks at within new =
     let e = sum_by-set (λ m. cond (is_new m) 1 0) marks at Open New within in
     let one : is_new (get_or marks at New) ≡ true = ap is_new new in
-    let counts = subst (λ b. count_by is_new (set marks at Open) + cond b 1 0 ≡ count_by is_new marks + 0) one e in counts ∙ omega arith
+    let counts = subst (λ b. count_by is_new (set marks at Open) + cond b 1 0 ≡ count_by is_new marks + 0) one e in
+    counts ∙ omega arith
 
 -- a unit that is done doesn't count as new
 pub count_done : (marks : List Mark) (at : ℕ) → at < length marks →

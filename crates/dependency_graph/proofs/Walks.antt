@@ -133,4 +133,5 @@ part_step edges marks ranks unit next rank chain list noted same within done is 
     let provider = get_or list next 0 in
     let reads : provider ≡ get_or (providers edges unit) next provider =
     ap (λ l. get_or l next 0) same ∙ get_or_default (providers edges unit) next 0 provider inside in
-    rw is (part_more edges unit next rank provider (get_or ranks provider 0) inside reads (noted.right provider done) part)
+    rw is (part_more edges unit next rank provider (get_or ranks provider 0) inside reads (noted.right provider done)
+    part)

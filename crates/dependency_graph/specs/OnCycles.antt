@@ -1,12 +1,6 @@
 -- What is noted of units on cycles. Only private functions cite this file.
-use Rattle.std.specs.Prelude.{◌≡◌, ℕ, ◌<◌, Bool, true, false, List, length, slice_index_or, Contains, Option, Some, None}
+use Rattle.std.specs.Prelude.{◌≡◌, ℕ, ◌<◌, Bool, true, false, List, length, slice_index_or, Option, Some, None}
 use Rattle.dependency_graph.specs.Cycle.{IsOnCycle, IsNotAfter}
-use Rattle.dependency_graph.specs.Distances.{distance_of}
-
--- some unit of a list has a distance
-abbrev pub HasDistance : List (Option ℕ) → List ℕ → Type 0
-HasDistance distances list =
-    (unit : ℕ) × Contains list unit × ((distance : ℕ) × (distance_of distances unit ≡ Some distance))
 
 -- the flag of a unit
 abbrev pub flag_of : List Bool → ℕ → Bool

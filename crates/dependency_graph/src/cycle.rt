@@ -6,8 +6,9 @@ ghost use Rattle.std.specs.Ordering.{is_gt, nat_cmp};
 ghost use Rattle.dependency_graph.specs.Order.{AllAreUnits, Walk, name_of, providers};
 ghost use Rattle.dependency_graph.specs.Cycle.{HasCycle, IsLeastOnCycle, IsNearest, IsNearestCycle, IsOnCycle};
 ghost use Rattle.dependency_graph.specs.Distances.{AreDistances, AreUsers, IsBest, IsLoop, distance_of, is_nearer};
-ghost use Rattle.dependency_graph.specs.OnCycles.{AreOnCycles, HasDistance, IsLeastFlag};
+ghost use Rattle.dependency_graph.specs.OnCycles.{IsLeastFlag};
 
+use crate::components::on_cycles;
 use crate::distances::{distances_to, users_of};
 use crate::ranks::providers_of;
 use cm_base::{List, NoMemory, Text};
@@ -111,50 +112,6 @@ fn way_back(
     Ok(List::from_vec(cycle))
 }
 
-/// Some unit of a list has a distance.
-fn has_distance(distances: &[Option<u32>], list: &[u32]) -> bool
-    requires { All (λ unit. unit < length distances.now) list.now }
-    ensures { MatchBool result (HasDistance distances.now list.now)
-        ((unit : ℕ) → Contains list.now unit → distance_of distances.now unit ≡ None) }
-{
-    for unit in list {
-        if let Some(_) = distances[*unit as usize] {
-            return true;
-        }
-    }
-    false
-}
-
-/// A walk leads from the unit to itself.
-fn is_on_cycle(
-    alloc: Global,
-    edges: &[List<u32>],
-    users: &[List<u32>],
-    unit: u32,
-) -> Result<bool, NoMemory>
-    requires units { AllAreUnits edges.now }
-    requires users { AreUsers edges.now users.now (length edges.now) }
-    requires known { unit < length edges.now }
-    ensures { IfOk result (λ on. MatchBool on (IsOnCycle edges.now unit) (IsOnCycle edges.now unit → ⊥)) }
-{
-    let distances = distances_to(alloc, edges, users, unit)?;
-    Ok(has_distance(distances.as_slice(), providers_of(edges, unit)))
-}
-
-/// For each unit, whether it lies on a cycle.
-fn on_cycles(alloc: Global, edges: &[List<u32>], users: &[List<u32>]) -> Result<Vec<bool>, NoMemory>
-    requires units { AllAreUnits edges.now }
-    requires few { length edges.now < 2 ^ 32 }
-    requires users { AreUsers edges.now users.now (length edges.now) }
-    ensures { IfOk result (λ flags. AreOnCycles edges.now flags.items (length edges.now)) }
-{
-    let mut flags = Vec::new(alloc);
-    for unit in 0..edges.len() {
-        flags.push(is_on_cycle(alloc, edges, users, unit as u32)?)?;
-    }
-    Ok(flags)
-}
-
 /// The first unit's name stands after the other's in byte order.
 fn is_after(names: &[Text], unit: u32, other: u32) -> bool
     requires named { unit < length names.now }
@@ -198,20 +155,14 @@ fn least_of(names: &[Text], flags: &[bool]) -> Option<u32>
 }
 
 /// The least unit that lies on a cycle.
-fn least_on_cycle(
-    alloc: Global,
-    names: &[Text],
-    edges: &[List<u32>],
-    users: &[List<u32>],
-) -> Result<u32, NoMemory>
+fn least_on_cycle(alloc: Global, names: &[Text], edges: &[List<u32>]) -> Result<u32, NoMemory>
     requires lists { length edges.now ≡ length names.now }
     requires few { length names.now < 2 ^ 32 }
     requires units { AllAreUnits edges.now }
-    requires users { AreUsers edges.now users.now (length edges.now) }
     requires cycle { HasCycle edges.now }
     ensures { IfOk result (λ unit. IsLeastOnCycle names.now edges.now unit) }
 {
-    let flags = on_cycles(alloc, edges, users)?;
+    let flags = on_cycles(alloc, edges)?;
     match least_of(names, flags.as_slice()) {
         Some(unit) => Ok(unit),
         None => unreachable!(),
@@ -231,7 +182,7 @@ pub(crate) fn nearest_cycle(
     ensures { IfOk result (λ cycle. IsNearestCycle names.now edges.now cycle) }
 {
     let users = users_of(alloc, edges)?;
-    let goal = least_on_cycle(alloc, names, edges, users.as_slice())?;
+    let goal = least_on_cycle(alloc, names, edges)?;
     let distances = distances_to(alloc, edges, users.as_slice(), goal)?;
     Ok(way_back(alloc, names, edges, distances.as_slice(), goal)?)
 }

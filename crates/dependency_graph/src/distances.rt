@@ -73,7 +73,8 @@ fn note(
     steps: u32,
 ) -> Result<(), NoMemory>
     requires { unit < length distances.old }
-    ensures { OnOk result (Spreads (λ met. met ≡ unit) steps distances.old distances.new next.old.items next.new.items) }
+    ensures { OnOk result
+        (Spreads (λ met. met ≡ unit) steps distances.old distances.new next.old.items next.new.items) }
 {
     match distances[unit as usize] {
         Some(_) => Ok(()),
@@ -93,7 +94,8 @@ fn note_all(
     steps: u32,
 ) -> Result<(), NoMemory>
     requires { All (λ unit. unit < length distances.old) list.now }
-    ensures { OnOk result (Spreads (Contains list.now) steps distances.old distances.new next.old.items next.new.items) }
+    ensures { OnOk result
+        (Spreads (Contains list.now) steps distances.old distances.new next.old.items next.new.items) }
 {
     for unit in list {
         note(distances, next, *unit, steps)?;

@@ -1,6 +1,7 @@
 //! The order of units: by rank and then by name, or the cycle that stands in its way.
 #![tactic(auto)]
 
+mod components;
 mod cycle;
 mod distances;
 mod ranked;

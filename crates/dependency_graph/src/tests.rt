@@ -380,13 +380,23 @@ fn numeral(alloc: Global, number: u32) -> Result<Text, Fail> {
     Ok(Text::from_bytes(alloc, &number.to_be_bytes())?)
 }
 
-/// Units of which each has up to so many providers, among those before it.
-fn large(alloc: Global, count: u32, most: u32) -> Result<(List<Text>, List<List<u32>>), Fail> {
+/// Units of which each has up to so many providers, among those before it, and the first has one more.
+fn large(
+    alloc: Global,
+    count: u32,
+    most: u32,
+    first: Option<u32>,
+) -> Result<(List<Text>, List<List<u32>>), Fail> {
     let mut names = Vec::new(alloc);
     let mut edges = Vec::new(alloc);
     for unit in 0..count {
         names.push(numeral(alloc, unit)?)?;
         let mut list = Vec::new(alloc);
+        if unit == 0 {
+            if let Some(provider) = first {
+                list.push(provider)?;
+            }
+        }
         for back in 0..most {
             if back < unit {
                 list.push(unit - back - 1)?;
@@ -399,7 +409,7 @@ fn large(alloc: Global, count: u32, most: u32) -> Result<(List<Text>, List<List<
 
 #[test]
 fn a_chain_of_4096(rt: HostRuntime) -> Result<(), Fail> {
-    let (names, edges) = large(rt.alloc(), 4096, 1)?;
+    let (names, edges) = large(rt.alloc(), 4096, 1, None)?;
     let found = answer(&rt, rt.alloc(), &names, &edges)?;
     assert_eq!(rt; found.len(), 8193);
     for (place, unit) in found.iter().enumerate() {
@@ -410,8 +420,16 @@ fn a_chain_of_4096(rt: HostRuntime) -> Result<(), Fail> {
 
 #[test]
 fn a_large_graph(rt: HostRuntime) -> Result<(), Fail> {
-    let (names, edges) = large(rt.alloc(), 4096, 49)?;
+    let (names, edges) = large(rt.alloc(), 4096, 49, None)?;
     let found = answer(&rt, rt.alloc(), &names, &edges)?;
     assert_eq!(rt; found.len(), 8193);
+    Ok(())
+}
+
+#[test]
+fn a_large_cycle(rt: HostRuntime) -> Result<(), Fail> {
+    let (names, edges) = large(rt.alloc(), 4096, 49, Some(4000))?;
+    let found = answer(&rt, rt.alloc(), &names, &edges)?;
+    assert_eq!(rt; found.len(), 84);
     Ok(())
 }

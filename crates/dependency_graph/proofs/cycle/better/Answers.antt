@@ -10,9 +10,11 @@ returns-in-Some-None c list is =
 -- a nearer unit
 pub returns-then-comes_first : goal.returns-then-comes_first
 returns-then-comes_first c list is =
-    first_new _ _ list _ _ _ (rw c.in-Some-Some.is-1 at is) c.in-Some-Some.is-0 (sym c.comes_first.ensures ∙ c.if-comes_first.true)
+    first_new _ _ list _ _ _ (rw c.in-Some-Some.is-1 at is) c.in-Some-Some.is-0
+    (sym c.comes_first.ensures ∙ c.if-comes_first.true)
 
 -- no nearer unit
 pub returns-else-comes_first : goal.returns-else-comes_first
 returns-else-comes_first c list is =
-    first_kept _ _ list _ _ _ (rw c.in-Some-Some.is-1 at is) c.in-Some-Some.is-0 (sym c.comes_first.ensures ∙ c.if-comes_first.false)
+    first_kept _ _ list _ _ _ (rw c.in-Some-Some.is-1 at is) c.in-Some-Some.is-0
+    (sym c.comes_first.ensures ∙ c.if-comes_first.false)

@@ -17,12 +17,14 @@ widen-requires-clause-known c =
 -- the next level
 pub levels-preserved : goal.levels-preserved
 levels-preserved c =
-    let spreads = rw (c.in_ok-steps.ensures, c.deref.ensures.value, c.new-next.ensures.items) at c.in_ok-widen.ensures in
+    let spreads = rw (c.in_ok-steps.ensures, c.deref.ensures.value, c.new-next.ensures.items) at c.in_ok-widen.ensures
+    in
     rw c.in_ok-steps.ensures (level_more _ _ _ _ _ _ _ _ c.requires.users c.levels.invariant spreads)
 
 -- the last level is empty
 pub returns : goal.returns
 returns c =
     let none : c.levels.now.items ≡ [] = nil_from_length c.levels.now.items (grind (arith, common_steps)) in
-    let last = subst (λ (l : List ℕ). IsLevel c.args.edges.now c.args.goal c.levels.steps c.levels.distances l) none c.levels.invariant in
+    let last = subst (λ (l : List ℕ). IsLevel c.args.edges.now c.args.goal c.levels.steps c.levels.distances l) none
+    c.levels.invariant in
     levels_end _ _ _ _ last

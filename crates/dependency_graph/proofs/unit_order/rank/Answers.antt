@@ -8,5 +8,6 @@ use Rattle.dependency_graph.proofs.unit_order.rank.Goals as goal
 pub returns : goal.returns
 returns c =
     rw c.as_slice.ensures
-    (subst (All (λ (p : Placed). p.unit ≡ c.args.unit → p.rank ≡ get_or c.order.inside.ranks c.args.unit 0)) c.order.view_is
+    (subst (All (λ (p : Placed). p.unit ≡ c.args.unit → p.rank ≡ get_or c.order.inside.ranks c.args.unit 0))
+    c.order.view_is
     (rank_noted c.order.inside.ranks c.order.inside.units c.args.unit))
