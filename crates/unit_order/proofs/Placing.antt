@@ -25,7 +25,8 @@ Entries = List (Position × PlannedUnit)
 exact_positions : CmpEqualImpliesEq position_cmp
 exact_positions a b h = ap (λ (p : ℕ × List ℕ). record { rank = p.0; name = p.1 }) (exact_pairs nat_cmp (slice_cmp nat_cmp) exact_unsigned exact_bytes (a.rank, a.name) (b.rank, b.name) h)
 
-positions_total : IsTotalOrder position_cmp
+-- the order of positions is total
+pub positions_total : IsTotalOrder position_cmp
 positions_total = then_total (on_total (λ s. s.rank) nat_cmp_total) (on_total (λ s. s.name) nat_list_cmp_total)
 
 lookup-find : (es : Entries) (q : Position) → lookup (is_at (position_cmp q)) es ≡ find position_cmp q es
