@@ -22,6 +22,7 @@ pub store_is_good : {by : Definitions} {texts : List (List ℕ)} {holds : Option
     → holds ≡ Some files → IsGoodStore by texts files → StoreIsGood by texts holds
 store_is_good {files = files} is good = record { files = files; told = is; good = good }
 
+-- what is told is one thing
 some_is : (a b : Files) (o : Option Files) → o ≡ Some a → o ≡ Some b → a ≡ b
 some_is a b o p q = cc
 
@@ -31,14 +32,17 @@ pub good_is_told : {by : Definitions} {texts : List (List ℕ)} {holds : Option 
 good_is_told {by} {texts} {holds} store = λ files is. subst (IsGoodStore by texts)
     (some_is store.files files holds store.told is) store.good
 
+-- a folder that tells no files is a good store
 pub store_empty : (by : Definitions) (holds : Option Files) → holds ≡ Some empty → StoreIsGood by [] holds
 store_empty by holds is = record { files = empty; told = is; good = good_empty by }
 
+-- a good store stays good as more interfaces are known
 pub store_more : {by : Definitions} {texts more : List (List ℕ)} {holds : Option Files}
     → ((text : List ℕ) → Contains texts text → Contains more text) → StoreIsGood by texts holds
     → StoreIsGood by more holds
 store_more within store = record { files = store.files; told = store.told; good = good_more within store.good }
 
+-- .. and where nothing changes
 pub store_same : {by : Definitions} {texts : List (List ℕ)} {old new : Option Files}
     → new ≡ old → StoreIsGood by texts old → StoreIsGood by texts new
 store_same same store = record { files = store.files; told = same ∙ store.told; good = store.good }

@@ -8,6 +8,7 @@ use Rattle.std.proofs.lemmas.Bool.{ne_eqb}
 use Rattle.std.proofs.lemmas.List.Splits.{slice_split_none, slice_split_at}
 use Rattle.bin_store.specs.Paths.{later_parts, first_part, store_parts, unit_path, later_path, BeginsWith, IsOnePart}
 
+-- the byte between two components
 abbrev is_slash : ℕ → Bool
 is_slash byte = byte == 47
 
@@ -42,6 +43,7 @@ split_first (byte ∷ name) = by_test (split_first name) (is_slash byte)
     by_test rest true = ([], slice_split is_slash name, refl)
     by_test rest false = (byte ∷ rest.0, rest.1, ap (onto_first byte) rest.2)
 
+-- the later components, joined, begin with the first of them
 join_later : (part : List ℕ) (parts : List (List ℕ)) (first : List ℕ) (others : List (List ℕ))
     → parts ≡ first ∷ others
     → join_with_byte 47 (later_parts (part ∷ parts)) ≡ (95 ∷ part) ++ 47 ∷ join_with_byte 47 (later_parts parts)
@@ -55,6 +57,7 @@ join_later part parts first others is =
     joined [] = refl
     joined (next ∷ others) = refl
 
+-- the components, joined, begin with the first
 join_first : (part : List ℕ) (parts : List (List ℕ)) (first : List ℕ) (others : List (List ℕ))
     → parts ≡ first ∷ others
     → join_with_byte 47 (store_parts (part ∷ parts)) ≡ first_part part ++ 47 ∷ join_with_byte 47 (later_parts parts)
@@ -77,10 +80,12 @@ later_path_more name part rest is =
     ap (λ (ps : List (List ℕ)). join_with_byte 47 (later_parts ps)) is.split
     ∙ join_later part (slice_split is_slash rest) found.0 found.1 found.2
 
+-- the last component
 pub later_path_last : (name : List ℕ) → IsOnePart name → later_path name ≡ 61 ∷ name
 unfolding later_path
 later_path_last name is = ap (λ (ps : List (List ℕ)). join_with_byte 47 (later_parts ps)) is.split
 
+-- the first component of more
 pub unit_path_more : (name part rest : List ℕ) → BeginsWith name part rest
     → unit_path name ≡ first_part part ++ 47 ∷ later_path rest
 unfolding unit_path later_path
@@ -89,6 +94,7 @@ unit_path_more name part rest is =
     ap (λ (ps : List (List ℕ)). join_with_byte 47 (store_parts ps)) is.split
     ∙ join_first part (slice_split is_slash rest) found.0 found.1 found.2
 
+-- the only component
 pub unit_path_only : (name : List ℕ) → IsOnePart name → unit_path name ≡ 61 ∷ name
 unfolding unit_path
 unit_path_only name is = ap (λ (ps : List (List ℕ)). join_with_byte 47 (store_parts ps)) is.split
@@ -98,6 +104,7 @@ pub ends_at : (name : List ℕ) (at : ℕ) → at < length name → get_or name 
     → BeginsWith name (take at name) (take (length name - (at + 1)) (drop (at + 1) name))
 ends_at name at lt read none = rw take_rest (record { split = split_at_slash name at lt read none })
 
+-- .. at another byte
 pub no_slash_more : (name : List ℕ) (at : ℕ) → at < length name → get_or name at 0 ≢ 47 → NoSlash (take at name)
     → NoSlash (take (at + 1) name)
 no_slash_more name at lt other none =
@@ -106,6 +113,7 @@ no_slash_more name at lt other none =
           ≡ false) name at 0 lt none.each (ne_eqb (get_or name at 0) 47 other);
     }
 
+-- .. at the end
 pub no_slash_all : (name : List ℕ) (at : ℕ) → length name ≤ at → NoSlash (take at name) → IsOnePart name
 no_slash_all name at le none = record { split = split_none name (subst NoSlash (take_all at name le) none) }
 

@@ -21,9 +21,11 @@ use Rattle.bin_store.proofs.StoredLaws.{file-stored}
 
 -- ---- the empty store, and more interfaces
 
+-- the store without files
 abbrev no_files : Files
 no_files = empty
 
+-- it has nothing at any path
 nothing_there : (path bytes : List ℕ) → get no_files path ≡ Some bytes → ⊥
 nothing_there path bytes e = absurd (cc (get-empty (slice_cmp nat_cmp) path, e))
 
@@ -62,6 +64,7 @@ good_more within good = record {
   records = good.records;
 }
 
+-- a store that is as it was is as good
 pub good_same : (by : Definitions) (texts : List (List ℕ)) (before after : Files) → after ≡ before
     → IsGoodStore by texts before → IsGoodStore by texts after
 good_same by texts before after same good = subst (IsGoodStore by texts) (sym same) good
@@ -104,6 +107,7 @@ pub record Allows (by : Definitions) (texts : List (List ℕ)) (before : Files) 
   pub records : (n : ℕ) (run : ToolRecord) → IsWholeRecord path (take n bytes) run
       → run.output ≡ derived_text run.rule run.unit run.input
 
+-- a good binfile stays good where its interface's path isn't touched
 bin_stays : {by : Definitions} {texts : List (List ℕ)} {before after : Files} {path bytes : List ℕ} {bin : Bin}
     → TouchesFiles before after path bytes → interface_path bin.interface ≢ path
     → IsGoodBin by texts before bin → IsGoodBin by texts after bin
@@ -179,6 +183,7 @@ interface_apart {before = before} text bin known apart none good same =
     let stored = file-stored before text small stands in
     cc (none, stored)
 
+-- a known interface may be written where none stands whole under its hash
 pub allows_interface : (by : Definitions) (texts : List (List ℕ)) (before : Files) (text : List ℕ)
     → length text < 2 ^ 32
     → Contains texts text → HashesApart texts → stored_interface before (hash_of text) ≡ None
@@ -203,6 +208,7 @@ good_after_interface by texts before after text below known apart none touched g
 
 -- ---- a binfile
 
+-- a good binfile may be written at its path
 pub allows_bin : (by : Definitions) (texts : List (List ℕ)) (before : Files) (bin : Bin) → IsBin bin
     → IsGoodBin by texts before bin → Allows by texts before (bin_path bin.unit) (binfile bin)
 allows_bin by texts before bin fits good = record {
@@ -222,6 +228,7 @@ good_after_bin by texts before after bin fits is touched good = good_after
 
 -- ---- a tool's record, and the linked program
 
+-- a tool's record with the text that its rule derives may be written at its path
 pub allows_record : (by : Definitions) (texts : List (List ℕ)) (before : Files) (run : ToolRecord) → IsRecord run
     → run.output ≡ derived_text run.rule run.unit run.input
     → Allows by texts before (tool_path run.unit) (record_file run)
@@ -235,6 +242,7 @@ allows_record by texts before run fits derived = record {
       (record_front n found run whole.fits fits whole.spelled)) derived;
 }
 
+-- a store stays good after such a record is written, whatever the write left
 pub good_after_record : (by : Definitions) (texts : List (List ℕ)) (before after : Files) (run : ToolRecord)
     → IsRecord run → run.output ≡ derived_text run.rule run.unit run.input
     → TouchesFiles before after (tool_path run.unit) (record_file run)
@@ -242,6 +250,7 @@ pub good_after_record : (by : Definitions) (texts : List (List ℕ)) (before aft
 good_after_record by texts before after run fits derived touched good =
     good_after (allows_record by texts before run fits derived) touched good
 
+-- any bytes may be written as the linked program
 pub allows_linked : (by : Definitions) (texts : List (List ℕ)) (before : Files) (bytes : List ℕ)
     → Allows by texts before linked_path bytes
 allows_linked by texts before bytes = record {
@@ -251,6 +260,7 @@ allows_linked by texts before bytes = record {
   records = λ n run whole. absurd (tool_is_not_linked run.unit (sym whole.place));
 }
 
+-- a store stays good after a linked program is written, whatever the write left
 pub good_after_linked : (by : Definitions) (texts : List (List ℕ)) (before after : Files) (bytes : List ℕ)
     → TouchesFiles before after linked_path bytes → IsGoodStore by texts before → IsGoodStore by texts after
 good_after_linked by texts before after bytes touched good = good_after

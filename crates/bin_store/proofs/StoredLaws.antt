@@ -22,6 +22,7 @@ pub drop-interface_file : (text : List ℕ) → drop 8 (interface_file text) ≡
 unfolding interface_file text_of
 drop-interface_file text = drop_at (u32_of (length text)) text 4 (length-u32_of (length text))
 
+-- hashes with the same bytes are one
 pid_is : (a b : Pid) → a.bytes ≡ b.bytes → a ≡ b
 pid_is a b e = ap (λ (bytes : List ℕ). let made : Pid = record { bytes = bytes } in made) e
 
@@ -31,6 +32,7 @@ pub record IsInterfaceIn (pid : Pid) (bytes text : List ℕ) : Type 0 where
   pub small : length bytes ≤ 1048584
   pub hash : pid ≡ hash_of text
 
+-- where three tests choose a value, each holds
 tests_hold : (a b c : Bool) (x y : List ℕ) → cond (a && (b && c)) (Some x) None ≡ Some y
     → (a ≡ true) × (b ≡ true) × (c ≡ true) × (x ≡ y)
 tests_hold true true true x y e = (refl, refl, refl, cc)
@@ -38,6 +40,7 @@ tests_hold true true false x y e = absurd cc
 tests_hold true false c x y e = absurd cc
 tests_hold false b c x y e = absurd cc
 
+-- what the definition finds is so
 pub interface_in-is : (hash : Pid) (bytes text : List ℕ) → interface_in hash bytes ≡ Some text
     → IsInterfaceIn hash bytes text
 unfolding interface_in
@@ -51,6 +54,7 @@ interface_in-is hash bytes text e =
           (sym held.2)));
     })
 
+-- where it is so, the three tests hold
 same_tests : (bytes text : List ℕ) (hash : Pid) → bytes ≡ interface_file text → length bytes ≤ 1048584
     → hash ≡ hash_of text
     → drop 8 bytes ≡ text → interface_in hash bytes ≡ Some text
@@ -65,6 +69,7 @@ same_tests bytes text hash spelled small is back =
     ∙ ap (λ (h : Pid). pointwise nat_eq h.bytes hash.bytes) (sym is) ∙ nat_list_eq_equiv.refl hash.bytes in
     rw (one, two, three) (ap Some back)
 
+-- what is so is what the definition finds
 pub interface_in-of : (hash : Pid) (bytes text : List ℕ) → IsInterfaceIn hash bytes text
     → interface_in hash bytes ≡ Some text
 interface_in-of hash bytes text is =
@@ -120,6 +125,7 @@ file-stored files text small there =
 
 -- ---- how code finds the interface of some bytes
 
+-- it finds none where there can be none
 none_unless : (pid : Pid) (bytes : List ℕ) → ((text : List ℕ) → IsInterfaceIn pid bytes text → ⊥)
     → interface_in pid bytes ≡ None
 none_unless pid bytes never = by_value (interface_in pid bytes) refl
@@ -128,9 +134,11 @@ none_unless pid bytes never = by_value (interface_in pid bytes) refl
     by_value None e = refl
     by_value (Some text) e = absurd (never text (interface_in-is pid bytes text e))
 
+-- none in too many bytes
 pub too_long : (pid : Pid) (bytes : List ℕ) → 1048584 < length bytes → interface_in pid bytes ≡ None
 too_long pid bytes lt = none_unless pid bytes (λ text is. omega (arith, is.small))
 
+-- none in too few
 pub too_short : (pid : Pid) (bytes : List ℕ) → length bytes < 8 → interface_in pid bytes ≡ None
 too_short pid bytes lt = none_unless pid bytes (λ text is. omega
     (arith, ap length is.spelled, length-interface_file text))
@@ -142,6 +150,7 @@ take-interface_file text =
     ap (λ (front : List ℕ). 67 ∷ 77 ∷ 69 ∷ 49 ∷ front) (take_at (u32_of (length text)) text 4 (length-u32_of
     (length text)))
 
+-- the file is those eight bytes and the interface
 interface_file-parts : (text : List ℕ) → (67 ∷ 77 ∷ 69 ∷ 49 ∷ u32_of (length text)) ++ text ≡ interface_file text
 unfolding interface_file text_of
 interface_file-parts text = refl
@@ -150,6 +159,7 @@ interface_file-parts text = refl
 pub not_same : {A : Type 0} (a b : A) (r : Bool) → r ≡ false → (IsTrue r ↔ (a ≡ b)) → a ≡ b → ⊥
 not_same a b r is decides same = let holds = decides.1 same in cc
 
+-- a test that held
 pub same : {A : Type 0} (a b : A) (r : Bool) → r ≡ true → (IsTrue r ↔ (a ≡ b)) → a ≡ b
 same a b r is decides = decides.0 is
 
@@ -159,10 +169,12 @@ pub record Halves (bytes head text made : List ℕ) : Type 0 where
   pub back : text ≡ drop 8 bytes
   pub made_is : made ≡ 67 ∷ 77 ∷ 69 ∷ 49 ∷ u32_of (length text)
 
+-- what is found is what the code has behind the eight bytes
 text_is : {bytes head text made : List ℕ} {pid : Pid} (found : List ℕ) → Halves bytes head text made
     → IsInterfaceIn pid bytes found → text ≡ found
 text_is found halves is = halves.back ∙ ap (drop 8) is.spelled ∙ drop-interface_file found
 
+-- none where the first bytes are others
 pub head_differs : (pid : Pid) (bytes head text made : List ℕ) → Halves bytes head text made → (head ≡ made → ⊥)
     → interface_in pid bytes ≡ None
 head_differs pid bytes head text made halves differ = none_unless pid bytes (λ found is.
@@ -170,12 +182,14 @@ head_differs pid bytes head text made halves differ = none_unless pid bytes (λ 
     differ (halves.front ∙ ap (take 8) is.spelled ∙ take-interface_file found
     ∙ ap (λ (t : List ℕ). 67 ∷ 77 ∷ 69 ∷ 49 ∷ u32_of (length t)) (sym one) ∙ sym halves.made_is))
 
+-- none where the hash is another
 pub hash_differs : (pid made_pid : Pid) (bytes head text made : List ℕ) → Halves bytes head text made
     → made_pid ≡ hash_of text
     → (made_pid ≡ pid → ⊥) → interface_in pid bytes ≡ None
 hash_differs pid made_pid bytes head text made halves hash differ = none_unless pid bytes (λ found is.
     differ (hash ∙ ap hash_of (text_is found halves is) ∙ sym is.hash))
 
+-- the interface where all is as it has to be
 pub all_same : (pid made_pid : Pid) (bytes head text made : List ℕ) → Halves bytes head text made
     → length bytes ≤ 1048584
     → head ≡ made → made_pid ≡ hash_of text → made_pid ≡ pid → interface_in pid bytes ≡ Some text

@@ -20,6 +20,7 @@ space_byte space.Signature = 1
 space_byte space.Functor = 2
 space_byte space.Funsig = 3
 
+-- the byte of a flag
 abbrev pub flag_byte : Bool → ℕ
 flag_byte true = 1
 flag_byte false = 0
@@ -51,10 +52,11 @@ bin_body bin =
     ++ (list_of spot_of bin.skeleton.defined ++ (list_of need_of bin.skeleton.free
     ++ (list_of import_of bin.imports ++ (bin.interface.bytes ++ text_of bin.code)))))))
 
--- .. its parts before its lists, and the rest of it
+-- .. its parts before its lists
 unfoldable pub bin_head : Bin → List ℕ
 bin_head bin = 67 ∷ 77 ∷ 66 ∷ 49 ∷ (text_of bin.unit ++ (options_byte bin.options ∷ text_of bin.source))
 
+-- .. its lists, the hash of its interface and its code
 unfoldable pub bin_rest : Bin → List ℕ
 bin_rest bin =
     list_of spot_of bin.skeleton.defined ++ (list_of need_of bin.skeleton.free
@@ -85,11 +87,13 @@ pub record IsSpot (spot : Spot) : Type 0 where
   pub line : spot.line < 2 ^ 32
   pub col : spot.col < 2 ^ 32
 
+-- .. of an import
 pub record IsImport (import : Import) : Type 0 where
   pub name : length import.name.name < 2 ^ 32
   pub provider : length import.provider < 2 ^ 32
   pub hash : length import.hash.bytes ≡ 32
 
+-- .. of a binfile
 pub record IsBin (bin : Bin) : Type 0 where
   pub unit : length bin.unit < 2 ^ 32
   pub source : length bin.source < 2 ^ 32
@@ -102,6 +106,7 @@ pub record IsBin (bin : Bin) : Type 0 where
   pub interface : length bin.interface.bytes ≡ 32
   pub code : length bin.code < 2 ^ 32
 
+-- .. of a tool's record
 pub record IsRecord (run : ToolRecord) : Type 0 where
   pub unit : length run.unit < 2 ^ 32
   pub class : length run.class < 2 ^ 32
@@ -114,6 +119,7 @@ pub record IsShortImport (import : Import) : Type 0 where
   pub name : length import.name.name < 2 ^ 32
   pub provider : length import.provider < 2 ^ 32
 
+-- .. of a binfile
 pub record IsShortBin (bin : Bin) : Type 0 where
   pub unit : length bin.unit < 2 ^ 32
   pub source : length bin.source < 2 ^ 32

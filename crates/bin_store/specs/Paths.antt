@@ -13,15 +13,18 @@ store_prefix = 46 ∷ 99 ∷ 109 ∷ 47 ∷ []
 abbrev pub directory_part : List ℕ → List ℕ
 directory_part part = 95 ∷ part
 
+-- those after the first
 abbrev pub later_parts : List (List ℕ) → List (List ℕ)
 later_parts [] = []
 later_parts (part ∷ []) = (61 ∷ part) ∷ []
 later_parts (part ∷ next ∷ parts) = directory_part part ∷ later_parts (next ∷ parts)
 
+-- the first of several
 abbrev pub first_part : List ℕ → List ℕ
 first_part [] = directory_part []
 first_part (byte ∷ bytes) = if byte == 36 then byte ∷ bytes else directory_part (byte ∷ bytes)
 
+-- all of them
 abbrev pub store_parts : List (List ℕ) → List (List ℕ)
 store_parts [] = []
 store_parts (part ∷ []) = (61 ∷ part) ∷ []

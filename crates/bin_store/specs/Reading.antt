@@ -45,9 +45,11 @@ space_from byte =
     else (if byte == 2 then Some space.Functor
     else (if byte == 3 then Some space.Funsig else None)))
 
+-- the flag of a byte
 abbrev pub flag_from : ℕ → Option Bool
 flag_from byte = if byte == 0 then Some false else (if byte == 1 then Some true else None)
 
+-- options from two flags
 abbrev options : Bool → Bool → Options
 options nobasis opaque = record { nobasis = nobasis; opaque = opaque }
 
@@ -59,18 +61,23 @@ options_from byte =
     else (if byte == 2 then Some (options false true)
     else (if byte == 3 then Some (options true true) else None)))
 
+-- a module name
 unfoldable pub name_at : Step ModName
 name_at = made_at (λ p. record { space = p.0; name = p.1 }) (both_at (meant_at space_from byte_at) text_at)
 
+-- a module name with its place
 unfoldable pub spot_at : Step Spot
 spot_at = made_at (λ p. record { name = p.0; line = p.1.0; col = p.1.1 }) (both_at name_at (both_at u32_at u32_at))
 
+-- a needed name
 unfoldable pub need_at : Step Need
 need_at = made_at (λ p. record { spot = p.0; sure = p.1 }) (both_at spot_at (meant_at flag_from byte_at))
 
+-- a hash
 unfoldable pub hash_at : Step Pid
 hash_at = made_at (λ bytes. record { bytes = bytes }) (raw_at 32)
 
+-- an import
 unfoldable pub import_at : Step Import
 import_at = made_at (λ p. record { name = p.0; provider = p.1.0; hash = p.1.1 }) (both_at name_at
     (both_at text_at hash_at))
@@ -83,6 +90,7 @@ Lists = List Spot × (List Need × (List Import × (Pid × List ℕ)))
 abbrev Parts : Type 0
 Parts = List ℕ × (Options × (List ℕ × Lists))
 
+-- the binfile of its parts
 abbrev bin_from : Parts → Bin
 bin_from p =
     let lists = p.1.1.1 in
@@ -96,17 +104,20 @@ bin_from p =
       code = lists.1.1.1.1;
     }
 
+-- the lists of a binfile, its hash and its code
 unfoldable pub lists_at : Step Lists
 lists_at = both_at (list_at spot_at) (both_at (list_at need_at) (both_at (list_at import_at)
     (both_at hash_at text_at)))
 
+-- what a binfile has behind its front
 unfoldable pub parts_at : Step Parts
 parts_at = both_at text_at (both_at (meant_at options_from byte_at) (both_at text_at lists_at))
 
--- a binfile up to its digest, and a whole one
+-- a binfile up to its digest
 unfoldable pub bin_body_at : Step Bin
 bin_body_at = made_at (λ p. bin_from p.1) (both_at (front_at (67 ∷ 77 ∷ 66 ∷ 49 ∷ [])) parts_at)
 
+-- a whole binfile
 unfoldable pub bin_at : Step Bin
 bin_at = checked_at bin_body bin_body_at
 
@@ -114,18 +125,22 @@ bin_at = checked_at bin_body bin_body_at
 unfoldable pub interface_at : Step (List ℕ)
 interface_at = made_at (λ p. p.1) (both_at (front_at (67 ∷ 77 ∷ 69 ∷ 49 ∷ [])) text_at)
 
+-- the texts of a tool's record
 abbrev Texts : Type 0
 Texts = List ℕ × (List ℕ × (List ℕ × (List ℕ × List ℕ)))
 
+-- the record of its texts
 abbrev record_from : Texts → ToolRecord
 record_from p = record { unit = p.0; class = p.1.0; rule = p.1.1.0; input = p.1.1.1.0; output = p.1.1.1.1 }
 
+-- five texts
 unfoldable pub texts_at : Step Texts
 texts_at = both_at text_at (both_at text_at (both_at text_at (both_at text_at text_at)))
 
--- a tool's record up to its digest, and a whole one
+-- a tool's record up to its digest
 unfoldable pub record_body_at : Step ToolRecord
 record_body_at = made_at (λ p. record_from p.1) (both_at (front_at (67 ∷ 77 ∷ 84 ∷ 49 ∷ [])) texts_at)
 
+-- a whole record of a tool
 unfoldable pub record_at : Step ToolRecord
 record_at = checked_at record_body record_body_at

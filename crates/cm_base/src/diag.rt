@@ -2,11 +2,10 @@
 
 ghost use Rattle.std.specs.Prelude.{◌≡◌, IfOk};
 
-use std::alloc::Global;
-
 use crate::fault::NoMemory;
 use crate::list::List;
 use crate::text::Text;
+use std::alloc::Global;
 
 /// A place in a file. Lines and columns count from 1, columns in bytes; both are 0 for a whole file.
 #[derive(Clone, Debug, Drop, PartialEq, Eq)]

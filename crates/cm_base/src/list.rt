@@ -3,10 +3,9 @@
 ghost use Rattle.std.specs.Prelude.{◌≡◌, [], ◌∷◌, ◌++◌, ◌<◌, length, slice_get, IfErr, IsTrue, ◌↔◌, MatchOption, OnErr, OnOk, OnSome};
 ghost use Rattle.std.specs.Option.{option_copied};
 
+use crate::fault::NoMemory;
 use std::alloc::Global;
 use std::marker::Model;
-
-use crate::fault::NoMemory;
 
 /// A list of items, which contracts see as the list of what it holds.
 #[derive(Clone, Debug, Drop)]

@@ -62,7 +62,7 @@ indexed_more old new units unit updates indexed = record {
       ∙ sym (done_unit-add units unit name);
   below = λ name place is.
       subst (λ n. place < n) (sym (length-append units (unit ∷ [])))
-        (below_more (length units) (pointwise nat_eq unit.unit name) (old name) place (indexed.below name) (sym (updates name) ∙ is));
+      (below_more (length units) (pointwise nat_eq unit.unit name) (old name) place (indexed.below name) (sym (updates name) ∙ is));
 }
 
 -- the sum of the interfaces grows by that of the unit

@@ -7,13 +7,14 @@ use Rattle.cm_base.specs.declared.fault.Fault.TheVariants as fault
 use Rattle.cm_base.specs.declared.record.Built.{Built}
 use Rattle.cm_base.specs.declared.record.BuiltUnit.{BuiltUnit}
 use Rattle.cm_base.specs.declared.record.Given.{Given}
+use Rattle.bin_store.specs.Format.{IsBin}
 use Rattle.cutoff_builder.specs.declared.builder.BuildFault.{BuildFault}
 use Rattle.cutoff_builder.specs.declared.builder.BuildFault.TheVariants as stop
 use Rattle.cutoff_builder.specs.declared.builder.UnitFault.{UnitFault}
 use Rattle.cutoff_builder.specs.declared.builder.UnitFault.TheVariants as unit_stop
 use Rattle.cutoff_builder.specs.declared.planned.PlannedUnit.{PlannedUnit}
 use Rattle.cutoff_builder.specs.PlainBuild.{Build, done_unit, interface_bytes}
-use Rattle.cutoff_builder.specs.Stored.{put_unit, put_units, StoresUnit, LeftByBuild}
+use Rattle.cutoff_builder.specs.Stored.{bin_of_unit, put_unit, put_units, StoresUnit, FitUnits, LeftByBuild}
 use Rattle.cutoff_builder.specs.declared.limits.TheConstants.{ALL_INTERFACES}
 
 -- a list is a front of another
@@ -50,7 +51,7 @@ GivesUnit (Err unit_stop.NoMemory) defined before after = Unit {0}
 
 abbrev pub UnitStored : Result (Unit {0}) UnitFault → Result BuiltUnit Diag → Option Files → Option Files → PlannedUnit → Type 0
 UnitStored (Ok done) defined old new planned =
-    (unit : BuiltUnit) × (defined ≡ Ok unit) × (new ≡ told (λ files. put_unit files planned unit) old)
+    (unit : BuiltUnit) × (defined ≡ Ok unit) × (new ≡ told (λ files. put_unit files planned unit) old) × IsBin (bin_of_unit planned unit)
 UnitStored (Err (unit_stop.Diag diag)) defined old new planned = new ≡ old
 UnitStored (Err unit_stop.Folder) defined old new planned =
     (unit : BuiltUnit) × (defined ≡ Ok unit) × StoresUnit old new planned unit
@@ -77,7 +78,9 @@ BuildAsked (Err stop.Folder) old new asked = IsFront new (old ++ asked)
 BuildAsked (Err stop.NoMemory) old new asked = IsFront new (old ++ asked)
 
 abbrev pub BuildStored : Result Built BuildFault → Option Files → Option Files → List PlannedUnit → Build → Type 0
-BuildStored (Ok built) old new planned build = new ≡ told (λ files. put_units files planned build.units) old
-BuildStored (Err (stop.Stop diag done)) old new planned build = new ≡ told (λ files. put_units files planned build.units) old
+BuildStored (Ok built) old new planned build =
+    (new ≡ told (λ files. put_units files planned build.units) old) × FitUnits planned build.units
+BuildStored (Err (stop.Stop diag done)) old new planned build =
+    (new ≡ told (λ files. put_units files planned build.units) old) × FitUnits planned build.units
 BuildStored (Err stop.Folder) old new planned build = LeftByBuild old new planned build
 BuildStored (Err stop.NoMemory) old new planned build = LeftByBuild old new planned build

@@ -23,7 +23,9 @@ done_unit (unit ∷ units) name = option_or (done_unit units name) (if pointwise
 -- a name with its provider, and the hash and the interface that this build gave to the provider
 abbrev pub given_by : WantedName → BuiltUnit → Given
 given_by wanted unit = record {
-  import = record { name = wanted.name; provider = wanted.provider; hash = unit.hash }; interface = unit.interface }
+  import = record { name = wanted.name; provider = wanted.provider; hash = unit.hash };
+  interface = unit.interface;
+}
 
 -- one given interface before the others; none where a provider isn't done, which an order of units never has
 abbrev pub with_given : WantedName → Option BuiltUnit → Option (List Given) → Option (List Given)
@@ -51,8 +53,13 @@ is_too_large before made =
 
 abbrev pub built_unit : CompileInput → Compiled → BuiltUnit
 built_unit input made = record {
-  unit = input.unit; how = how.Compiled; imports = map (λ given. given.import) input.imports;
-  hash = hash_of made.interface; interface = made.interface; code = made.code }
+  unit = input.unit;
+  how = how.Compiled;
+  imports = map (λ given. given.import) input.imports;
+  hash = hash_of made.interface;
+  interface = made.interface;
+  code = made.code;
+}
 
 -- a unit that was compiled is done unless what the compiler gave is too large, which is 12 at the unit
 abbrev pub within_limits : ℕ → CompileInput → Result Compiled Diag → Result BuiltUnit Diag
@@ -90,7 +97,7 @@ abbrev pub build_after : (CompileInput → Result Compiled Diag) → List BuiltU
 build_after compiled before [] = record { units = []; ended = None; asked = [] }
 build_after compiled before (planned ∷ more) =
     then_build (asked_for planned (givens_of before planned.wanted)) (unit_after compiled before planned)
-      (λ unit. build_after compiled (before ++ unit ∷ []) more)
+    (λ unit. build_after compiled (before ++ unit ∷ []) more)
 
 -- the plain build of a project's units in their order
 abbrev pub plain_build : (CompileInput → Result Compiled Diag) → List PlannedUnit → Build

@@ -1,12 +1,14 @@
 -- What a build leaves in the store: of each unit that is done its interface file and its binfile.
-use Rattle.std.specs.Prelude.{ℕ, ◌≡◌, ◌⊎◌, ◌<◌, ◌^◌, length, All, List, [], ◌∷◌, ◌++◌, Option, Some, None, take, slice_get}
+use Rattle.std.specs.Prelude.{ℕ, Bool, ◌&&◌, nat_lt, ◌≡◌, ◌⊎◌, ◌<◌, ◌^◌, length, All, List, [], ◌∷◌, ◌++◌, Option, Some, None, take, slice_get}
 use Rattle.std.specs.FinMap.{insert}
 use Rattle.cm_base.specs.Files.{Files, told}
-use Rattle.std.specs.List.{AllByRecursion}
+use Rattle.std.specs.List.{AllByRecursion, list_all}
+use Rattle.cm_base.specs.declared.record.Spot.{Spot}
+use Rattle.cm_base.specs.declared.record.Need.{Need}
 use Rattle.cm_base.specs.declared.record.BuiltUnit.{BuiltUnit}
 use Rattle.bin_store.specs.declared.bin.Bin.{Bin}
 use Rattle.cm_bytes.specs.Hashes.{hash_of}
-use Rattle.bin_store.specs.Format.{binfile, interface_file, IsShortBin}
+use Rattle.bin_store.specs.Format.{binfile, interface_file, IsBin, IsShortBin}
 use Rattle.bin_store.specs.Paths.{bin_path, interface_path}
 use Rattle.bin_store.specs.Stored.{with_interface, PutsInterface, PutsBin}
 use Rattle.cutoff_builder.specs.declared.planned.PlannedUnit.{PlannedUnit}
@@ -16,14 +18,20 @@ use Rattle.cutoff_builder.specs.PlainBuild.{Build}
 -- the binfile's value of a unit that is done
 abbrev pub bin_of_unit : PlannedUnit → BuiltUnit → Bin
 bin_of_unit planned unit = record {
-  unit = planned.unit; options = planned.options; source = planned.source; skeleton = planned.skeleton;
-  imports = unit.imports; interface = unit.hash; code = unit.code }
+  unit = planned.unit;
+  options = planned.options;
+  source = planned.source;
+  skeleton = planned.skeleton;
+  imports = unit.imports;
+  interface = unit.hash;
+  code = unit.code;
+}
 
 -- the files with a unit's interface and binfile
 unfoldable pub with_unit : Files → PlannedUnit → BuiltUnit → Files
 with_unit files planned unit =
     insert (insert files (interface_path unit.hash) (interface_file unit.interface))
-      (bin_path planned.unit) (binfile (bin_of_unit planned unit))
+    (bin_path planned.unit) (binfile (bin_of_unit planned unit))
 
 -- .. of each unit that is done, in order
 abbrev pub with_units : Files → List PlannedUnit → List BuiltUnit → Files
@@ -68,6 +76,32 @@ pub record IsShortPlanned (planned : PlannedUnit) : Type 0 where
   pub wanted : length planned.wanted < 2 ^ 32
   pub each_wanted : AllByRecursion IsShortWanted planned.wanted
 
+-- the same as a test
+abbrev pub is_short_count : ℕ → Bool
+is_short_count count = nat_lt count (2 ^ 32)
+
+abbrev pub is_short_spot : Spot → Bool
+is_short_spot spot = is_short_count (length spot.name.name)
+
+abbrev pub is_short_need : Need → Bool
+is_short_need need = is_short_spot need.spot
+
+abbrev pub is_short_wanted : WantedName → Bool
+is_short_wanted wanted = is_short_count (length wanted.name.name) && is_short_count (length wanted.provider)
+
+unfoldable pub is_short : PlannedUnit → Bool
+is_short planned =
+    is_short_count (length planned.unit) && (is_short_count (length planned.source)
+    && (is_short_count (length planned.skeleton.defined) && (list_all is_short_spot planned.skeleton.defined
+    && (is_short_count (length planned.skeleton.free) && (list_all is_short_need planned.skeleton.free
+    && (is_short_count (length planned.wanted) && list_all is_short_wanted planned.wanted))))))
+
+-- the binfiles of the units that are done have a spelling
+abbrev pub FitUnits : List PlannedUnit → List BuiltUnit → Type 0
+FitUnits [] units = Unit {0}
+FitUnits (planned ∷ more) [] = Unit {0}
+FitUnits (planned ∷ more) (unit ∷ units) = IsBin (bin_of_unit planned unit) × FitUnits more units
+
 -- a unit that can be stored: it has its interface's hash, and the texts and lists of its binfile are short
 pub record IsStorable (planned : PlannedUnit) (unit : BuiltUnit) : Type 0 where
   pub hash : unit.hash ≡ hash_of unit.interface
@@ -79,5 +113,6 @@ pub record LeftByBuild (old new : Option Files) (planned : List PlannedUnit) (bu
   pub done : ℕ
   pub between : Option Files
   pub stored : between ≡ told (λ files. put_units files (take done planned) (take done build.units)) old
+  pub fits : FitUnits (take done planned) (take done build.units)
   pub next : (new ≡ between) ⊎ ((at : PlannedUnit) × (unit : BuiltUnit) × (slice_get planned done ≡ Some at)
       × (slice_get build.units done ≡ Some unit) × StoresUnit between new at unit)

@@ -1,21 +1,20 @@
 //! The build of a project: its units in order, each compiled and stored.
 
-ghost use Rattle.std.specs.Prelude.{◌≡◌, ◌≤◌, Err, OnOk, All};
+ghost use Rattle.std.specs.Prelude.{◌≡◌, ◌≤◌, Err, OnOk};
 ghost use Rattle.cm_base.specs.Causes.{HasCause};
 ghost use Rattle.cutoff_builder.specs.Answers.{GivesUnit, UnitStored, UnitAsked, GivesBuild, BuildStored, BuildAsked};
 ghost use Rattle.cutoff_builder.specs.Doing.{IsDone};
 ghost use Rattle.cutoff_builder.specs.PlainBuild.{unit_after, asked_for, givens_of, plain_build};
-ghost use Rattle.cutoff_builder.specs.Stored.{IsShortPlanned};
-
-use bin_store::StoreFault;
-use cm_base::{Built, Compiler, Diag, Fault, Folder, NoMemory};
-use std::alloc::Global;
 
 use crate::done::Done;
 use crate::limits::ALL_INTERFACES;
 use crate::planned::PlannedUnit;
+use crate::short::is_short;
 use crate::store::store_unit;
 use crate::unit::compile_unit;
+use bin_store::StoreFault;
+use cm_base::{Built, Compiler, Diag, Fault, Folder, NoMemory};
+use std::alloc::Global;
 
 /// Why a build stopped: a diagnostic, with the units done before it; a failing folder; or want of memory.
 #[derive(Debug, Drop)]
@@ -43,7 +42,6 @@ fn build_unit<F: Folder, C: Compiler>(
 ) -> Result<(), UnitFault>
     requires done { IsDone done.old }
     requires few { done.old.interface_bytes ≤ ALL_INTERFACES }
-    requires short { IsShortPlanned planned.now }
     ensures cause { HasCause (F.faults folder.old) (F.faults folder.new) (result ≡ Err UnitFault.Folder) }
     ensures gives { GivesUnit result (unit_after C.compiled done.old.units planned.now) done.old.units done.new.units }
     ensures stored { UnitStored result (unit_after C.compiled done.old.units planned.now)
@@ -54,6 +52,9 @@ fn build_unit<F: Folder, C: Compiler>(
     ensures done { OnOk result (IsDone done.new) }
     ensures few { OnOk result (done.new.interface_bytes ≤ ALL_INTERFACES) }
 {
+    if !is_short(planned) {
+        return Err(UnitFault::NoMemory);
+    }
     let unit = match compile_unit(alloc, compiler, planned, done) {
         Ok(unit) => unit,
         Err(Fault::Diag(diag)) => return Err(UnitFault::Diag(diag)),
@@ -71,14 +72,14 @@ fn build_unit<F: Folder, C: Compiler>(
 }
 
 /// Builds the units in their order, as the plain build defines it, and leaves them in the store. It stops at the
-/// first diagnostic, where the folder fails, or for want of memory.
+/// first diagnostic, where the folder fails, or for want of memory, for which a text or a list of 2^32 bytes or
+/// items, which no format can hold, counts too.
 pub fn build<F: Folder, C: Compiler>(
     alloc: Global,
     folder: &mut F,
     compiler: &mut C,
     units: &[PlannedUnit],
 ) -> Result<Built, BuildFault>
-    requires { All IsShortPlanned units.now }
     ensures cause { HasCause (F.faults folder.old) (F.faults folder.new) (result ≡ Err BuildFault.Folder) }
     ensures gives { GivesBuild result (plain_build C.compiled units.now) }
     ensures stored { BuildStored result (F.holds folder.old) (F.holds folder.new) units.now (plain_build C.compiled units.now) }

@@ -3,13 +3,13 @@
 ghost use Rattle.std.specs.Prelude.{◌≡◌, ◌<◌, ◌^◌, Err, IfOk, OnOk, length};
 ghost use Rattle.cm_base.specs.Causes.{HasCause};
 ghost use Rattle.cm_base.specs.Files.{told};
+ghost use Rattle.bin_store.specs.Format.{IsBin};
 ghost use Rattle.cutoff_builder.specs.Stored.{bin_of_unit, put_unit, IsStorable, StoresUnit};
 
+use crate::planned::PlannedUnit;
 use bin_store::{Bin, StoreFault, put_bin, put_interface};
 use cm_base::{BuiltUnit, Folder, Import, List, NoMemory, Skeleton};
 use std::alloc::Global;
-
-use crate::planned::PlannedUnit;
 
 /// A copy of a skeleton.
 fn copied_skeleton(skeleton: &Skeleton) -> Result<Skeleton, NoMemory>
@@ -51,6 +51,7 @@ pub fn store_unit<F: Folder>(
     requires { IsStorable planned.now unit.now }
     ensures cause { HasCause (F.faults folder.old) (F.faults folder.new) (result ≡ Err StoreFault.Folder) }
     ensures done { OnOk result (F.holds folder.new ≡ told (λ files. put_unit files planned.now unit.now) (F.holds folder.old)) }
+    ensures fits { OnOk result (IsBin (bin_of_unit planned.now unit.now)) }
     ensures leaves { StoresUnit (F.holds folder.old) (F.holds folder.new) planned.now unit.now }
 {
     let bin = bin_of(planned, unit)?;

@@ -6,16 +6,15 @@ ghost use Rattle.cutoff_builder.specs.Answers.{Gives, Asks};
 ghost use Rattle.cutoff_builder.specs.Doing.{IsDone};
 ghost use Rattle.cutoff_builder.specs.PlainBuild.{given_by, givens_of, asked_for, unit_after, unit_given, within_limits, is_too_large, interface_bytes};
 
-use cm_base::{
-    BuiltUnit, CompileFault, CompileInput, Compiled, Compiler, Diag, Fault, Given, How, Import, List,
-    NoMemory,
-};
-use cm_bytes::pid_of;
-use std::alloc::Global;
-
 use crate::done::Done;
 use crate::limits::{ALL_INTERFACES, CODE, INTERFACE};
 use crate::planned::{PlannedUnit, WantedName};
+use cm_base::{
+    BuiltUnit, CompileFault, CompileInput, Compiled, Compiler, Diag, Fault, Given, How, Import,
+    List, NoMemory,
+};
+use cm_bytes::pid_of;
+use std::alloc::Global;
 
 /// A wanted name with the hash and the interface of its provider.
 fn given(wanted: &WantedName, unit: &BuiltUnit) -> Result<Given, NoMemory>
@@ -32,7 +31,11 @@ fn given(wanted: &WantedName, unit: &BuiltUnit) -> Result<Given, NoMemory>
 }
 
 /// The wanted names with what this build gave to their providers; none where a provider isn't done.
-fn givens(alloc: Global, done: &Done, wanted: &[WantedName]) -> Result<Option<List<Given>>, NoMemory>
+fn givens(
+    alloc: Global,
+    done: &Done,
+    wanted: &[WantedName],
+) -> Result<Option<List<Given>>, NoMemory>
     requires { IsDone done.now }
     ensures { IfOk result (λ givens. givens ≡ givens_of done.now.units wanted.now) }
 {
@@ -75,7 +78,12 @@ fn is_too_large(before: u64, made: &Compiled) -> bool
 }
 
 /// The unit that was compiled of an input, or 12 where what the compiler made is too large.
-fn finished(alloc: Global, input: CompileInput, before: u64, made: Compiled) -> Result<BuiltUnit, Fault>
+fn finished(
+    alloc: Global,
+    input: CompileInput,
+    before: u64,
+    made: Compiled,
+) -> Result<BuiltUnit, Fault>
     requires { before ≤ ALL_INTERFACES }
     ensures gives { Gives result (within_limits before input (Ok made)) }
     ensures room { IfOk result (λ unit. before + length unit.interface ≤ ALL_INTERFACES) }

@@ -59,9 +59,11 @@ unit_again u short small = record {
       let imports = list_of linked_import_of u.imports in
       let code = text_of u.code in
       let name_is = fields.text_again u.unit (imports ++ (code ++ rest)) short.name in
-      let imports_are = fields.list_again linked_import_of linked_import_at u.imports (code ++ rest) each short.imports in
+      let imports_are =
+      fields.list_again linked_import_of linked_import_at u.imports (code ++ rest) each short.imports in
       let code_is = fields.text_again u.code rest short.code in
-      rw (append_assoc name (imports ++ code) rest, append_assoc imports code rest, name_is, imports_are, code_is) refl;
+      rw (append_assoc name (imports ++ code) rest, append_assoc imports code rest) (
+      rw (name_is, imports_are, code_is) refl);
 }
 
 -- short units with small places are read again

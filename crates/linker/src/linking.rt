@@ -6,7 +6,7 @@ ghost use Rattle.linker.specs.Linked.{link_of, import_at, unit_at, place_from, I
 ghost use lib.Pointwise.{pointwise};
 
 use crate::program::{Linked, LinkedImport, LinkedUnit};
-use cm_base::{Built, BuiltUnit, Import, List, ModName, NoMemory, Text};
+use cm_base::{Built, BuiltUnit, Import, List, NoMemory, Text};
 use indexmap::IndexMap;
 use std::alloc::Global;
 

@@ -1,5 +1,6 @@
 -- How the table of the definers grows.
-use Rattle.std.proofs.Common.{◌≡◌, ◌∙◌, sym, ap, subst, refl, ℕ, zero, suc, ◌+◌, ◌<◌, ◌≤◌, Bool, true, false, cond, List, [], ◌∷◌, ◌++◌, Option, Some, None, length, arith, length-append}
+use Rattle.std.proofs.Common.{◌≡◌, ◌∙◌, sym, ap, subst, refl, ℕ, zero, suc, ◌+◌, ◌<◌, ◌≤◌, Bool, true, false, cond}
+use Rattle.std.proofs.Common.{List, [], ◌∷◌, ◌++◌, Option, Some, None, length, arith, length-append}
 use Rattle.std.specs.Prelude.{slice_get, IfSome}
 use Rattle.std.specs.Borrow.{Bor}
 use Rattle.std.specs.Option.{option_or, option_copied}
@@ -8,21 +9,26 @@ use Rattle.unit_order.specs.declared.ranked.RankedUnit.{RankedUnit}
 use Rattle.unit_order.specs.Planning.{definer, defines}
 use Rattle.unit_order.specs.Tables.{unit_at, Notes, IsTable}
 
+-- an item stands where it stood after more items are added
 slice_get-append : {X : Type 0} (xs ys : List X) (i : ℕ) → i < length xs → slice_get (xs ++ ys) i ≡ slice_get xs i
 slice_get-append [] ys i h = absurd (omega arith)
 slice_get-append (x ∷ xs) ys zero h = refl
 slice_get-append (x ∷ xs) ys (suc i) h = slice_get-append xs ys i (omega arith)
 
+-- the item that was added stands at the end
 slice_get-end : {X : Type 0} (xs : List X) (y : X) (i : ℕ) → i ≡ length xs → slice_get (xs ++ y ∷ []) i ≡ Some y
 slice_get-end [] y zero h = refl
 slice_get-end [] y (suc i) h = absurd (omega arith)
 slice_get-end (x ∷ xs) y zero h = absurd (omega arith)
 slice_get-end (x ∷ xs) y (suc i) h = slice_get-end xs y i (omega arith)
 
-or_cond : {A : Type 0} (b : Bool) (u : A) (a o : Option A) → option_or (cond b (Some u) a) o ≡ cond b (Some u) (option_or a o)
+-- a choice under an alternative
+or_cond : {A : Type 0} (b : Bool) (u : A) (a o : Option A) → option_or (cond b (Some u) a) o
+    ≡ cond b (Some u) (option_or a o)
 or_cond true u a o = refl
 or_cond false u a o = refl
 
+-- an alternative to nothing
 or_none : {A : Type 0} (b : Bool) (u : A) → option_or None (cond b (Some u) None) ≡ cond b (Some u) None
 or_none true u = refl
 or_none false u = refl
@@ -35,6 +41,7 @@ definer-add (first ∷ units) unit name =
     ap (λ o. option_or o (cond (defines first name) (Some first) None)) (definer-add units unit name)
     ∙ or_cond (defines unit name) unit (definer units name) (cond (defines first name) (Some first) None)
 
+-- what a table finds after a unit was added
 finds_more : (units : List RankedUnit) (unit : RankedUnit) (b : Bool) (o : Option ℕ)
     → ((place : ℕ) → o ≡ Some place → place < length units)
     → unit_at (units ++ unit ∷ []) (cond b (Some (length units)) o) ≡ cond b (Some unit) (unit_at units o)
@@ -42,15 +49,18 @@ finds_more units unit true o below = slice_get-end units unit (length units) ref
 finds_more units unit false None below = refl
 finds_more units unit false (Some place) below = slice_get-append units (unit ∷ []) place (below place refl)
 
+-- the places of a table are below the greater length
 below_more : (n : ℕ) (b : Bool) (o : Option ℕ) (place : ℕ) → ((place : ℕ) → o ≡ Some place → place < n)
     → cond b (Some n) o ≡ Some place → place < n + 1
 below_more n true o place below is = let same : n ≡ place = cc in omega arith
 below_more n false o place below is = let h : place < n = below place is in omega arith
 
+-- the ranks are below the greater length
 low_more : (n : ℕ) (b : Bool) (added : RankedUnit) (o : Option RankedUnit) (unit : RankedUnit) → added.rank ≤ n
     → ((unit : RankedUnit) → o ≡ Some unit → unit.rank < n) → cond b (Some added) o ≡ Some unit → unit.rank < n + 1
 low_more n true added o unit rank low is =
-    let same : added ≡ unit = cc in let ranks : added.rank ≡ unit.rank = ap (λ (u : RankedUnit). u.rank) same in omega arith
+    let same : added ≡ unit = cc in let ranks : added.rank ≡ unit.rank =
+    ap (λ (u : RankedUnit). u.rank) same in omega arith
 low_more n false added o unit rank low is = let h : unit.rank < n = low unit is in omega arith
 
 -- a table stays one that finds the definer of each name
@@ -68,7 +78,8 @@ table_more old new units unit rank notes table = record {
       (below_more (length units) (defines unit name) (old name) place (table.below name) (sym (notes name) ∙ is));
   low = λ name found is.
       subst (λ n. found.rank < n) (sym (length-append units (unit ∷ [])))
-      (low_more (length units) (defines unit name) unit (definer units name) found rank (table.low name) (sym (definer-add units unit name) ∙ is));
+      (low_more (length units) (defines unit name) unit (definer units name) found rank (table.low name)
+      (sym (definer-add units unit name) ∙ is));
 }
 
 -- the rank of a unit that is found is below the number of units

@@ -1,6 +1,7 @@
 -- Which unit provides each name that a unit uses, and the order of the units. In the first form no two members
 -- define one module name, and each name that a member uses is sure and defined by a member before it.
-use Rattle.std.specs.Prelude.{◌+◌, Bool, true, false, max, List, [], ◌∷◌, ◌++◌, Option, Some, None, is_some, if◌then◌else◌}
+use Rattle.std.specs.Prelude.{◌+◌, Bool, true, false, max, List, [], ◌∷◌, ◌++◌}
+use Rattle.std.specs.Prelude.{Option, Some, None, is_some, if◌then◌else◌}
 use Rattle.std.specs.List.{list_any}
 use Rattle.std.specs.Option.{option_or, option_map}
 use Rattle.std.specs.Ordering.{nat_cmp, ordering_then}
@@ -31,10 +32,11 @@ abbrev pub definer : List RankedUnit → ModName → Option RankedUnit
 definer [] name = None
 definer (unit ∷ units) name = option_or (definer units name) (if defines unit name then Some unit else None)
 
--- whether a skeleton defines a name that one of these units defines
+-- whether one of these names has a definer among these units
 abbrev pub clashes_at : List RankedUnit → List Spot → Bool
 clashes_at units spots = list_any (λ spot. is_some (definer units spot.name)) spots
 
+-- whether a skeleton defines a name that one of these units defines
 abbrev pub clashes : List RankedUnit → Skeleton → Bool
 clashes units skeleton = clashes_at units skeleton.defined
 
@@ -48,7 +50,10 @@ with_found need None more = None
 with_found need (Some unit) None = None
 with_found need (Some unit) (Some more) =
     if need.sure
-    then Some (record { wanted = record { name = need.spot.name; provider = unit.planned.unit } ∷ more.wanted; rank = max (unit.rank + 1) more.rank })
+    then Some (record {
+      wanted = record { name = need.spot.name; provider = unit.planned.unit } ∷ more.wanted;
+      rank = max (unit.rank + 1) more.rank;
+    })
     else None
 
 -- the providers of the names that a unit uses, and the least rank above theirs
@@ -56,6 +61,7 @@ abbrev pub found_in : List RankedUnit → List Need → Option Found
 found_in units [] = Some (record { wanted = []; rank = 0 })
 found_in units (need ∷ needs) = with_found need (definer units need.spot.name) (found_in units needs)
 
+-- a unit with its rank and its providers
 abbrev pub ranked : Unit → Skeleton → Found → RankedUnit
 ranked unit skeleton found = record {
   rank = found.rank;
@@ -68,15 +74,17 @@ ranked unit skeleton found = record {
   };
 }
 
+-- .. where no name clashes and each provider is found
 abbrev pub ranked_if : Bool → Unit → Skeleton → Option Found → Option RankedUnit
 ranked_if true unit skeleton found = None
 ranked_if false unit skeleton None = None
 ranked_if false unit skeleton (Some found) = Some (ranked unit skeleton found)
 
--- a unit with its rank and its providers, which stand among the units before it
+-- a unit with its rank and its providers, which are among the units before it
 abbrev pub ranked_after : List RankedUnit → Unit → Skeleton → Option RankedUnit
 ranked_after before unit skeleton = ranked_if (clashes before skeleton) unit skeleton (found_in before skeleton.free)
 
+-- what follows on a unit that has its rank
 abbrev pub then_ranked : Option RankedUnit → (RankedUnit → Option (List RankedUnit)) → Option (List RankedUnit)
 then_ranked None rest = None
 then_ranked (Some unit) rest = rest unit

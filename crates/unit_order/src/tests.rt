@@ -6,6 +6,7 @@ use std::alloc::Global;
 use std::test::*;
 
 /// A member whose structures have names of one letter.
+#[derive(Drop)]
 struct Member<'a> {
     name: &'a [u8],
     defines: &'a [u8],
@@ -13,7 +14,7 @@ struct Member<'a> {
     sure: bool,
 }
 
-fn member<'a>(name: &'a [u8], defines: &'a [u8], uses: &'a [u8]) -> Member<'a> {
+fn listed_as<'a>(name: &'a [u8], defines: &'a [u8], uses: &'a [u8]) -> Member<'a> {
     Member {
         name,
         defines,
@@ -92,9 +93,9 @@ fn order_of(alloc: Global, members: &[Member<'_>]) -> Result<Vec<u8>, NoMemory> 
 #[test]
 fn a_chain_keeps_its_order(rt: HostRuntime) -> Result<(), Fail> {
     let members = [
-        member(b"a.sml", b"A", b""),
-        member(b"b.sml", b"B", b"A"),
-        member(b"c.sml", b"C", b"AB"),
+        listed_as(b"a.sml", b"A", b""),
+        listed_as(b"b.sml", b"B", b"A"),
+        listed_as(b"c.sml", b"C", b"AB"),
     ];
     let order = order_of(rt.alloc(), &members).ok().ok_or("memory")?;
     assert_eq!(rt;
@@ -107,9 +108,9 @@ fn a_chain_keeps_its_order(rt: HostRuntime) -> Result<(), Fail> {
 #[test]
 fn ranks_come_before_names(rt: HostRuntime) -> Result<(), Fail> {
     let members = [
-        member(b"a.sml", b"A", b""),
-        member(b"b.sml", b"B", b"A"),
-        member(b"k.sml", b"K", b""),
+        listed_as(b"a.sml", b"A", b""),
+        listed_as(b"b.sml", b"B", b"A"),
+        listed_as(b"k.sml", b"K", b""),
     ];
     let order = order_of(rt.alloc(), &members).ok().ok_or("memory")?;
     assert_eq!(rt; order.as_slice(), b"a.sml;k.sml;b.sml<a.sml;".as_slice());
@@ -119,11 +120,11 @@ fn ranks_come_before_names(rt: HostRuntime) -> Result<(), Fail> {
 #[test]
 fn a_rank_is_above_the_greatest(rt: HostRuntime) -> Result<(), Fail> {
     let members = [
-        member(b"z.sml", b"Z", b""),
-        member(b"y.sml", b"Y", b"Z"),
-        member(b"c.sml", b"C", b"Y"),
-        member(b"a.sml", b"A", b"CZ"),
-        member(b"b.sml", b"B", b"Y"),
+        listed_as(b"z.sml", b"Z", b""),
+        listed_as(b"y.sml", b"Y", b"Z"),
+        listed_as(b"c.sml", b"C", b"Y"),
+        listed_as(b"a.sml", b"A", b"CZ"),
+        listed_as(b"b.sml", b"B", b"Y"),
     ];
     let order = order_of(rt.alloc(), &members).ok().ok_or("memory")?;
     assert_eq!(rt;
@@ -135,7 +136,10 @@ fn a_rank_is_above_the_greatest(rt: HostRuntime) -> Result<(), Fail> {
 
 #[test]
 fn a_clash_has_no_plan(rt: HostRuntime) -> Result<(), Fail> {
-    let members = [member(b"a.sml", b"A", b""), member(b"b.sml", b"BA", b"")];
+    let members = [
+        listed_as(b"a.sml", b"A", b""),
+        listed_as(b"b.sml", b"BA", b""),
+    ];
     let order = order_of(rt.alloc(), &members).ok().ok_or("memory")?;
     assert_eq!(rt; order.as_slice(), b"none".as_slice());
     Ok(())
@@ -143,7 +147,10 @@ fn a_clash_has_no_plan(rt: HostRuntime) -> Result<(), Fail> {
 
 #[test]
 fn a_later_definer_is_none(rt: HostRuntime) -> Result<(), Fail> {
-    let members = [member(b"b.sml", b"B", b"A"), member(b"a.sml", b"A", b"")];
+    let members = [
+        listed_as(b"b.sml", b"B", b"A"),
+        listed_as(b"a.sml", b"A", b""),
+    ];
     let order = order_of(rt.alloc(), &members).ok().ok_or("memory")?;
     assert_eq!(rt; order.as_slice(), b"none".as_slice());
     Ok(())
@@ -151,7 +158,7 @@ fn a_later_definer_is_none(rt: HostRuntime) -> Result<(), Fail> {
 
 #[test]
 fn a_unit_is_no_definer_for_itself(rt: HostRuntime) -> Result<(), Fail> {
-    let members = [member(b"a.sml", b"A", b"A")];
+    let members = [listed_as(b"a.sml", b"A", b"A")];
     let order = order_of(rt.alloc(), &members).ok().ok_or("memory")?;
     assert_eq!(rt; order.as_slice(), b"none".as_slice());
     Ok(())
@@ -165,7 +172,7 @@ fn an_unsure_name_has_no_plan(rt: HostRuntime) -> Result<(), Fail> {
         uses: b"A",
         sure: false,
     };
-    let members = [member(b"a.sml", b"A", b""), unsure];
+    let members = [listed_as(b"a.sml", b"A", b""), unsure];
     let order = order_of(rt.alloc(), &members).ok().ok_or("memory")?;
     assert_eq!(rt; order.as_slice(), b"none".as_slice());
     Ok(())

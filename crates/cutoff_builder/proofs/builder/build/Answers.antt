@@ -11,16 +11,17 @@ returns-in-Err-Diag-clause-stored g c =
     let gives = rw c.in-Err-Diag.field-0-is at c.in-Err-Diag.ensures.gives in
     let stored = rw c.in-Err-Diag.field-0-is at c.in-Err-Diag.ensures.stored in
     let next = drop_more c.args.units.now c.loop-planned.planned-index c.planned-item.result c.loop-planned-test.true
-        ∙ ap (λ p. p ∷ drop (c.loop-planned.planned-index + 1) c.args.units.now) (sym c.planned-item.is) in
-    stored ∙ (ended_here g.C.Compiler.compiled c.args.units.now c.loop-planned.invariant.going
-        (refused_next g.C.Compiler.compiled c.args.units.now c.loop-planned.planned-index c.loop-planned.done.units c.planned-item.result c.in-Err-Diag.diag next gives.0)
-        refl).files
+    ∙ ap (λ p. p ∷ drop (c.loop-planned.planned-index + 1) c.args.units.now) (sym c.planned-item.is) in
+    let ended = ended_here g.C.Compiler.compiled c.args.units.now c.loop-planned.invariant.going
+    (refused_next g.C.Compiler.compiled c.args.units.now c.loop-planned.planned-index c.loop-planned.done.units c.planned-item.result c.in-Err-Diag.diag next gives.0)
+    refl in
+    (stored ∙ ended.files, ended.fits)
 
 pub returns-in-Err-Folder-clause-stored : goal.returns-in-Err-Folder-clause-stored
 returns-in-Err-Folder-clause-stored g c =
     let stored = rw c.in-Err-Folder.field-0-is at c.in-Err-Folder.ensures.stored in
     let next = drop_more c.args.units.now c.loop-planned.planned-index c.planned-item.result c.loop-planned-test.true
-        ∙ ap (λ p. p ∷ drop (c.loop-planned.planned-index + 1) c.args.units.now) (sym c.planned-item.is) in
+    ∙ ap (λ p. p ∷ drop (c.loop-planned.planned-index + 1) c.args.units.now) (sym c.planned-item.is) in
     let there = slice_get_read c.args.units.now (length c.args.units.now) c.loop-planned.planned-index c.planned-item.result refl c.loop-planned-test.true c.planned-item.is in
     cut_within g.C.Compiler.compiled c.args.units.now c.loop-planned.invariant.going next there stored.1 stored.2
 
@@ -28,7 +29,7 @@ pub returns-in-Err-NoMemory-clause-stored : goal.returns-in-Err-NoMemory-clause-
 returns-in-Err-NoMemory-clause-stored g c =
     let stored = rw c.in-Err-NoMemory.field-0-is at c.in-Err-NoMemory.ensures.stored in
     let next = drop_more c.args.units.now c.loop-planned.planned-index c.planned-item.result c.loop-planned-test.true
-        ∙ ap (λ p. p ∷ drop (c.loop-planned.planned-index + 1) c.args.units.now) (sym c.planned-item.is) in
+    ∙ ap (λ p. p ∷ drop (c.loop-planned.planned-index + 1) c.args.units.now) (sym c.planned-item.is) in
     let there = slice_get_read c.args.units.now (length c.args.units.now) c.loop-planned.planned-index c.planned-item.result refl c.loop-planned-test.true c.planned-item.is in
     elim stored [
       | inl same ↦ cut_before g.C.Compiler.compiled c.args.units.now c.loop-planned.invariant.going same
@@ -39,23 +40,23 @@ pub returns-in-Err-NoMemory-clause-asked : goal.returns-in-Err-NoMemory-clause-a
 returns-in-Err-NoMemory-clause-asked g c =
     let asked = rw c.in-Err-NoMemory.field-0-is at c.in-Err-NoMemory.ensures.asked in
     let next = drop_more c.args.units.now c.loop-planned.planned-index c.planned-item.result c.loop-planned-test.true
-        ∙ ap (λ p. p ∷ drop (c.loop-planned.planned-index + 1) c.args.units.now) (sym c.planned-item.is) in
+    ∙ ap (λ p. p ∷ drop (c.loop-planned.planned-index + 1) c.args.units.now) (sym c.planned-item.is) in
     cut_asked g.C.Compiler.compiled c.args.units.now (g.C.Compiler.asked c.build_unit.new.compiler) c.loop-planned.invariant.going next asked
 
 pub loop-planned-preserved : goal.loop-planned-preserved
 loop-planned-preserved g c =
     let i = c.loop-planned.planned-index in
     let next = drop_more c.args.units.now i c.planned-item.result c.loop-planned-test.true
-        ∙ ap (λ p. p ∷ drop (i + 1) c.args.units.now) (sym c.planned-item.is) in
+    ∙ ap (λ p. p ∷ drop (i + 1) c.args.units.now) (sym c.planned-item.is) in
     let taken = take_more c.args.units.now i c.planned-item.result c.loop-planned-test.true
-        ∙ ap (λ p. take i c.args.units.now ++ p ∷ []) (sym c.planned-item.is) in
+    ∙ ap (λ p. take i c.args.units.now ++ p ∷ []) (sym c.planned-item.is) in
     let within : i < length c.args.units.now = c.loop-planned-test.true in
     let long : length (take i c.args.units.now) ≡ i = omega (arith, length-take i c.args.units.now) in
     let gives = c.in-Ok.ensures.gives in
     let stored = c.in-Ok.ensures.stored in
     let same : stored.0 ≡ gives.0 = cc (gives.1, stored.1) in
     let grown = ap (λ u. c.loop-planned.done.units ++ u ∷ []) same ∙ sym gives.2 in
-    let step = going_step g.C.Compiler.compiled c.args.units.now c.loop-planned.invariant.going next taken long stored.1 c.in-Ok.ensures.asked stored.2 in
+    let step = going_step g.C.Compiler.compiled c.args.units.now c.loop-planned.invariant.going next taken long stored.1 c.in-Ok.ensures.asked stored.2 stored.3 in
     record {
       going = subst (λ us. Going g.C.Compiler.compiled c.args.units.now (i + 1) us (g.C.Compiler.asked c.args.compiler.now)
           (g.C.Compiler.asked c.build_unit.new.compiler) (g.F.Folder.holds c.args.folder.now) (g.F.Folder.holds c.build_unit.new.folder)) grown step;
@@ -67,5 +68,6 @@ loop-planned-preserved g c =
 
 pub returns-clause-stored : goal.returns-clause-stored
 returns-clause-stored g c =
-    (ended_here g.C.Compiler.compiled c.args.units.now c.loop-planned.invariant.going
-      (ap (build_after g.C.Compiler.compiled c.loop-planned.done.units) (drop_all c.loop-planned.planned-index c.args.units.now c.loop-planned-test.false)) (sym (append-nil _))).files
+    let ended = ended_here g.C.Compiler.compiled c.args.units.now c.loop-planned.invariant.going
+    (ap (build_after g.C.Compiler.compiled c.loop-planned.done.units) (drop_all c.loop-planned.planned-index c.args.units.now c.loop-planned-test.false)) (sym (append-nil _)) in
+    (ended.files, ended.fits)

@@ -9,5 +9,6 @@ use Rattle.linker.proofs.linking.places.Given as goal
 abbrev pub invariant-loop-unit : goal.invariant-loop-unit
 invariant-loop-unit l =
     (l.place ≡ l.unit-index)
-    × ((q : List ℕ) → option_or (place_from l.unit-index (drop l.unit-index l.units) q) (get (pointwise nat_eq) l.table q)
+    × ((q : List ℕ) →
+    option_or (place_from l.unit-index (drop l.unit-index l.units) q) (get (pointwise nat_eq) l.table q)
     ≡ place_from 0 l.units q)

@@ -19,7 +19,8 @@ loop-need-preserved c =
     c.in_ok-add.ensures.ok ∙ ap (λ w. c.loop-need.wanted ++ w ∷ []) c.in_ok-item.ensures in
     record {
       found = ap₂ (λ w r. added_to w r (found_in units (drop (i + 1) needs))) pushed top
-          ∙ sym (found_more units needs i need unit c.loop-need.wanted c.loop-need.rank c.loop-need-test.true c.need-item.is (sym c.in-Some.ensures.unit))
+          ∙ sym (found_more units needs i need unit c.loop-need.wanted c.loop-need.rank c.loop-need-test.true
+          c.need-item.is (sym c.in-Some.ensures.unit))
           ∙ c.loop-need.invariant.found;
       low = omega arith;
     }

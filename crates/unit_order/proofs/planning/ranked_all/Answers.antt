@@ -21,7 +21,8 @@ returns-in_default-2 c =
     ap (slice_get c.args.skeletons.now) (sym place) ∙ sym c.in-Some.ensures.item in
     let none : None ≡ ranked_after c.loop-unit.ranking.units c.unit-item.result c.in-Some.skeleton.now =
     sym c.in_default-2.is ∙ c.in_ok-next.ensures.ranked in
-    sym (ranked_more c.loop-unit.ranking.units c.args.units.now c.args.skeletons.now c.loop-unit.unit-index c.unit-item.result c.in-Some.skeleton.now
+    sym (ranked_more c.loop-unit.ranking.units c.args.units.now c.args.skeletons.now c.loop-unit.unit-index
+    c.unit-item.result c.in-Some.skeleton.now
     None c.loop-unit-test.true c.unit-item.is here none)
     ∙ c.loop-unit.invariant.whole
 
@@ -33,12 +34,16 @@ loop-unit-preserved c =
     let i = c.loop-unit.unit-index in
     let next = c.in-Some-2.next in
     let place : c.len.result ≡ i = c.len.ensures ∙ c.loop-unit.invariant.count in
-    let here : slice_get skeletons i ≡ Some c.in-Some.skeleton.now = ap (slice_get skeletons) (sym place) ∙ sym c.in-Some.ensures.item in
-    let step : Some next ≡ ranked_after before c.unit-item.result c.in-Some.skeleton.now = sym c.in-Some-2.is ∙ c.in_ok-next.ensures.ranked in
+    let here : slice_get skeletons i ≡ Some c.in-Some.skeleton.now = ap (slice_get skeletons) (sym place)
+    ∙ sym c.in-Some.ensures.item in
+    let step : Some next ≡ ranked_after before c.unit-item.result c.in-Some.skeleton.now = sym c.in-Some-2.is
+    ∙ c.in_ok-next.ensures.ranked in
     record {
       whole = ap (λ us. ranked_units us (drop (i + 1) units) (drop (i + 1) skeletons)) c.in_ok-add.ensures.units
-          ∙ sym (ranked_more before units skeletons i c.unit-item.result c.in-Some.skeleton.now (Some next) c.loop-unit-test.true c.unit-item.is here step)
+          ∙ sym (ranked_more before units skeletons i c.unit-item.result c.in-Some.skeleton.now (Some next)
+          c.loop-unit-test.true c.unit-item.is here step)
           ∙ c.loop-unit.invariant.whole;
       table = c.in_ok-add.ensures.ranking;
-      count = ap length c.in_ok-add.ensures.units ∙ length-append before (next ∷ []) ∙ ap (λ n. n + 1) c.loop-unit.invariant.count;
+      count = ap length c.in_ok-add.ensures.units ∙ length-append before (next ∷ [])
+          ∙ ap (λ n. n + 1) c.loop-unit.invariant.count;
     }
