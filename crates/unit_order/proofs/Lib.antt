@@ -1,3 +1,4 @@
 pub mod Placing
+pub mod Planned
 pub mod Steps
 pub mod TableLemmas

@@ -31,7 +31,7 @@ exact_positions a b h =
     (exact_pairs nat_cmp (slice_cmp nat_cmp) exact_unsigned exact_bytes (a.rank, a.name) (b.rank, b.name) h)
 
 -- the order of positions is total
-positions_total : IsTotalOrder position_cmp
+pub positions_total : IsTotalOrder position_cmp
 positions_total = then_total (on_total (λ s. s.rank) nat_cmp_total) (on_total (λ s. s.name) nat_list_cmp_total)
 
 -- what a table has at a position is what its entries have there
