@@ -54,7 +54,9 @@ fn is_is_word(word: &[u8]) -> bool
 fn are_source_names(members: &[PlacedWord]) -> bool
     ensures { result ≡ list_all (λ member. is_source_name member.text) members.now }
 {
-    members.iter().all(|member| is_source_name(member.text.as_bytes()))
+    members
+        .iter()
+        .all(|member| is_source_name(member.text.as_bytes()))
 }
 
 /// Whether each member's name differs from those before it.

@@ -64,7 +64,7 @@ unit_more files root sum next_sum members i member front next unit whole lt here
     ∙ ap (λ n. with_units (front ++ unit ∷ []) (units_of files root n (drop (i + 1) members))) added
     ∙ with_more front unit (units_of files root (sum + length unit.source) (drop (i + 1) members))
     ∙ ap (λ r. with_units front (r >>= λ unit. units_of files root (sum + length unit.source)
-      (drop (i + 1) members) >>= λ units. Ok (unit ∷ units))) (sym found)
+    (drop (i + 1) members) >>= λ units. Ok (unit ∷ units))) (sym found)
     ∙ ap (λ ms. with_units front (units_of files root sum ms)) (sym (left_at members i member lt here))
     ∙ is
 
@@ -93,7 +93,7 @@ pub all_units : (files : Files) (root : List ℕ) (sum : ℕ) (members : List Pl
     → with_units front (units_of files root sum (drop i members)) ≡ whole → whole ≡ Ok front
 all_units files root sum members i front whole end is =
     sym is ∙ ap (λ ms. with_units front (units_of files root sum ms)) (drop_all i members end)
-      ∙ ap Ok (append-nil front)
+    ∙ ap Ok (append-nil front)
 
 -- the answer of a call that passes a fault on
 pub passed : {A B : Type 0} (r : Result B LoadFault) (e : LoadFault) (m : Result A Diag) (next : A → Result B Diag)
@@ -132,7 +132,7 @@ pub root_refused : (files : Files) (root : List ℕ) (r : Result Project LoadFau
     → Loads r (project_of files root)
 root_refused files root r e is gives =
     passed r (of_refusal e) (checked_root root) (λ checked. from_root files root) is
-      (refused e (checked_root root) gives)
+    (refused e (checked_root root) gives)
 
 -- a project whose anchors stop it
 pub anchors_stop : (files : Files) (root : List ℕ) (r : Result Project LoadFault) (e : LoadFault) (checked : Unit {0})

@@ -29,7 +29,7 @@ pub rest_at : (skel : List ℕ → List ℕ → Result Skeleton Diag) (units : L
     → skeletons_of skel (drop i units) ≡ then_skeletons unit.name answer (skeletons_of skel (drop (i + 1) units))
 rest_at skel units i unit answer lt here is =
     ap (skeletons_of skel) (left_at units i unit lt here)
-      ∙ ap (λ a. then_skeletons unit.name a (skeletons_of skel (drop (i + 1) units))) is
+    ∙ ap (λ a. then_skeletons unit.name a (skeletons_of skel (drop (i + 1) units))) is
 
 -- one skeleton goes from the rest to those before it
 pub continues_more : (before next : List Skeleton) (old now new : List (List ℕ)) (name : List ℕ)
@@ -38,10 +38,10 @@ pub continues_more : (before next : List Skeleton) (old now new : List (List ℕ
     → Continues before old now rest all → Continues next old new whole all
 continues_more before next old now new name skeleton rest whole all pushed grown is so = record {
   found = ap (λ n. n ++ whole.found) pushed ∙ append_assoc before (skeleton ∷ []) whole.found
-    ∙ ap (λ r. before ++ r.found) (sym is) ∙ so.found;
+      ∙ ap (λ r. before ++ r.found) (sym is) ∙ so.found;
   ended = ap (λ r. r.ended) (sym is) ∙ so.ended;
   asked = ap (λ n. n ++ whole.asked) grown ∙ append_assoc now (name ∷ []) whole.asked
-    ∙ ap (λ r. now ++ r.asked) (sym is) ∙ so.asked;
+      ∙ ap (λ r. now ++ r.asked) (sym is) ∙ so.asked;
 }
 
 -- what was asked so far is a front of all that is asked

@@ -14,7 +14,10 @@ pub record Skeletons : Type 0 where
 abbrev pub then_skeletons : List ℕ → Result Skeleton Diag → Skeletons → Skeletons
 then_skeletons unit (Err diag) rest = record { found = []; ended = Some diag; asked = unit ∷ [] }
 then_skeletons unit (Ok skeleton) rest = record {
-  found = skeleton ∷ rest.found; ended = rest.ended; asked = unit ∷ rest.asked }
+  found = skeleton ∷ rest.found;
+  ended = rest.ended;
+  asked = unit ∷ rest.asked;
+}
 
 -- the skeletons of these units
 abbrev pub skeletons_of : (List ℕ → List ℕ → Result Skeleton Diag) → List SourceUnit → Skeletons

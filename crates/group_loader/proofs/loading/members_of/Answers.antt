@@ -8,13 +8,13 @@ use Rattle.group_loader.proofs.loading.members_of.Goals as goal
 pub returns-in_err-members_of-clause-gives : goal.returns-in_err-members_of-clause-gives
 returns-in_err-members_of-clause-gives g c = λ files is.
     failed c.from_residual-in_err-members_of.result c.in_err-members_of.field-0.0 _ _
-      c.from_residual-in_err-members_of.ensures.1
+    c.from_residual-in_err-members_of.ensures.1
     (ap (members_of c.args.root.now) (c.in_ok-found.ensures.read files is)
-      ∙ members_front c.args.root.now (get files c.args.root.now))
+    ∙ members_front c.args.root.now (get files c.args.root.now))
     c.in_err-members_of.ensures
 
 pub returns-clause-gives : goal.returns-clause-gives
 returns-clause-gives g c = λ files is.
     sym (ap (members_of c.args.root.now) (c.in_ok-found.ensures.read files is)
-      ∙ members_front c.args.root.now (get files c.args.root.now))
+    ∙ members_front c.args.root.now (get files c.args.root.now))
     ∙ c.in_ok-members_of.ensures

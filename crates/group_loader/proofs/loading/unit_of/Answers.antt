@@ -8,7 +8,7 @@ use Rattle.group_loader.proofs.loading.unit_of.Goals as goal
 pub returns-in_err-source_found-clause-gives : goal.returns-in_err-source_found-clause-gives
 returns-in_err-source_found-clause-gives g c = λ files is.
     failed c.from_residual-in_err-source_found.result c.in_err-source_found.field-0.0 _ _
-      c.from_residual-in_err-source_found.ensures.1
+    c.from_residual-in_err-source_found.ensures.1
     (ap (source_found c.args.root.now c.args.sum c.args.member.now) (c.in_ok-found.ensures.read files is)
     ∙ source_front c.args.root.now c.args.sum c.args.member.now (get files c.args.member.now.text)
     ∙ sym (unit_within files c.args.root.now c.args.sum c.args.member.now

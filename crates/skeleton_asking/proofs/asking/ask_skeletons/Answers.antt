@@ -35,7 +35,7 @@ returns-in_err-skeleton-clause-gives g c =
     let all = skeletons_of g.C.Compiler.skel c.args.units.now in
     passed c.from_residual.result c.in_err-skeleton.field-0.0 (λ r. GivesSkeletons r all) c.from_residual.ensures.1
     (stops_gives c.in_err-skeleton.field-0.0 g.C.Compiler.skel c.args.units.now c.loop-unit.unit-index
-      c.unit-item.result
+    c.unit-item.result
     c.loop-unit.skeletons (g.C.Compiler.asked_skeletons c.args.compiler.now)
     (g.C.Compiler.asked_skeletons c.loop-unit.compiler) all
     c.loop-unit-test.true c.unit-item.is c.in_err-skeleton.ensures.gives c.loop-unit.invariant.so)
@@ -45,10 +45,10 @@ returns-in_err-skeleton-clause-asks g c =
     let all = skeletons_of g.C.Compiler.skel c.args.units.now in
     passed c.from_residual.result c.in_err-skeleton.field-0.0
     (λ r. Asks r (g.C.Compiler.asked_skeletons c.args.compiler.now)
-      (g.C.Compiler.asked_skeletons c.ask_skeleton.new.compiler) all.asked)
+    (g.C.Compiler.asked_skeletons c.ask_skeleton.new.compiler) all.asked)
     c.from_residual.ensures.1
     (stops_asks c.in_err-skeleton.field-0.0 g.C.Compiler.skel c.args.units.now c.loop-unit.unit-index
-      c.unit-item.result
+    c.unit-item.result
     c.loop-unit.skeletons (g.C.Compiler.asked_skeletons c.args.compiler.now)
     (g.C.Compiler.asked_skeletons c.loop-unit.compiler) (g.C.Compiler.asked_skeletons c.ask_skeleton.new.compiler) all
     c.loop-unit-test.true c.unit-item.is c.in_err-skeleton.ensures.gives c.in_err-skeleton.ensures.asks
@@ -59,7 +59,7 @@ returns-in_err-add-clause-asks g c =
     let all = skeletons_of g.C.Compiler.skel c.args.units.now in
     passed c.from_residual-in_err-add.result fault.NoMemory
     (λ r. Asks r (g.C.Compiler.asked_skeletons c.args.compiler.now)
-      (g.C.Compiler.asked_skeletons c.ask_skeleton.new.compiler) all.asked)
+    (g.C.Compiler.asked_skeletons c.ask_skeleton.new.compiler) all.asked)
     c.from_residual-in_err-add.ensures.1
     (kept_asks g.C.Compiler.skel c.args.units.now c.loop-unit.unit-index c.unit-item.result c.in_ok-skeleton.skeleton
     c.loop-unit.skeletons (g.C.Compiler.asked_skeletons c.args.compiler.now)
