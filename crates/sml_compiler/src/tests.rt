@@ -1,6 +1,6 @@
 use super::*;
 use cm_base::{
-    CompileFault, CompileInput, Compiled, Compiler, Diag, Given, Import, List, ModName, Namespace,
+    CompileFault, CompileInput, Compiled, Compiler, Given, Import, List, ModName, Namespace,
     NoMemory, Options, Pid, Skeleton, Text,
 };
 use std::alloc::Global;
@@ -61,10 +61,17 @@ fn given(
     })
 }
 
-fn add(imports: &mut List<Given>, one: Given) -> Result<(), NoMemory> {
-    match imports.push(one) {
-        Ok(()) => Ok(()),
-        Err(_one) => Err(NoMemory),
+/// The imports with one more.
+fn with(
+    mut imports: List<Given>,
+    alloc: Global,
+    space: Namespace,
+    name: &[u8],
+    interface: &[u8],
+) -> Result<List<Given>, NoMemory> {
+    match imports.push(given(alloc, space, name, interface)?) {
+        Ok(()) => Ok(imports),
+        Err(_given) => Err(NoMemory),
     }
 }
 
@@ -97,25 +104,57 @@ fn skeleton(alloc: Global, source: &[u8]) -> Result<Result<Skeleton, CompileFaul
     Ok(compiler.skeleton(alloc, &unit, &source))
 }
 
-fn is_refusal(rt: &impl Abort, diag: &Diag, number: u8, of: &[u8]) {
-    assert_eq!(rt; diag.number, number, "{of:?}");
-    assert_eq!(rt; diag.at.file.as_bytes(), b"u.sml".as_slice());
-    assert_eq!(rt; diag.at.line, 0);
-    assert_eq!(rt; diag.at.col, 0);
-    assert_eq!(rt; diag.names.len(), 0);
+/// The fault is a diagnostic with this number and no names, at the unit as a whole.
+fn has_number(rt: &impl Abort, fault: &CompileFault, number: u8) {
+    match fault {
+        CompileFault::Diag(diag) => {
+            assert_eq!(rt; diag.number, number);
+            assert_eq!(rt; diag.at.file.as_bytes(), b"u.sml".as_slice());
+            assert_eq!(rt; diag.at.line, 0);
+            assert_eq!(rt; diag.at.col, 0);
+            assert_eq!(rt; diag.names.len(), 0);
+        }
+        CompileFault::NoMemory => assert!(rt; false, "no memory"),
+    }
 }
 
-/// Both calls refuse the source with this number, at the unit as a whole.
-fn is_refused(rt: &impl Abort, alloc: Global, source: &[u8], number: u8) -> Result<(), Fail> {
-    let skeleton = skeleton(alloc, source)?;
-    assert!(rt; skeleton.is_err(), "{source:?}");
-    if let Err(CompileFault::Diag(diag)) = &skeleton {
-        is_refusal(rt, diag, number, source);
+fn has_no_skeleton(
+    rt: &impl Abort,
+    alloc: Global,
+    source: &[u8],
+    number: u8,
+) -> Result<(), NoMemory> {
+    match skeleton(alloc, source)? {
+        Ok(_made) => assert!(rt; false, "{source:?}"),
+        Err(fault) => has_number(rt, &fault, number),
     }
-    let compiled = compile(alloc, source, List::new(alloc))?;
-    assert!(rt; compiled.is_err(), "{source:?}");
-    if let Err(CompileFault::Diag(diag)) = &compiled {
-        is_refusal(rt, diag, number, source);
+    Ok(())
+}
+
+fn has_no_code(
+    rt: &impl Abort,
+    alloc: Global,
+    source: &[u8],
+    imports: List<Given>,
+    number: u8,
+) -> Result<(), NoMemory> {
+    match compile(alloc, source, imports)? {
+        Ok(_made) => assert!(rt; false, "{source:?}"),
+        Err(fault) => has_number(rt, &fault, number),
+    }
+    Ok(())
+}
+
+/// Both calls refuse each of the sources with this number.
+fn are_refused(
+    rt: &impl Abort,
+    alloc: Global,
+    sources: &[&[u8]],
+    number: u8,
+) -> Result<(), NoMemory> {
+    for source in sources {
+        has_no_skeleton(rt, alloc, source, number)?;
+        has_no_code(rt, alloc, source, List::new(alloc), number)?;
     }
     Ok(())
 }
@@ -129,6 +168,41 @@ fn gives(rt: &impl Abort, made: &Result<Compiled, CompileFault>, interface: &[u8
     }
 }
 
+/// The one structure that the source defines.
+fn defines(
+    rt: &impl Abort,
+    made: &Result<Skeleton, CompileFault>,
+    name: &[u8],
+    line: u32,
+    col: u32,
+) {
+    assert!(rt; made.is_ok());
+    if let Ok(made) = made {
+        assert_eq!(rt; made.defined.len(), 1);
+        if let Some(spot) = made.defined.get(0) {
+            assert!(rt; spot.name.space == Namespace::Structure);
+            assert_eq!(rt; spot.name.name.as_bytes(), name);
+            assert_eq!(rt; spot.line, line);
+            assert_eq!(rt; spot.col, col);
+        }
+    }
+}
+
+/// The one structure that the source uses.
+fn uses(rt: &impl Abort, made: &Result<Skeleton, CompileFault>, name: &[u8], line: u32, col: u32) {
+    assert!(rt; made.is_ok());
+    if let Ok(made) = made {
+        assert_eq!(rt; made.free.len(), 1);
+        if let Some(need) = made.free.get(0) {
+            assert!(rt; need.sure);
+            assert!(rt; need.spot.name.space == Namespace::Structure);
+            assert_eq!(rt; need.spot.name.name.as_bytes(), name);
+            assert_eq!(rt; need.spot.line, line);
+            assert_eq!(rt; need.spot.col, col);
+        }
+    }
+}
+
 #[test]
 fn a_number(rt: HostRuntime) -> Result<(), Fail> {
     let made = compile(rt.alloc(), ONE, List::new(rt.alloc()))?;
@@ -137,136 +211,164 @@ fn a_number(rt: HostRuntime) -> Result<(), Fail> {
 }
 
 #[test]
-fn a_variable_of_an_import(rt: HostRuntime) -> Result<(), Fail> {
+fn a_variable_of_the_last_import(rt: HostRuntime) -> Result<(), Fail> {
     let alloc = rt.alloc();
-    let mut imports = List::new(alloc);
-    add(
-        &mut imports,
-        given(alloc, Namespace::Structure, b"A", &B_OF_Y)?,
-    )?;
-    add(
-        &mut imports,
-        given(alloc, Namespace::Structure, b"A", &A_OF_X)?,
-    )?;
-    add(
-        &mut imports,
-        given(alloc, Namespace::Functor, b"A", &B_OF_Y)?,
-    )?;
-    add(
-        &mut imports,
-        given(alloc, Namespace::Structure, b"B", &B_OF_Y)?,
-    )?;
+    let imports = with(List::new(alloc), alloc, Namespace::Structure, b"A", &B_OF_Y)?;
+    let imports = with(imports, alloc, Namespace::Structure, b"A", &A_OF_X)?;
+    let imports = with(imports, alloc, Namespace::Functor, b"A", &B_OF_Y)?;
     let made = compile(alloc, TWO, imports)?;
     gives(&rt, &made, &B_OF_Y, &B_IS_A_X);
     Ok(())
 }
 
 #[test]
-fn a_variable_that_no_import_has(rt: HostRuntime) -> Result<(), Fail> {
+fn a_variable_of_no_import(rt: HostRuntime) -> Result<(), Fail> {
     let alloc = rt.alloc();
-    let mut later = List::new(alloc);
-    add(
-        &mut later,
-        given(alloc, Namespace::Structure, b"A", &A_OF_X)?,
-    )?;
-    add(
-        &mut later,
-        given(alloc, Namespace::Structure, b"A", &B_OF_Y)?,
-    )?;
-    let mut functor = List::new(alloc);
-    add(
-        &mut functor,
-        given(alloc, Namespace::Functor, b"A", &A_OF_X)?,
-    )?;
-    let mut front = List::new(alloc);
-    add(
-        &mut front,
-        given(alloc, Namespace::Structure, b"A", &A_OF_X[..64])?,
-    )?;
-    for imports in [List::new(alloc), later, functor, front] {
-        let made = compile(alloc, TWO, imports)?;
-        assert!(rt; made.is_err());
-        if let Err(CompileFault::Diag(diag)) = &made {
-            is_refusal(&rt, diag, 60, TWO);
-        }
-    }
+    has_no_code(&rt, alloc, TWO, List::new(alloc), 60)?;
+    let functor = with(List::new(alloc), alloc, Namespace::Functor, b"A", &A_OF_X)?;
+    has_no_code(&rt, alloc, TWO, functor, 60)?;
     Ok(())
 }
 
 #[test]
-fn skeletons_have_places(rt: HostRuntime) -> Result<(), Fail> {
+fn a_variable_of_another_interface(rt: HostRuntime) -> Result<(), Fail> {
+    let alloc = rt.alloc();
+    let last = with(List::new(alloc), alloc, Namespace::Structure, b"A", &A_OF_X)?;
+    let last = with(last, alloc, Namespace::Structure, b"A", &B_OF_Y)?;
+    has_no_code(&rt, alloc, TWO, last, 60)?;
+    let front = with(List::new(alloc), alloc, Namespace::Structure, b"A", b"CMI1")?;
+    has_no_code(&rt, alloc, TWO, front, 60)?;
+    Ok(())
+}
+
+#[test]
+fn a_skeleton_of_a_number(rt: HostRuntime) -> Result<(), Fail> {
     let made = skeleton(rt.alloc(), ONE)?;
-    assert!(rt; made.is_ok());
-    if let Ok(made) = &made {
-        assert_eq!(rt; made.free.len(), 0);
-        assert_eq!(rt; made.defined.len(), 1);
-        let spot = made.defined.get(0).ok_or("none")?;
-        assert_eq!(rt; spot.name.name.as_bytes(), b"A".as_slice());
-        assert!(rt; spot.name.space == Namespace::Structure);
-        assert_eq!(rt; (spot.line, spot.col), (1, 11));
-    }
-    let made = skeleton(rt.alloc(), b"\n structure B\n= struct val y\t= A.x end")?;
-    assert!(rt; made.is_ok());
-    if let Ok(made) = &made {
-        let spot = made.defined.get(0).ok_or("none")?;
-        assert_eq!(rt; (spot.line, spot.col), (2, 12));
-        let need = made.free.get(0).ok_or("none")?;
-        assert_eq!(rt; need.spot.name.name.as_bytes(), b"A".as_slice());
-        assert_eq!(rt; (need.spot.line, need.spot.col), (3, 18));
-        assert!(rt; need.sure);
-    }
+    defines(&rt, &made, b"A", 1, 11);
+    assert!(rt; made.is_ok_and(|made| made.free.is_empty()));
+    Ok(())
+}
+
+#[test]
+fn a_skeleton_of_a_variable(rt: HostRuntime) -> Result<(), Fail> {
     let made = skeleton(rt.alloc(), TWO)?;
-    assert!(rt; made.is_ok());
-    if let Ok(made) = &made {
-        assert_eq!(rt; made.free.len(), 1);
-        let need = made.free.get(0).ok_or("none")?;
-        assert_eq!(rt; (need.spot.line, need.spot.col), (1, 30));
-    }
+    defines(&rt, &made, b"B", 1, 11);
+    uses(&rt, &made, b"A", 1, 30);
     Ok(())
 }
 
 #[test]
-fn other_texts_are_refused(rt: HostRuntime) -> Result<(), Fail> {
-    for source in [
-        b"".as_slice(),
-        b"structure A = struct val x = 1",
-        b"structure A = struct val x = 1 end end",
-        b"structure A = struct val x = 1 end;",
-        b"Structure A = struct val x = 1 end",
-        b"structure A : struct val x = 1 end",
-        b"structure A = sig val x = 1 end",
-        b"structure A = struct fun x = 1 end",
-        b"structure A = struct val x := 1 end",
-        b"structure A = struct val x = 1 en",
-        b"structure while = struct val x = 1 end",
-        b"structure 1A = struct val x = 1 end",
-        b"structure _A = struct val x = 1 end",
-        b"structure A- = struct val x = 1 end",
-        b"structure A = struct val eqtype = 1 end",
-        b"structure A = struct val nil = 1 end",
-        b"structure A = struct val Subscript = 1 end",
-        b"structure A = struct val x = 1234567890123456789 end",
-        b"structure A = struct val x = ~1 end",
-        b"structure A = struct val x = 0x1 end",
-        b"structure A = struct val x = y end",
-        b"structure A = struct val x = A. end",
-        b"structure A = struct val x = .b end",
-        b"structure A = struct val x = A.b.c end",
-        b"structure A = struct val x = A.ref end",
-        b"structure A = struct val x = open.b end",
-        b"structure A\r = struct val x = 1 end",
-    ] {
-        is_refused(&rt, rt.alloc(), source, 60)?;
-    }
+fn a_skeleton_over_lines(rt: HostRuntime) -> Result<(), Fail> {
+    let made = skeleton(rt.alloc(), b"\n structure B\n= struct val y\t= A.x end")?;
+    defines(&rt, &made, b"B", 2, 12);
+    uses(&rt, &made, b"A", 3, 18);
     Ok(())
 }
 
 #[test]
-fn other_names_are_accepted(rt: HostRuntime) -> Result<(), Fail> {
+fn other_numbers_of_words(rt: HostRuntime) -> Result<(), Fail> {
+    are_refused(
+        &rt,
+        rt.alloc(),
+        &[
+            b"".as_slice(),
+            b"structure A = struct val x = 1",
+            b"structure A = struct val x = 1 end end",
+            b"structure A = struct val x = 1 end;",
+        ],
+        60,
+    )?;
+    Ok(())
+}
+
+#[test]
+fn other_words_around(rt: HostRuntime) -> Result<(), Fail> {
+    are_refused(
+        &rt,
+        rt.alloc(),
+        &[
+            b"Structure A = struct val x = 1 end".as_slice(),
+            b"structure A : struct val x = 1 end",
+            b"structure A = sig val x = 1 end",
+            b"structure A = struct fun x = 1 end",
+            b"structure A = struct val x := 1 end",
+            b"structure A = struct val x = 1 en",
+        ],
+        60,
+    )?;
+    Ok(())
+}
+
+#[test]
+fn other_names_of_structures(rt: HostRuntime) -> Result<(), Fail> {
+    are_refused(
+        &rt,
+        rt.alloc(),
+        &[
+            b"structure while = struct val x = 1 end".as_slice(),
+            b"structure 1A = struct val x = 1 end",
+            b"structure _A = struct val x = 1 end",
+            b"structure A- = struct val x = 1 end",
+            b"structure A\r = struct val x = 1 end",
+        ],
+        60,
+    )?;
+    Ok(())
+}
+
+#[test]
+fn other_names_of_variables(rt: HostRuntime) -> Result<(), Fail> {
+    are_refused(
+        &rt,
+        rt.alloc(),
+        &[
+            b"structure A = struct val eqtype = 1 end".as_slice(),
+            b"structure A = struct val nil = 1 end",
+            b"structure A = struct val Subscript = 1 end",
+        ],
+        60,
+    )?;
+    Ok(())
+}
+
+#[test]
+fn other_values(rt: HostRuntime) -> Result<(), Fail> {
+    are_refused(
+        &rt,
+        rt.alloc(),
+        &[
+            b"structure A = struct val x = 1234567890123456789 end".as_slice(),
+            b"structure A = struct val x = ~1 end",
+            b"structure A = struct val x = 0x1 end",
+            b"structure A = struct val x = y end",
+        ],
+        60,
+    )?;
+    Ok(())
+}
+
+#[test]
+fn other_long_names(rt: HostRuntime) -> Result<(), Fail> {
+    are_refused(
+        &rt,
+        rt.alloc(),
+        &[
+            b"structure A = struct val x = A. end".as_slice(),
+            b"structure A = struct val x = .b end",
+            b"structure A = struct val x = A.b.c end",
+            b"structure A = struct val x = A.ref end",
+            b"structure A = struct val x = open.b end",
+        ],
+        60,
+    )?;
+    Ok(())
+}
+
+#[test]
+fn unusual_sources(rt: HostRuntime) -> Result<(), Fail> {
     for source in [
         b"structure A = struct val x = 123456789012345678 end".as_slice(),
-        b"structure A = struct val x = 000 end",
-        b"structure nil = struct val whiles = 1 end",
+        b"structure nil = struct val whiles = 000 end",
         b"structure A'_9z = struct val x' = 1 end",
         b"\t\n structure\nA = struct val x\n= ref.x end \n",
     ] {
@@ -288,43 +390,42 @@ fn with_name_of(alloc: Global, len: usize) -> Result<Vec<u8>, Fail> {
 #[test]
 fn names_have_at_most_255_bytes(rt: HostRuntime) -> Result<(), Fail> {
     let source = with_name_of(rt.alloc(), 255)?;
-    let made = compile(rt.alloc(), source.as_slice(), List::new(rt.alloc()))?;
-    assert!(rt; made.is_ok());
-    if let Ok(made) = &made {
-        assert_eq!(rt; made.interface.as_bytes().len(), 319);
-        assert_eq!(rt; made.code.as_bytes().len(), 310);
-    }
+    assert!(rt; skeleton(rt.alloc(), source.as_slice())?.is_ok());
     let source = with_name_of(rt.alloc(), 256)?;
-    is_refused(&rt, rt.alloc(), source.as_slice(), 60)
+    has_no_skeleton(&rt, rt.alloc(), source.as_slice(), 60)?;
+    Ok(())
 }
 
 #[test]
-fn sources_have_at_most_a_mebibyte(rt: HostRuntime) -> Result<(), Fail> {
+fn sources_have_at_most_1048576_bytes(rt: HostRuntime) -> Result<(), Fail> {
     let mut source = ONE.to_vec(rt.alloc())?;
-    for _ in 0..1_048_576 - ONE.len() {
+    for _ in ONE.len()..1_048_576 {
         source.push(b' ')?;
     }
     assert!(rt; skeleton(rt.alloc(), source.as_slice())?.is_ok());
     source.push(b' ')?;
-    is_refused(&rt, rt.alloc(), source.as_slice(), 12)
+    has_no_skeleton(&rt, rt.alloc(), source.as_slice(), 12)?;
+    Ok(())
 }
 
 #[test]
-fn it_keeps_what_it_was_asked(rt: HostRuntime) -> Result<(), Fail> {
+fn it_keeps_the_units_of_skeletons(rt: HostRuntime) -> Result<(), Fail> {
     let alloc = rt.alloc();
     let mut compiler = SmlCompiler::new(alloc)?;
+    let (a, b) = (text(alloc, b"a.sml")?, text(alloc, b"b.sml")?);
+    assert!(rt; compiler.skeleton(alloc, &a, &text(alloc, ONE)?).is_ok());
+    assert!(rt; compiler.skeleton(alloc, &b, &text(alloc, b"")?).is_err());
     assert_eq!(rt; compiler.asked().len(), 0);
-    assert_eq!(rt; compiler.asked_skeletons().len(), 0);
-    assert!(rt;
-        compiler
-            .skeleton(alloc, &text(alloc, b"a.sml")?, &text(alloc, ONE)?)
-            .is_ok()
-    );
-    assert!(rt;
-        compiler
-            .skeleton(alloc, &text(alloc, b"b.sml")?, &text(alloc, b"")?)
-            .is_err()
-    );
+    assert_eq!(rt; compiler.asked_skeletons().len(), 2);
+    let second = compiler.asked_skeletons().get(1).ok_or("none")?;
+    assert_eq!(rt; second.as_bytes(), b"b.sml".as_slice());
+    Ok(())
+}
+
+#[test]
+fn it_keeps_the_units_of_compilations(rt: HostRuntime) -> Result<(), Fail> {
+    let alloc = rt.alloc();
+    let mut compiler = SmlCompiler::new(alloc)?;
     assert!(rt;
         compiler
             .compile(alloc, &input(alloc, ONE, List::new(alloc))?)
@@ -335,9 +436,7 @@ fn it_keeps_what_it_was_asked(rt: HostRuntime) -> Result<(), Fail> {
             .compile(alloc, &input(alloc, TWO, List::new(alloc))?)
             .is_err()
     );
-    assert_eq!(rt; compiler.asked_skeletons().len(), 2);
-    let second = compiler.asked_skeletons().get(1).ok_or("none")?;
-    assert_eq!(rt; second.as_bytes(), b"b.sml".as_slice());
+    assert_eq!(rt; compiler.asked_skeletons().len(), 0);
     assert_eq!(rt; compiler.asked().len(), 2);
     let first = compiler.asked().get(0).ok_or("none")?;
     assert_eq!(rt; first.as_bytes(), b"u.sml".as_slice());
