@@ -1,0 +1,3 @@
+pub mod Ending
+pub mod ShortLemmas
+pub mod Working

@@ -1,0 +1,5 @@
+pub mod Answers
+pub mod Lines
+pub mod Meaning
+pub mod Short
+pub mod Words
