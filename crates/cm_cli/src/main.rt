@@ -74,6 +74,12 @@ fn main(rt: HostRuntime) -> ExitCode {
 }
 
 #[cfg(test)]
+mod failing;
+#[cfg(test)]
+mod refusals;
+#[cfg(test)]
 mod rows;
+#[cfg(test)]
+mod ten;
 #[cfg(test)]
 mod tests;

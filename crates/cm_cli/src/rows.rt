@@ -1,4 +1,4 @@
-use cm_base::{CallKind, FailAt, Left, List, MemFolder, MemSink, Text};
+use cm_base::{MemFolder, MemSink, Text};
 use cm_top::{Status, Toolbox, run_cm};
 use sml_compiler::SmlCompiler;
 use std::alloc::Global;
@@ -10,7 +10,7 @@ const A: &[u8] = b"structure A = struct val x = 1 end\n";
 
 const B: &[u8] = b"structure B = struct val y = A.x end\n";
 
-const REPORT: &[u8] =
+pub const REPORT: &[u8] =
     b"[compiling a.sml]\n[compiling b.sml]\n[built: 2 units, 2 compiled, 0 loaded, 0 frozen]\n";
 
 /// The linked program of the two sources: for each its name, its imports with their places, and its code.
@@ -27,16 +27,16 @@ const LINKED: [u8; 170] = [
     0x13, 0, 0, 0, 2, 0, 0, 0, 1, b'A', 0, 0, 0, 1, b'x', 0, 0, 0, 0,
 ];
 
-fn text(alloc: Global, bytes: &[u8]) -> Result<Text, Fail> {
+pub fn text(alloc: Global, bytes: &[u8]) -> Result<Text, Fail> {
     Ok(Text::from_bytes(alloc, bytes).ok().ok_or("memory")?)
 }
 
-fn put(files: &mut MemFolder, alloc: Global, path: &[u8], bytes: &[u8]) -> Result<(), Fail> {
+pub fn put(files: &mut MemFolder, alloc: Global, path: &[u8], bytes: &[u8]) -> Result<(), Fail> {
     let path = text(alloc, path)?;
     Ok(files.put(&path, bytes).ok().ok_or("memory")?)
 }
 
-fn two_sources(alloc: Global) -> Result<MemFolder, Fail> {
+pub fn two_sources(alloc: Global) -> Result<MemFolder, Fail> {
     let mut files = MemFolder::new(alloc);
     put(&mut files, alloc, b"main.cm", MAIN)?;
     put(&mut files, alloc, b"a.sml", A)?;
@@ -44,22 +44,22 @@ fn two_sources(alloc: Global) -> Result<MemFolder, Fail> {
     Ok(files)
 }
 
-/// Runs `cm build ROOT`.
-fn build(
+/// Runs a command.
+pub fn run(
     alloc: Global,
-    root: &str,
+    words: &[&str],
     files: &mut MemFolder,
     out: &mut MemSink,
 ) -> Result<Status, Fail> {
-    let words = vec![in alloc;
-        String::from_str(alloc, "build")?,
-        String::from_str(alloc, root)?,
-    ]?;
+    let mut strings = Vec::new(alloc);
+    for word in words {
+        strings.push(String::from_str(alloc, word)?)?;
+    }
     let mut compiler = SmlCompiler::new(alloc).ok().ok_or("memory")?;
     let mut tools = Toolbox::new(alloc);
     let status = run_cm(
         alloc,
-        words.as_slice(),
+        strings.as_slice(),
         files,
         out,
         &mut compiler,
@@ -69,7 +69,17 @@ fn build(
     Ok(status)
 }
 
-fn length_of(files: &MemFolder, alloc: Global, path: &[u8]) -> Result<Option<usize>, Fail> {
+/// Runs `cm build ROOT`.
+pub fn build(
+    alloc: Global,
+    root: &str,
+    files: &mut MemFolder,
+    out: &mut MemSink,
+) -> Result<Status, Fail> {
+    run(alloc, &["build", root], files, out)
+}
+
+pub fn length_of(files: &MemFolder, alloc: Global, path: &[u8]) -> Result<Option<usize>, Fail> {
     let path = text(alloc, path)?;
     Ok(files.get(&path).map(|bytes| bytes.len()))
 }
@@ -90,48 +100,6 @@ fn two_sources_are_built(rt: HostRuntime) -> Result<(), Fail> {
 }
 
 #[test]
-fn refusals_print_their_line(rt: HostRuntime) -> Result<(), Fail> {
-    let alloc = rt.alloc();
-    let rows = [
-        ("none.cm", b"command:0:0: error 1 none.cm\n".as_slice()),
-        ("gone.cm", b"gone.cm:2:3: error 1 gone.sml\n".as_slice()),
-        ("bad.cm", b"bad.cm:0:0: error 60\n".as_slice()),
-        ("late.cm", b"late.cm:0:0: error 60\n".as_slice()),
-        ("x/y.cm", b"command:0:0: error 60\n".as_slice()),
-        (
-            "third.cm",
-            b"[compiling a.sml]\n[compiling b.sml]\nc.sml:0:0: error 60\n".as_slice(),
-        ),
-    ];
-    for (root, line) in rows {
-        let mut files = two_sources(alloc)?;
-        put(&mut files, alloc, b"gone.cm", b"Group is\n  gone.sml\n")?;
-        put(&mut files, alloc, b"bad.cm", b"Group is a.sml a.sml\n")?;
-        put(&mut files, alloc, b"late.cm", b"Group is b.sml a.sml\n")?;
-        put(
-            &mut files,
-            alloc,
-            b"third.cm",
-            b"Group is a.sml b.sml c.sml\n",
-        )?;
-        put(
-            &mut files,
-            alloc,
-            b"c.sml",
-            b"structure C = struct val z = B.w end\n",
-        )?;
-        let mut out = MemSink::new(alloc);
-        assert_eq!(rt;
-            build(alloc, root, &mut files, &mut out)?,
-            Status::Diagnostic
-        );
-        assert_eq!(rt; out.bytes(), line);
-        assert_eq!(rt; length_of(&files, alloc, b".cm/linked")?, None);
-    }
-    Ok(())
-}
-
-#[test]
 fn an_empty_group_links_nothing(rt: HostRuntime) -> Result<(), Fail> {
     let alloc = rt.alloc();
     let mut files = MemFolder::new(alloc);
@@ -144,37 +112,5 @@ fn an_empty_group_links_nothing(rt: HostRuntime) -> Result<(), Fail> {
     );
     let path = text(alloc, b".cm/linked")?;
     assert_eq!(rt; files.get(&path), Some(b"CML1\0\0\0\0".as_slice()));
-    Ok(())
-}
-
-#[test]
-fn a_failed_write_is_made_good(rt: HostRuntime) -> Result<(), Fail> {
-    let alloc = rt.alloc();
-    for nth in [1u32, 2, 3, 4, 5] {
-        for left in [Left::Old, Left::Nothing, Left::Prefix(10)] {
-            let mut files = two_sources(alloc)?;
-            let mut plan = List::new(alloc);
-            plan.add(FailAt {
-                kind: CallKind::Write,
-                nth,
-                left,
-            })
-            .ok()
-            .ok_or("memory")?;
-            files.fail(plan);
-            let mut out = MemSink::new(alloc);
-            assert_eq!(rt;
-                build(alloc, "main.cm", &mut files, &mut out)?,
-                Status::FolderFault
-            );
-            assert_eq!(rt; out.bytes().len(), 0);
-            files.fail(List::new(alloc));
-            assert_eq!(rt; build(alloc, "main.cm", &mut files, &mut out)?, Status::Ok);
-            assert_eq!(rt; out.bytes(), REPORT);
-            assert_eq!(rt; length_of(&files, alloc, b".cm/bin/=a.sml")?, Some(203));
-            assert_eq!(rt; length_of(&files, alloc, b".cm/bin/=b.sml")?, Some(273));
-            assert_eq!(rt; length_of(&files, alloc, b".cm/linked")?, Some(170));
-        }
-    }
     Ok(())
 }
