@@ -10,11 +10,11 @@ use Rattle.cm_base.specs.declared.record.Options.{Options}
 use Rattle.cm_base.specs.declared.record.Spot.{Spot}
 use Rattle.cm_base.specs.declared.record.Need.{Need}
 use Rattle.cm_base.specs.declared.record.Import.{Import}
-use Rattle.cm_bytes.specs.Fields.{byte_at, text_of, list_of, IsReadAgain}
+use Rattle.cm_bytes.specs.Fields.{space_byte, byte_at, text_of, list_of, IsReadAgain}
 use Rattle.cm_bytes.proofs.Fields as fields
 use Rattle.bin_store.specs.declared.bin.Bin.{Bin}
 use Rattle.bin_store.specs.declared.bin.ToolRecord.{ToolRecord}
-use Rattle.bin_store.specs.Format.{space_byte, flag_byte, options_byte, name_of, spot_of, need_of, import_of, bin_body, bin_head, bin_rest, binfile, interface_file, record_body, record_file, IsSpot, IsImport, IsBin, IsRecord}
+use Rattle.bin_store.specs.Format.{flag_byte, options_byte, name_of, spot_of, need_of, import_of, bin_body, bin_head, bin_rest, binfile, interface_file, record_body, record_file, IsSpot, IsImport, IsBin, IsRecord}
 use Rattle.bin_store.specs.Reading.{space_from, flag_from, options_from, meant_at, name_at, spot_at, need_at, hash_at, import_at, lists_at, parts_at, bin_body_at, bin_at, interface_at, texts_at, record_body_at, record_at}
 use Rattle.bin_store.proofs.Steps.{Again, both_again, made_again, meant_again, byte_reads_again, raw_reads_again, u32_reads_again, text_reads_again, list_reads_again, front_again, checked_again}
 

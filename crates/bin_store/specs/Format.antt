@@ -1,24 +1,15 @@
--- The formats of the store's files: each file as the spelling of a value. A number is four bytes, the most
--- significant first; a text is its length and its bytes; a list is its count and its items.
+-- The formats of the store's files: each file as the spelling of a value. Its fields are big-endian numbers of
+-- four bytes, texts after their lengths, and lists after their counts.
 use Rattle.std.specs.Prelude.{ℕ, ◌+◌, ◌<◌, ◌≡◌, ◌^◌, Bool, true, false, List, [], ◌∷◌, ◌++◌, length, All}
 use Rattle.sha2.specs.Sha256.{sha256}
-use Rattle.cm_base.specs.declared.record.Namespace.{Namespace}
-use Rattle.cm_base.specs.declared.record.Namespace.TheVariants as space
 use Rattle.cm_base.specs.declared.record.ModName.{ModName}
 use Rattle.cm_base.specs.declared.record.Options.{Options}
 use Rattle.cm_base.specs.declared.record.Spot.{Spot}
 use Rattle.cm_base.specs.declared.record.Need.{Need}
 use Rattle.cm_base.specs.declared.record.Import.{Import}
-use Rattle.cm_bytes.specs.Fields.{u32_of, text_of, list_of}
+use Rattle.cm_bytes.specs.Fields.{space_byte, u32_of, text_of, list_of}
 use Rattle.bin_store.specs.declared.bin.Bin.{Bin}
 use Rattle.bin_store.specs.declared.bin.ToolRecord.{ToolRecord}
-
--- the byte of a name space
-abbrev pub space_byte : Namespace → ℕ
-space_byte space.Structure = 0
-space_byte space.Signature = 1
-space_byte space.Functor = 2
-space_byte space.Funsig = 3
 
 -- the byte of a flag
 abbrev pub flag_byte : Bool → ℕ

@@ -46,7 +46,7 @@ tool_path unit = 46 ∷ 99 ∷ 109 ∷ 47 ∷ 116 ∷ 111 ∷ 111 ∷ 108 ∷ 47
 unfoldable pub interface_path : Pid → List ℕ
 interface_path hash = 46 ∷ 99 ∷ 109 ∷ 47 ∷ 105 ∷ 110 ∷ 116 ∷ 47 ∷ pid_text hash
 
--- the linked program of the last build that succeeded: `.cm/linked`
+-- where each build without a diagnostic leaves its program: `.cm/linked`
 unfoldable pub linked_path : List ℕ
 linked_path = 46 ∷ 99 ∷ 109 ∷ 47 ∷ 108 ∷ 105 ∷ 110 ∷ 107 ∷ 101 ∷ 100 ∷ []
 

@@ -1,8 +1,8 @@
 //! The files of the store are written: a binfile, and an interface file.
 
 ghost use Rattle.std.specs.Prelude.{◌≡◌, ◌<◌, ◌^◌, ◌++◌, length, All, IfOk, OnOk};
-ghost use Rattle.cm_bytes.specs.Fields.{list_of};
-ghost use Rattle.bin_store.specs.Format.{space_byte, flag_byte, options_byte, name_of, spot_of, need_of, import_of, bin_body, bin_head, bin_rest, binfile, interface_file, IsSpot, IsImport, IsBin, IsShortImport, IsShortBin};
+ghost use Rattle.cm_bytes.specs.Fields.{space_byte, list_of};
+ghost use Rattle.bin_store.specs.Format.{flag_byte, options_byte, name_of, spot_of, need_of, import_of, bin_body, bin_head, bin_rest, binfile, interface_file, IsSpot, IsImport, IsBin, IsShortImport, IsShortBin};
 
 use crate::bin::Bin;
 use cm_base::{Import, ModName, Namespace, Need, NoMemory, Options, Pid, Spot, Text};

@@ -1,4 +1,5 @@
 pub mod FileLemmas
+pub mod FrontLemmas
 pub mod Held
 pub mod KeepingLemmas
 pub mod Pushed

@@ -9,8 +9,11 @@ use Rattle.cm_base.specs.declared.fault.SinkFault.{SinkFault}
 use Rattle.cm_base.specs.declared.fault.SinkFault.TheVariants as sink
 use Rattle.cm_base.specs.declared.fault.ToolFault.{ToolFault}
 use Rattle.cm_base.specs.declared.fault.ToolFault.TheVariants as tool
+use Rattle.cm_base.specs.Fronts.{GrowsUpTo}
 use Rattle.cm_base.specs.declared.fault.CompileFault.{CompileFault}
 use Rattle.cm_base.specs.declared.fault.CompileFault.TheVariants as compile
+use Rattle.cm_base.specs.declared.fault.Fault.{Fault}
+use Rattle.cm_base.specs.declared.fault.Fault.TheVariants as fault
 use Rattle.cm_base.specs.declared.diag.Diag.{Diag}
 use Rattle.cm_base.specs.declared.record.Skeleton.{Skeleton}
 use Rattle.cm_base.specs.declared.record.Spot.{Spot}
@@ -70,6 +73,18 @@ abbrev pub Grows : {A : Type 0} → Result A CompileFault → List (List ℕ) �
 Grows (Ok value) old new unit = new ≡ old ++ unit ∷ []
 Grows (Err (compile.Diag diag)) old new unit = new ≡ old ++ unit ∷ []
 Grows (Err compile.NoMemory) old new unit = (new ≡ old) ⊎ (new ≡ old ++ unit ∷ [])
+
+-- a step over a compiler gives what its definition gives, or wants memory
+abbrev pub Gives : {A : Type 0} → Result A Fault → Result A Diag → Type 0
+Gives (Ok value) defined = defined ≡ Ok value
+Gives (Err (fault.Diag diag)) defined = defined ≡ Err diag
+Gives (Err fault.NoMemory) defined = Unit {0}
+
+-- a list of what was asked grew by these units, or by a front of them after want of memory
+abbrev pub Asks : {A : Type 0} → Result A Fault → List (List ℕ) → List (List ℕ) → List (List ℕ) → Type 0
+Asks (Ok value) old new asked = new ≡ old ++ asked
+Asks (Err (fault.Diag diag)) old new asked = new ≡ old ++ asked
+Asks (Err fault.NoMemory) old new asked = GrowsUpTo old new asked
 
 -- a name and its place as they are in a source: at most 255 bytes, and numbers of four bytes
 pub record IsSmallSpot (s : Spot) : Type 0 where

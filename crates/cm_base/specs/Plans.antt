@@ -83,7 +83,7 @@ RemovesAsPlanned named (Ok done) old new path = (named ≡ None) × (new ≡ rem
 RemovesAsPlanned named (Err folder.Failed) old new path = IfSome named (λ left. new ≡ left_by_remove left old path) × IsSome named
 RemovesAsPlanned named (Err folder.NoMemory) old new path = new ≡ old
 
--- a failed put of a sink in memory appends the first half of the piece, rounded down
+-- what a put of a sink in memory appends where its plan has it fail: half of the bytes, and never more
 abbrev pub first_half : List ℕ → List ℕ
 first_half bytes = take (length bytes / 2) bytes
 

@@ -7,7 +7,7 @@ use crate::list::List;
 use crate::text::Text;
 use std::alloc::Global;
 
-/// A place in a file. Lines and columns count from 1, columns in bytes; both are 0 for a whole file.
+/// A place in a file: a line and a byte in it, each counted from 1, or 0 and 0 for the file as a whole.
 #[derive(Clone, Debug, Drop, PartialEq, Eq)]
 pub struct Place {
     pub file: Text,

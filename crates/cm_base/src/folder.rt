@@ -17,7 +17,7 @@ pub trait Folder {
 
     ghost faults: { Self → ℕ };
 
-    /// Replaces `into` by the first `max + 1` bytes of the file, or by all of it where it is shorter.
+    /// Puts the file into `into`, cut after `max + 1` bytes where it has more, in place of what was there.
     /// Answers false exactly where the path isn't there. After `Failed`, `into` may hold anything.
     fn read(
         &mut self,
@@ -41,7 +41,7 @@ pub trait Folder {
         ensures cause { HasCause (faults self.old) (faults self.new) (result ≡ Err FolderFault.Failed) }
         ensures leaves { RemoveLeaves result (holds self.old) (holds self.new) path.now };
 
-    /// Replaces `into` by the paths that begin with `prefix`, in byte order.
+    /// Puts into `into`, in place of what was there, each path below `prefix`, ordered by its bytes.
     fn list(
         &mut self,
         alloc: Global,

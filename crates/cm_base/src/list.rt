@@ -49,7 +49,7 @@ impl<T> List<T> {
         items
     }
 
-    /// Adds an item at the end. `Err` hands the item back, and means want of memory alone.
+    /// Adds an item at the end. It refuses only for want of memory, and then gives the item back.
     pub fn push(&mut self, item: T) -> Result<(), T>
         ensures ok { OnOk result (self.new ≡ self.old ++ item ∷ []) }
         ensures err { OnErr result (self.new ≡ self.old) }

@@ -85,14 +85,14 @@ impl MemFolder {
         self.files.put(path, bytes)
     }
 
-    /// The bytes of a file, and `None` exactly where the path isn't there. It takes no memory.
+    /// The bytes of a file, lent in place, or `None` where there is no file of this path.
     pub fn get(&self, path: &Text) -> Option<&[u8]>
         ensures { option_copied result ≡ get self.now.files path.now }
     {
         self.files.get(path)
     }
 
-    /// The paths of the writes that succeeded, in order. It takes no memory.
+    /// The path of each write that didn't fail, the oldest first, lent in place.
     pub fn writes(&self) -> &List<Text>
         ensures { result.now ≡ self.now.written }
     {

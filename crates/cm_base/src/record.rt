@@ -47,7 +47,7 @@ pub struct Need {
     pub sure: bool,
 }
 
-/// The module names that a source defines at top level, and those that are free in it.
+/// What the manager knows of a source before it is compiled: its top-level module names and its free ones.
 #[derive(Clone, Debug, Drop)]
 pub struct Skeleton {
     pub defined: List<Spot>,

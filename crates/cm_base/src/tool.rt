@@ -9,8 +9,8 @@ use crate::fault::{NoMemory, ToolFault};
 use crate::text::Text;
 use std::alloc::Global;
 
-/// A tool has a class and a rule, which never change and have at most 1,048,581 bytes each. `ran` counts
-/// its runs, up to 2^64 - 1; `faults` counts the failed ones, and never falls.
+/// A tool has a class and a rule, of at most 1,048,581 bytes each, that stay what they are. `ran` is the number
+/// of its runs, at most 2^64 - 1; `faults` rises where a run fails, and doesn't fall.
 pub trait Tool: Drop {
     ghost class: { Self → List ℕ };
 

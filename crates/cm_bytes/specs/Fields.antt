@@ -3,6 +3,8 @@
 use Rattle.std.specs.Prelude.{◌≡◌, ℕ, zero, suc, ◌<◌, List, [], ◌∷◌, ◌++◌, length, take, drop, slice_index, Option, Some, None, nat_lt, if◌then◌else◌}
 use Rattle.std.specs.List.{flat_map}
 use Rattle.std.specs.Int.{w32, to_be_bytes, from_be_bytes}
+use Rattle.cm_base.specs.declared.record.Namespace.{Namespace}
+use Rattle.cm_base.specs.declared.record.Namespace.TheVariants as space
 
 -- a step of reading: the value at the front of the bytes, and the bytes that are left
 abbrev pub Step : Type 0 → Type 0
@@ -26,6 +28,13 @@ byte_at (b ∷ rest) = Some (b, rest)
 -- the step that reads so many bytes as they are
 unfoldable pub raw_at : ℕ → Step (List ℕ)
 raw_at n bytes = if nat_lt (length bytes) n then None else Some (take n bytes, drop n bytes)
+
+-- the byte of a name space
+abbrev pub space_byte : Namespace → ℕ
+space_byte space.Structure = 0
+space_byte space.Signature = 1
+space_byte space.Functor = 2
+space_byte space.Funsig = 3
 
 -- a number is four bytes, the most significant first
 unfoldable pub u32_of : ℕ → List ℕ

@@ -54,7 +54,7 @@ impl<'a> Reader<'a> {
         Ok(u32::from_be_bytes([front[0], front[1], front[2], front[3]]))
     }
 
-    /// Reads a text, and lends its bytes in place.
+    /// Reads a text without copying it.
     #[tactic(auto, unfolding(crate::specs::Fields::text_at))]
     pub fn slice(&mut self) -> Result<&'a [u8], Short>
         ensures { Reads (λ text. text.now) text_at result self.old self.new }

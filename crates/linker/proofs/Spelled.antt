@@ -9,14 +9,14 @@ use Rattle.cm_base.specs.declared.record.Import.{Import}
 use Rattle.cm_base.specs.declared.record.BuiltUnit.{BuiltUnit}
 use Rattle.cm_base.specs.declared.record.Namespace.{Namespace}
 use Rattle.cm_base.specs.declared.record.Namespace.TheVariants as space
-use Rattle.cm_bytes.specs.Fields.{IsReadAgain, u32_of, text_of, list_of}
+use Rattle.cm_bytes.specs.Fields.{space_byte, IsReadAgain, u32_of, text_of, list_of}
 use Rattle.cm_bytes.proofs.Fields as fields
 use Rattle.linker.specs.declared.program.LinkedImport.{LinkedImport}
 use Rattle.linker.specs.declared.program.LinkedUnit.{LinkedUnit}
 use Rattle.linker.specs.declared.program.Linked.{Linked}
 use Rattle.linker.specs.Linked.{link_of, place_from, import_at, unit_at, IsShortBuilt}
 use Rattle.linker.specs.Reading.{space_of, space_at, linked_import_at, linked_unit_at, linked_at}
-use Rattle.linker.specs.Spelling.{space_byte, linked_import_of, linked_unit_of, linked_file, IsShortImport, IsShortUnit, HasSmallPlaces, CanBeSpelled}
+use Rattle.linker.specs.Spelling.{linked_import_of, linked_unit_of, linked_file, IsShortImport, IsShortUnit, HasSmallPlaces, CanBeSpelled}
 
 -- the byte of a name space is read as it
 space_of_byte : (s : Namespace) → space_of (space_byte s) ≡ Some s

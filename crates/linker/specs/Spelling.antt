@@ -1,18 +1,10 @@
 -- The format of a linked program: `CML1` and the list of its units; of each its name, its imports (the byte of
 -- the name space, the name, and the place of an earlier unit), and its code.
 use Rattle.std.specs.Prelude.{ℕ, ◌<◌, ◌^◌, List, ◌∷◌, ◌++◌, length, All}
-use Rattle.cm_base.specs.declared.record.Namespace.{Namespace}
-use Rattle.cm_base.specs.declared.record.Namespace.TheVariants as space
-use Rattle.cm_bytes.specs.Fields.{u32_of, text_of, list_of}
+use Rattle.cm_bytes.specs.Fields.{space_byte, u32_of, text_of, list_of}
 use Rattle.linker.specs.declared.program.LinkedImport.{LinkedImport}
 use Rattle.linker.specs.declared.program.LinkedUnit.{LinkedUnit}
 use Rattle.linker.specs.declared.program.Linked.{Linked}
-
-abbrev pub space_byte : Namespace → ℕ
-space_byte space.Structure = 0
-space_byte space.Signature = 1
-space_byte space.Functor = 2
-space_byte space.Funsig = 3
 
 unfoldable pub linked_import_of : LinkedImport → List ℕ
 linked_import_of import = space_byte import.name.space ∷ (text_of import.name.name ++ u32_of import.from)

@@ -1,8 +1,8 @@
 //! The bytes of a linked program.
 
 ghost use Rattle.std.specs.Prelude.{◌≡◌, ◌<◌, ◌^◌, ◌∷◌, [], ◌++◌, All, IfOk, OnOk, length};
-ghost use Rattle.cm_bytes.specs.Fields.{list_of};
-ghost use Rattle.linker.specs.Spelling.{space_byte, linked_import_of, linked_unit_of, linked_file, IsShortImport, IsShortUnit, IsShort};
+ghost use Rattle.cm_bytes.specs.Fields.{space_byte, list_of};
+ghost use Rattle.linker.specs.Spelling.{linked_import_of, linked_unit_of, linked_file, IsShortImport, IsShortUnit, IsShort};
 
 use crate::program::{Linked, LinkedImport, LinkedUnit};
 use cm_base::{List, Namespace, NoMemory, Text};

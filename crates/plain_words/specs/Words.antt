@@ -1,5 +1,5 @@
 -- The words of a text, with their places: its longest runs of bytes other than space, tab and line feed.
--- Lines and columns count from 1, columns in bytes.
+-- A place counts lines, and bytes in a line, from 1.
 use Rattle.std.specs.Prelude.{ℕ, ◌+◌, ◌==◌, ◌||◌, Bool, false, not, List, [], ◌∷◌, if◌then◌else◌}
 use Rattle.std.specs.List.{position_or_len}
 use Rattle.plain_words.specs.declared.PlacedWord.{PlacedWord}

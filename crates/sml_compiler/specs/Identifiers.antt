@@ -3,16 +3,11 @@
 use Rattle.std.specs.Prelude.{ℕ, nat_le, nat_eq, ◌==◌, ◌&&◌, ◌||◌, Bool, false, not, List, [], ◌∷◌, length, codes}
 use Rattle.std.specs.List.{list_all, list_any}
 use lib.Pointwise.{pointwise}
+use Rattle.cm_base.specs.Derived.{is_letter, is_digit}
 
 -- whether two texts have the same bytes
 abbrev pub is_same : List ℕ → List ℕ → Bool
 is_same a b = pointwise nat_eq a b
-
-abbrev pub is_letter : ℕ → Bool
-is_letter byte = (nat_le 65 byte && nat_le byte 90) || (nat_le 97 byte && nat_le byte 122)
-
-abbrev pub is_digit : ℕ → Bool
-is_digit byte = nat_le 48 byte && nat_le byte 57
 
 -- a byte that an identifier may have after its first: a letter, a digit, `_` or `'`
 abbrev pub is_part : ℕ → Bool
