@@ -1,14 +1,13 @@
 -- How a command ends, from the work that was done and what was printed.
-use Rattle.std.proofs.Common.{◌≡◌, ◌∙◌, sym, ap, subst, refl, ℕ, List, [], ◌∷◌, ◌++◌, Option, Some, None, take, drop, append-nil}
+use Rattle.std.proofs.Common.{◌≡◌, ◌∙◌, sym, ap, refl, ℕ, List, [], ◌++◌, Option, Some, take, drop, append-nil}
 use Rattle.std.proofs.lemmas.List.{take-append-drop}
 use Rattle.cm_base.specs.Files.{Files, told}
 use Rattle.cm_top.specs.Meaning.{Meaning}
 use Rattle.cm_top.specs.declared.status.Status.{Status}
 use Rattle.cm_top.specs.declared.status.Status.TheVariants as status
-use Rattle.cm_top.specs.Answers.{IsFront, IsPlain, Prints, Ends, IsMeaning, IsCutOff}
-
-pub front_all : {A : Type 0} (xs ys : List A) → xs ≡ ys → IsFront xs ys
-front_all xs ys same = ([], append-nil xs ∙ same)
+use Rattle.cm_base.specs.Fronts.{IsFront, GrowsUpTo}
+use Rattle.cm_base.proofs.FrontLemmas.{grows_all}
+use Rattle.cm_top.specs.Answers.{Prints, Ends, IsMeaning, IsCutOff}
 
 -- what was asked is all that is asked, and so a front of it
 module _ (m : Meaning) (text : List ℕ) (old new : Option (List ℕ)) (holds : Option Files) (a a' s s' : List (List ℕ)) where
@@ -23,8 +22,8 @@ module _ (m : Meaning) (text : List ℕ) (old new : Option (List ℕ)) (holds : 
     asks_skeletons = skeletons;
   }
 
-  cut : (printed : List ℕ) → new ≡ Some (text ++ printed) → IsFront printed m.output → IsFront a' (a ++ m.asked)
-      → IsFront s' (s ++ m.asked_skeletons) → IsCutOff m text new a a' s s'
+  cut : (printed : List ℕ) → new ≡ Some (text ++ printed) → IsFront printed m.output → GrowsUpTo a a' m.asked
+      → GrowsUpTo s s' m.asked_skeletons → IsCutOff m text new a a' s s'
   cut printed is front asked skeletons = record { printed = printed; output = is; front = front; asks = asked; asks_skeletons = skeletons }
 
   -- a command whose work was done ends as it means, or its printing was cut off
@@ -41,14 +40,14 @@ module _ (m : Meaning) (text : List ℕ) (old new : Option (List ℕ)) (holds : 
   after_print status.SinkFault plain output stands is before files asked skeletons prints =
       cut (take prints.0 m.output)
       (prints.1 ∙ ap (told (λ written. written ++ take prints.0 output)) before ∙ ap (λ o. Some (text ++ take prints.0 o)) is)
-      (drop prints.0 m.output, take-append-drop prints.0 m.output) (front_all a' (a ++ m.asked) asked)
-      (front_all s' (s ++ m.asked_skeletons) skeletons)
+      (drop prints.0 m.output, take-append-drop prints.0 m.output) (grows_all a a' m.asked asked)
+      (grows_all s s' m.asked_skeletons skeletons)
   after_print status.NoMemory plain output stands is before files asked skeletons prints =
-      cut [] (prints ∙ before ∙ ap Some (sym (append-nil text))) (m.output, refl) (front_all a' (a ++ m.asked) asked)
-      (front_all s' (s ++ m.asked_skeletons) skeletons)
+      cut [] (prints ∙ before ∙ ap Some (sym (append-nil text))) (m.output, refl) (grows_all a a' m.asked asked)
+      (grows_all s s' m.asked_skeletons skeletons)
   after_print status.ToolFault plain output stands is before files asked skeletons prints = absurd prints
 
   -- a command whose work was cut off printed nothing
-  pub after_cut : new ≡ old → old ≡ Some text → IsFront a' (a ++ m.asked) → IsFront s' (s ++ m.asked_skeletons)
+  pub after_cut : new ≡ old → old ≡ Some text → GrowsUpTo a a' m.asked → GrowsUpTo s s' m.asked_skeletons
       → IsCutOff m text new a a' s s'
   after_cut same before asked skeletons = cut [] (same ∙ before ∙ ap Some (sym (append-nil text))) (m.output, refl) asked skeletons

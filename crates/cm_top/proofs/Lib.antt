@@ -1,3 +1,4 @@
 pub mod Ending
 pub mod ShortLemmas
+pub mod Staying
 pub mod Working

@@ -1,12 +1,11 @@
 -- Units that pass the test are short.
-use Rattle.std.proofs.Common.{◌≡◌, refl, ℕ, ◌<◌, ◌^◌, Bool, true, false, ◌&&◌, List, [], ◌∷◌, length, All}
+use Rattle.std.proofs.Common.{◌≡◌, refl, ◌<◌, ◌^◌, Bool, true, false, ◌&&◌, List, [], ◌∷◌, length, All}
 use Rattle.std.specs.List.{AllByRecursion, list_all}
 use Rattle.std.proofs.lemmas.List.Elements.{All-from_recursion}
 use Rattle.std.proofs.lemmas.Bool.{ltb-true}
 use Rattle.cm_base.specs.declared.record.BuiltUnit.{BuiltUnit}
-use Rattle.cm_base.specs.declared.record.Import.{Import}
 use Rattle.linker.specs.Linked.{IsShortBuilt}
-use Rattle.cm_top.specs.Short.{is_short_count, is_short_import, is_short_built}
+use Rattle.cm_top.specs.Short.{is_short_import, is_short_built}
 
 both : (a b : Bool) → (a && b) ≡ true → (a ≡ true) × (b ≡ true)
 both true b h = (refl, h)

@@ -1,5 +1,6 @@
 pub mod Answers
 pub mod Lines
 pub mod Meaning
+pub mod ProjectBuild
 pub mod Short
 pub mod Words

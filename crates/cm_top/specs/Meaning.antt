@@ -1,5 +1,6 @@
--- What a command means: the status, the output, the files afterwards, and what the compiler is asked for.
-use Rattle.std.specs.Prelude.{ℕ, ◌≡◌, nat_lt, List, [], ◌∷◌, ◌++◌, Option, Some, None, Result, Ok, Err, length, map, if◌then◌else◌}
+-- What a command means: the status, the output, the files afterwards, what the compiler is asked for, the interfaces
+-- of the units that it builds, the paths that it writes, and the files afterwards as the plain build gives them.
+use Rattle.std.specs.Prelude.{ℕ, nat_lt, List, [], ◌∷◌, ◌++◌, Option, Some, None, Result, Ok, Err, length, if◌then◌else◌}
 use Rattle.std.specs.FinMap.{insert}
 use Rattle.cm_base.specs.Files.{Files}
 use Rattle.cm_base.specs.Diags.{whole_file}
@@ -10,17 +11,17 @@ use Rattle.bin_store.specs.GoodStore.{Definitions}
 use Rattle.bin_store.specs.Paths.{linked_path}
 use Rattle.linker.specs.Linked.{linked_program}
 use Rattle.cutoff_builder.specs.declared.planned.PlannedUnit.{PlannedUnit}
-use Rattle.cutoff_builder.specs.PlainBuild.{Build, plain_build}
-use Rattle.cutoff_builder.specs.Stored.{put_units}
+use Rattle.cutoff_builder.specs.PlainBuild.{Build}
+use Rattle.cutoff_builder.specs.Kept.{interfaces_of, paths_of}
+use Rattle.cutoff_builder.specs.Stored.{put_units, with_units}
 use Rattle.group_loader.specs.Loading.{project_of}
-use Rattle.skeleton_asking.specs.Skeletons.{Skeletons, skeletons_of}
-use Rattle.unit_order.specs.Planning.{plan_of}
 use Rattle.cm_top.specs.declared.status.Status.{Status}
 use Rattle.cm_top.specs.declared.status.Status.TheVariants as status
 use Rattle.cm_top.specs.declared.words.Command.{Command}
 use Rattle.cm_top.specs.declared.words.Command.TheVariants.{Build as build_command}
 use Rattle.cm_top.specs.declared.limits.TheConstants.{LINKED}
-use Rattle.cm_top.specs.Lines.{usage_line, diag_line, report}
+use Rattle.cm_top.specs.Lines.{usage_line, report}
+use Rattle.cm_top.specs.ProjectBuild.{ProjectBuild, ended_at, plain_build_of}
 use Rattle.cm_top.specs.Words.{command_of}
 
 pub record Meaning : Type 0 where
@@ -29,15 +30,22 @@ pub record Meaning : Type 0 where
   pub files : Files
   pub asked : List (List ℕ)
   pub asked_skeletons : List (List ℕ)
+  pub interfaces : List (List ℕ)
+  pub paths : List (List ℕ)
+  pub plain : Files
 
 -- words that mean nothing
 abbrev pub usage : Files → Meaning
-usage files = record { status = status.Usage; output = usage_line; files = files; asked = []; asked_skeletons = [] }
-
--- a diagnostic before the first unit is built
-abbrev pub refused : Diag → List (List ℕ) → Files → Meaning
-refused diag skeletons files =
-    record { status = status.Diagnostic; output = diag_line diag; files = files; asked = []; asked_skeletons = skeletons }
+usage files = record {
+  status = status.Usage;
+  output = usage_line;
+  files = files;
+  asked = [];
+  asked_skeletons = [];
+  interfaces = [];
+  paths = [];
+  plain = files;
+}
 
 -- a linked program that passes its limit is 12 at its file
 unfoldable pub link_fault : List BuiltUnit → Option Diag
@@ -57,40 +65,43 @@ abbrev pub with_linked : Option Diag → List BuiltUnit → Files → Files
 with_linked None units files = insert files linked_path (linked_program units)
 with_linked (Some diag) units files = files
 
--- a build whose units are stored
-abbrev pub of_end : Option Diag → List BuiltUnit → List (List ℕ) → List (List ℕ) → Files → Meaning
-of_end ended units asked skeletons files = record {
+-- .. and then its path is written too
+abbrev pub linked_paths : Option Diag → List (List ℕ)
+linked_paths None = linked_path ∷ []
+linked_paths (Some diag) = []
+
+-- a build whose units are stored: the files with them, and those that the plain build gives
+abbrev pub of_end : Option Diag → List BuiltUnit → List (List ℕ) → List (List ℕ) → Files → Files → Meaning
+of_end ended units asked skeletons files plain = record {
   status = status_of ended;
   output = report units ended;
   files = with_linked ended units files;
   asked = asked;
   asked_skeletons = skeletons;
+  interfaces = interfaces_of units;
+  paths = paths_of units ++ linked_paths ended;
+  plain = with_linked ended units plain;
 }
 
 -- the units are built in their order: of each that is done the interface, where none stands whole under its hash,
--- and the binfile are written
+-- and the binfile are written. The plain build knows of no store: there each interface is written
 abbrev pub of_build : List (List ℕ) → Files → List PlannedUnit → Build → Meaning
 of_build skeletons files planned build =
     of_end (ended_with build.ended build.units) build.units build.asked skeletons (put_units files planned build.units)
+    (with_units files planned build.units)
 
--- the order of the units, or 60 at the description where the rule on names is broken
-abbrev pub of_plan : Definitions → List ℕ → List (List ℕ) → Files → Option (List PlannedUnit) → Meaning
-of_plan by root skeletons files None = refused (whole_file 60 root) skeletons files
-of_plan by root skeletons files (Some planned) = of_build skeletons files planned (plain_build by.compiled planned)
+-- .. as the plain build of a project
+abbrev pub of_plain : Files → ProjectBuild → Meaning
+of_plain files done = of_build done.asked_skeletons files done.planned done.build
 
--- the skeletons, or the first that is refused
-abbrev pub after_skeletons : Definitions → List ℕ → Project → Files → Option Diag → Skeletons → Meaning
-after_skeletons by root project files None skeletons =
-    of_plan by root skeletons.asked files (plan_of project.units skeletons.found)
-after_skeletons by root project files (Some diag) skeletons = refused diag skeletons.asked files
-
-abbrev pub of_skeletons : Definitions → List ℕ → Project → Files → Skeletons → Meaning
-of_skeletons by root project files skeletons = after_skeletons by root project files skeletons.ended skeletons
+-- a diagnostic before the first unit is built
+abbrev pub refused : Diag → List (List ℕ) → Files → Meaning
+refused diag skeletons files = of_plain files (ended_at diag skeletons)
 
 -- the project, or the first diagnostic of its loading
 abbrev pub of_project : Definitions → List ℕ → Files → Result Project Diag → Meaning
 of_project by root files (Err diag) = refused diag [] files
-of_project by root files (Ok project) = of_skeletons by root project files (skeletons_of by.skel project.units)
+of_project by root files (Ok project) = of_plain files (plain_build_of by root project)
 
 -- a command
 abbrev pub of_command : Definitions → Files → Option Command → Meaning

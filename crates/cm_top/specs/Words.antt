@@ -1,5 +1,5 @@
 -- What the words of a command line mean.
-use Rattle.std.specs.Prelude.{ℕ, ◌==◌, ◌&&◌, Bool, true, false, not, nat_eq, List, [], ◌∷◌, Option, Some, None, codes, if◌then◌else◌}
+use Rattle.std.specs.Prelude.{ℕ, ◌==◌, ◌&&◌, Bool, false, not, nat_eq, List, [], ◌∷◌, Option, Some, None, codes, if◌then◌else◌}
 use lib.Pointwise.{pointwise}
 use Rattle.cm_top.specs.declared.words.Command.{Command}
 use Rattle.cm_top.specs.declared.words.Command.TheVariants.{Build}

@@ -5,9 +5,10 @@ ghost use Rattle.std.specs.FinMap.{insert};
 ghost use Rattle.std.specs.List.{list_all};
 ghost use Rattle.cm_base.specs.Causes.{HasCause};
 ghost use Rattle.cm_base.specs.Files.{Told, told};
+ghost use Rattle.cm_base.specs.Keeping.{Touches};
 ghost use Rattle.bin_store.specs.Paths.{linked_path};
 ghost use Rattle.linker.specs.Linked.{linked_program, IsShortBuilt};
-ghost use Rattle.cm_top.specs.Answers.{LinksTo};
+ghost use Rattle.cm_top.specs.Answers.{LinksTo, TouchesLinked};
 ghost use Rattle.cm_top.specs.Meaning.{link_fault, ended_with, with_linked};
 ghost use Rattle.cm_top.specs.Short.{is_short_count, is_short_import, is_short_built};
 
@@ -82,6 +83,7 @@ fn put_file<F: Folder>(
 ) -> Result<(), WorkFault>
     ensures cause { HasCause (F.faults folder.old) (F.faults folder.new) (result ≡ Err WorkFault.Folder) }
     ensures done { OnOk result (F.holds folder.new ≡ told (λ files. insert files path.now bytes.now) (F.holds folder.old)) }
+    ensures touches { Touches (F.holds folder.old) (F.holds folder.new) path.now bytes.now }
 {
     match folder.write(alloc, path, bytes.as_bytes()) {
         Ok(()) => Ok(()),
@@ -107,6 +109,7 @@ fn linked<F: Folder>(
     ensures cause { HasCause (F.faults folder.old) (F.faults folder.new) (result ≡ Err WorkFault.Folder) }
     ensures links { Told (F.holds folder.old) (λ files. LinksTo result (link_fault built.now.units)
         (with_linked (link_fault built.now.units) built.now.units files) (F.holds folder.new)) }
+    ensures touches { TouchesLinked (link_fault built.now.units) (F.holds folder.old) (F.holds folder.new) }
 {
     let path = linked_name(alloc)?;
     let file = linked_file(alloc, built)?;
@@ -127,6 +130,7 @@ pub fn end<F: Folder>(
     ensures cause { HasCause (F.faults folder.old) (F.faults folder.new) (result ≡ Err WorkFault.Folder) }
     ensures links { Told (F.holds folder.old) (λ files. LinksTo result (ended_with ended built.now.units)
         (with_linked (ended_with ended built.now.units) built.now.units files) (F.holds folder.new)) }
+    ensures touches { TouchesLinked (ended_with ended built.now.units) (F.holds folder.old) (F.holds folder.new) }
 {
     match ended {
         Some(diag) => Ok(Some(diag)),

@@ -3,7 +3,7 @@
 ghost use Rattle.std.specs.Prelude.{◌≡◌, ◌≢◌, None, Some, map, string_bytes};
 ghost use Rattle.cm_base.specs.Causes.{HasCause};
 ghost use Rattle.cm_base.specs.Files.{Told};
-ghost use Rattle.cm_top.specs.Answers.{Ends, IsReported, Prints};
+ghost use Rattle.cm_top.specs.Answers.{Ends, IsPlain, IsReported, IsUsageEnd, Prints, Stays};
 ghost use Rattle.cm_top.specs.Meaning.{meaning_of, of_command, of_project, usage};
 ghost use Rattle.cm_top.specs.Words.{command_of};
 ghost use Rattle.group_loader.specs.Loading.{project_of};
@@ -30,6 +30,7 @@ fn run_usage<F: Folder, S: Sink, C: Compiler>(
     ensures means { Told (F.holds folder.now) (λ files. Told (S.written out.old) (λ text. Ends result (usage files) text
         (S.written out.new) (F.holds folder.now) (C.asked compiler.now) (C.asked compiler.now)
         (C.asked_skeletons compiler.now) (C.asked_skeletons compiler.now))) }
+    ensures nothing { IsUsageEnd result }
 {
     match usage_text(alloc) {
         Ok(text) => print(alloc, out, text.as_slice(), Status::Usage),
@@ -65,6 +66,9 @@ fn run_build<F: Folder, S: Sink, C: Compiler>(
         (of_project (record { skel = C.skel; compiled = C.compiled }) root.now files (project_of files root.now)) text
         (S.written out.new) (F.holds folder.new) (C.asked compiler.old) (C.asked compiler.new)
         (C.asked_skeletons compiler.old) (C.asked_skeletons compiler.new))) }
+    ensures stays { Told (F.holds folder.old) (λ files. Stays (record { skel = C.skel; compiled = C.compiled })
+        (of_project (record { skel = C.skel; compiled = C.compiled }) root.now files (project_of files root.now))
+        (IsPlain result) (F.holds folder.old) (F.holds folder.new)) }
 {
     if root.as_bytes().len() >= 1 << 32 {
         return Status::NoMemory;
@@ -92,6 +96,9 @@ fn run_command<F: Folder, S: Sink, C: Compiler>(
         (of_command (record { skel = C.skel; compiled = C.compiled }) files (Some command.now)) text
         (S.written out.new) (F.holds folder.new) (C.asked compiler.old) (C.asked compiler.new)
         (C.asked_skeletons compiler.old) (C.asked_skeletons compiler.new))) }
+    ensures stays { Told (F.holds folder.old) (λ files. Stays (record { skel = C.skel; compiled = C.compiled })
+        (of_command (record { skel = C.skel; compiled = C.compiled }) files (Some command.now))
+        (IsPlain result) (F.holds folder.old) (F.holds folder.new)) }
 {
     match command {
         Command::Build { root, .. } => run_build(alloc, root, folder, out, compiler),
@@ -101,7 +108,7 @@ fn run_command<F: Folder, S: Sink, C: Compiler>(
 /// Does what the words after the program's name mean, and answers how it ended. Where no fault came and memory was
 /// there, the status, the bytes printed, the files and what the compiler was asked are those of the words' meaning.
 /// `FolderFault` and `SinkFault` come only where the folder or the sink failed, and `Usage` only for words that mean
-/// nothing.
+/// nothing. Whatever the answer, each path that the command doesn't write is as it was, and a good store stays good.
 pub fn run_cm<F: Folder, S: Sink, C: Compiler>(
     alloc: Global,
     words: &[String],
@@ -113,11 +120,15 @@ pub fn run_cm<F: Folder, S: Sink, C: Compiler>(
     ensures folder { HasCause (F.faults folder.old) (F.faults folder.new) (result ≡ Status.FolderFault) }
     ensures sink { HasCause (S.faults out.old) (S.faults out.new) (result ≡ Status.SinkFault) }
     ensures usage { result ≡ Status.Usage → command_of (map string_bytes words.now) ≡ None }
+    ensures nothing { command_of (map string_bytes words.now) ≡ None → IsUsageEnd result }
     ensures tool { result ≢ Status.ToolFault }
     ensures means { Told (F.holds folder.old) (λ files. Told (S.written out.old) (λ text. Ends result
         (meaning_of (record { skel = C.skel; compiled = C.compiled }) (map string_bytes words.now) files) text
         (S.written out.new) (F.holds folder.new) (C.asked compiler.old) (C.asked compiler.new)
         (C.asked_skeletons compiler.old) (C.asked_skeletons compiler.new))) }
+    ensures stays { Told (F.holds folder.old) (λ files. Stays (record { skel = C.skel; compiled = C.compiled })
+        (meaning_of (record { skel = C.skel; compiled = C.compiled }) (map string_bytes words.now) files)
+        (IsPlain result) (F.holds folder.old) (F.holds folder.new)) }
 {
     match read_words(alloc, words) {
         Ok(Some(command)) => run_command(alloc, &command, folder, out, compiler),

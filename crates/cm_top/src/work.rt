@@ -1,16 +1,18 @@
 //! The work of a command, up to its report.
 
-ghost use Rattle.std.specs.Prelude.{◌≡◌, ◌<◌, ◌^◌, [], Err, IfOk, length};
+ghost use Rattle.std.specs.Prelude.{◌≡◌, ◌<◌, ◌^◌, [], Err, IfOk, None, length};
 ghost use Rattle.cm_base.specs.Causes.{HasCause};
 ghost use Rattle.cm_base.specs.Diags.{whole_file};
 ghost use Rattle.cm_base.specs.Files.{Told};
+ghost use Rattle.cutoff_builder.specs.Kept.{HaveSkeletons};
 ghost use Rattle.cutoff_builder.specs.PlainBuild.{plain_build};
 ghost use Rattle.group_loader.specs.Loading.{project_of};
 ghost use Rattle.skeleton_asking.specs.Skeletons.{skeletons_of};
 ghost use Rattle.unit_order.specs.Planning.{plan_of};
-ghost use Rattle.cm_top.specs.Answers.{IsReported, Works, EndsSo, AsksSkeletons};
+ghost use Rattle.cm_top.specs.Answers.{IsReported, IsWorkDone, Works, EndsSo, AsksSkeletons, Stays, TouchesLinked};
 ghost use Rattle.cm_top.specs.Lines.{diag_line};
-ghost use Rattle.cm_top.specs.Meaning.{of_end, of_build, of_plan, of_skeletons, of_project, ended_with, status_of};
+ghost use Rattle.cm_top.specs.Meaning.{of_end, of_build, of_plain, of_project, ended_with, status_of};
+ghost use Rattle.cm_top.specs.ProjectBuild.{build_in_order, plain_build_of};
 
 use crate::lines::{diag_text, report_text};
 use crate::linking::end;
@@ -81,7 +83,8 @@ fn finish<F: Folder>(
     ensures cause { HasCause (F.faults folder.old) (F.faults folder.new) (result ≡ Err WorkFault.Folder) }
     ensures plain { IfOk result (λ report. IsReported report.status) }
     ensures ends { Told (F.holds folder.old) (λ files. EndsSo result
-        (of_end (ended_with ended built.now.units) built.now.units [] [] files) (F.holds folder.new)) }
+        (of_end (ended_with ended built.now.units) built.now.units [] [] files files) (F.holds folder.new)) }
+    ensures touches { TouchesLinked (ended_with ended built.now.units) (F.holds folder.old) (F.holds folder.new) }
 {
     let ended = end(alloc, folder, built, ended)?;
     let text = report_text(alloc, built.units.as_slice(), &ended)?;
@@ -98,11 +101,15 @@ fn build_units<F: Folder, C: Compiler>(
     compiler: &mut C,
     planned: &[PlannedUnit],
 ) -> Result<Report, WorkFault>
+    requires { HaveSkeletons C.skel planned.now }
     ensures cause { HasCause (F.faults folder.old) (F.faults folder.new) (result ≡ Err WorkFault.Folder) }
     ensures plain { IfOk result (λ report. IsReported report.status) }
     ensures works { Told (F.holds folder.old) (λ files. Works result
         (of_build [] files planned.now (plain_build C.compiled planned.now))
         (F.holds folder.new) (C.asked compiler.old) (C.asked compiler.new)) }
+    ensures stays { Told (F.holds folder.old) (λ files. Stays (record { skel = C.skel; compiled = C.compiled })
+        (of_build [] files planned.now (plain_build C.compiled planned.now)) (IsWorkDone result)
+        (F.holds folder.old) (F.holds folder.new)) }
     ensures same { C.asked_skeletons compiler.new ≡ C.asked_skeletons compiler.old }
 {
     match build(alloc, folder, compiler, planned) {
@@ -122,11 +129,16 @@ fn plan_units<F: Folder, C: Compiler>(
     project: &Project,
     skeletons: &List<Skeleton>,
 ) -> Result<Report, WorkFault>
+    requires found { (skeletons_of C.skel project.now.units).found ≡ skeletons.now }
+    requires ended { (skeletons_of C.skel project.now.units).ended ≡ None }
     ensures cause { HasCause (F.faults folder.old) (F.faults folder.new) (result ≡ Err WorkFault.Folder) }
     ensures plain { IfOk result (λ report. IsReported report.status) }
     ensures works { Told (F.holds folder.old) (λ files. Works result
-        (of_plan (record { skel = C.skel; compiled = C.compiled }) root.now [] files (plan_of project.now.units skeletons.now))
+        (of_plain files (build_in_order (record { skel = C.skel; compiled = C.compiled }) root.now [] (plan_of project.now.units skeletons.now)))
         (F.holds folder.new) (C.asked compiler.old) (C.asked compiler.new)) }
+    ensures stays { Told (F.holds folder.old) (λ files. Stays (record { skel = C.skel; compiled = C.compiled })
+        (of_plain files (build_in_order (record { skel = C.skel; compiled = C.compiled }) root.now [] (plan_of project.now.units skeletons.now)))
+        (IsWorkDone result) (F.holds folder.old) (F.holds folder.new)) }
     ensures same { C.asked_skeletons compiler.new ≡ C.asked_skeletons compiler.old }
 {
     if project.units.len() >= 1 << 32 {
@@ -149,8 +161,11 @@ fn build_project<F: Folder, C: Compiler>(
     ensures cause { HasCause (F.faults folder.old) (F.faults folder.new) (result ≡ Err WorkFault.Folder) }
     ensures plain { IfOk result (λ report. IsReported report.status) }
     ensures works { Told (F.holds folder.old) (λ files. Works result
-        (of_skeletons (record { skel = C.skel; compiled = C.compiled }) root.now project.now files (skeletons_of C.skel project.now.units))
+        (of_plain files (plain_build_of (record { skel = C.skel; compiled = C.compiled }) root.now project.now))
         (F.holds folder.new) (C.asked compiler.old) (C.asked compiler.new)) }
+    ensures stays { Told (F.holds folder.old) (λ files. Stays (record { skel = C.skel; compiled = C.compiled })
+        (of_plain files (plain_build_of (record { skel = C.skel; compiled = C.compiled }) root.now project.now))
+        (IsWorkDone result) (F.holds folder.old) (F.holds folder.new)) }
     ensures skeletons { AsksSkeletons result (skeletons_of C.skel project.now.units).asked
         (C.asked_skeletons compiler.old) (C.asked_skeletons compiler.new) }
 {
@@ -174,6 +189,9 @@ pub fn work<F: Folder, C: Compiler>(
     ensures works { Told (F.holds folder.old) (λ files. Works result
         (of_project (record { skel = C.skel; compiled = C.compiled }) root.now files (project_of files root.now))
         (F.holds folder.new) (C.asked compiler.old) (C.asked compiler.new)) }
+    ensures stays { Told (F.holds folder.old) (λ files. Stays (record { skel = C.skel; compiled = C.compiled })
+        (of_project (record { skel = C.skel; compiled = C.compiled }) root.now files (project_of files root.now))
+        (IsWorkDone result) (F.holds folder.old) (F.holds folder.new)) }
     ensures skeletons { Told (F.holds folder.old) (λ files. AsksSkeletons result
         (of_project (record { skel = C.skel; compiled = C.compiled }) root.now files (project_of files root.now)).asked_skeletons
         (C.asked_skeletons compiler.old) (C.asked_skeletons compiler.new)) }

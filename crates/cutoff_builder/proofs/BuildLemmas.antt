@@ -1,5 +1,5 @@
 -- A build under way: what is done and the plain build of the rest is the plain build of all.
-use Rattle.std.proofs.Common.{◌≡◌, ◌∙◌, sym, ap, ap₂, subst, refl, inl, inr, ℕ, zero, suc, ◌+◌, ◌<◌, ◌≤◌, List, [], ◌∷◌, ◌++◌, Option, Some, None, length, take, drop, arith, append-nil, append_assoc}
+use Rattle.std.proofs.Common.{◌≡◌, ◌∙◌, sym, ap, subst, refl, inl, inr, ℕ, zero, suc, ◌+◌, List, [], ◌∷◌, ◌++◌, Option, Some, None, length, take, drop, arith, append-nil, append_assoc}
 use Rattle.std.specs.Prelude.{Result, Ok, Err, slice_get}
 use Rattle.cm_base.specs.Files.{Files, told}
 use Rattle.cm_base.specs.declared.diag.Diag.{Diag}
@@ -10,8 +10,8 @@ use Rattle.bin_store.specs.Format.{IsBin}
 use Rattle.cutoff_builder.specs.declared.planned.PlannedUnit.{PlannedUnit}
 use Rattle.cutoff_builder.specs.PlainBuild.{Build, then_build, build_after, plain_build, unit_after, asked_for, givens_of}
 use Rattle.cutoff_builder.specs.Stored.{bin_of_unit, put_unit, put_units, StoresUnit, FitUnits, LeftByBuild}
-use Rattle.cutoff_builder.specs.Answers.{IsFront}
-use Rattle.cutoff_builder.proofs.Fronts.{front_front}
+use Rattle.cm_base.specs.Fronts.{GrowsUpTo}
+use Rattle.cm_base.proofs.FrontLemmas.{grows_more, grows_after}
 use Rattle.cutoff_builder.proofs.StoreLemmas.{told_told}
 
 -- a change that is the same for each value is the same of what is told
@@ -19,7 +19,7 @@ pub told_same : {A : Type 0} (f g : A → A) (o : Option A) → ((x : A) → f x
 told_same f g None same = refl
 told_same f g (Some a) same = ap Some (same a)
 
-told_none : {A : Type 0} (o : Option A) → o ≡ told (λ x. x) o
+pub told_none : {A : Type 0} (o : Option A) → o ≡ told (λ x. x) o
 told_none None = refl
 told_none (Some a) = refl
 
@@ -74,13 +74,24 @@ module _ (compiled : CompileInput → Result Compiled Diag) (planned : List Plan
   pub record Going (i : ℕ) (ds : List BuiltUnit) (start asked : List (List ℕ)) (old now : Option Files) : Type 0 where
     pub units : ds ++ (build_after compiled ds (drop i planned)).units ≡ (plain_build compiled planned).units
     pub ended : (build_after compiled ds (drop i planned)).ended ≡ (plain_build compiled planned).ended
-    pub asks : asked ++ (build_after compiled ds (drop i planned)).asked ≡ start ++ (plain_build compiled planned).asked
+    pub some : List (List ℕ)
+    pub grew : asked ≡ start ++ some
+    pub asks : some ++ (build_after compiled ds (drop i planned)).asked ≡ (plain_build compiled planned).asked
     pub files : now ≡ told (λ files. put_units files (take i planned) ds) old
     pub count : length ds ≡ i
     pub fits : FitUnits (take i planned) ds
 
   pub going_start : (start : List (List ℕ)) (old : Option Files) → Going 0 [] start start old old
-  going_start start old = record { units = refl; ended = refl; asks = refl; files = told_none old; count = refl; fits = tt }
+  going_start start old = record {
+    units = refl;
+    ended = refl;
+    some = [];
+    grew = sym (append-nil start);
+    asks = refl;
+    files = told_none old;
+    count = refl;
+    fits = tt;
+  }
 
   -- the rest of the build, at a unit that is done
   pub done_next : (i : ℕ) (ds : List BuiltUnit) (p : PlannedUnit) (u : BuiltUnit) → drop i planned ≡ p ∷ drop (i + 1) planned
@@ -110,8 +121,11 @@ module _ (compiled : CompileInput → Result Compiled Diag) (planned : List Plan
       record {
         units = append_assoc ds (u ∷ []) rest.units ∙ ap (λ (b : Build). ds ++ b.units) (sym step) ∙ going.units;
         ended = ap (λ (b : Build). b.ended) (sym step) ∙ going.ended;
-        asks = ap (λ a. a ++ rest.asked) asks ∙ append_assoc asked (asked_for p (givens_of ds p.wanted)) rest.asked
-            ∙ ap (λ (b : Build). asked ++ b.asked) (sym step) ∙ going.asks;
+        some = going.some ++ asked_for p (givens_of ds p.wanted);
+        grew = asks ∙ ap (λ a. a ++ asked_for p (givens_of ds p.wanted)) going.grew
+            ∙ append_assoc start going.some (asked_for p (givens_of ds p.wanted));
+        asks = append_assoc going.some (asked_for p (givens_of ds p.wanted)) rest.asked
+            ∙ ap (λ (b : Build). going.some ++ b.asked) (sym step) ∙ going.asks;
         files = put ∙ ap (told (λ (files : Files). put_unit files p u)) going.files
             ∙ told_told (λ files. put_unit files p u) (λ files. put_units files (take i planned) ds) old
             ∙ told_same (λ files. put_unit (put_units files (take i planned) ds) p u) (λ files. put_units files (take (i + 1) planned) (ds ++ u ∷ [])) old
@@ -143,14 +157,15 @@ module _ (compiled : CompileInput → Result Compiled Diag) (planned : List Plan
       record {
         units = units;
         ends = sym going.ended ∙ ap (λ (b : Build). b.ended) here;
-        asks = asks ∙ ap (λ (b : Build). asked ++ b.asked) (sym here) ∙ going.asks;
+        asks = asks ∙ ap (λ a. a ++ more) going.grew ∙ append_assoc start going.some more
+            ∙ ap (λ a. start ++ a) (ap (λ (b : Build). going.some ++ b.asked) (sym here) ∙ going.asks);
         files = going.files ∙ told_same (λ files. put_units files (take i planned) ds)
             (λ files. put_units files planned (plain_build compiled planned).units) old
             (λ files. put_units-take files planned ds i going.count ∙ ap (put_units files planned) (sym units));
         fits = subst (FitUnits planned) (sym units) (fits-take planned ds i going.count going.fits);
       }
 
-  -- what was asked when a build was cut off is a front of what is asked
+  -- what was asked when a build was cut off grew by a front of what is asked
   then_asked : (asked : List (List ℕ)) (r : Result BuiltUnit Diag) (rest : BuiltUnit → Build)
       → (more : List (List ℕ)) × (asked ++ more ≡ (then_build asked r rest).asked)
   then_asked asked (Err d) rest = ([], append-nil asked)
@@ -158,12 +173,13 @@ module _ (compiled : CompileInput → Result Compiled Diag) (planned : List Plan
 
   pub cut_asked : {i : ℕ} {ds : List BuiltUnit} {start asked : List (List ℕ)} {old now : Option Files} {p : PlannedUnit} (asked' : List (List ℕ))
       → Going i ds start asked old now → drop i planned ≡ p ∷ drop (i + 1) planned
-      → IsFront asked' (asked ++ asked_for p (givens_of ds p.wanted)) → IsFront asked' (start ++ (plain_build compiled planned).asked)
-  cut_asked {i} {ds} {start} {asked} {old} {now} {p} asked' going next front =
+      → GrowsUpTo asked asked' (asked_for p (givens_of ds p.wanted)) → GrowsUpTo start asked' (plain_build compiled planned).asked
+  cut_asked {i} {ds} {start} {asked} {old} {now} {p} asked' going next grown =
       let more = then_asked (asked_for p (givens_of ds p.wanted)) (unit_after compiled ds p) (λ unit. build_after compiled (ds ++ unit ∷ []) (drop (i + 1) planned)) in
-      front_front asked' (asked ++ asked_for p (givens_of ds p.wanted)) (start ++ (plain_build compiled planned).asked) more.0 front
-      (append_assoc asked (asked_for p (givens_of ds p.wanted)) more.0 ∙ ap (λ a. asked ++ a) more.1
-      ∙ ap (λ l. asked ++ (build_after compiled ds l).asked) (sym next) ∙ going.asks)
+      let rest = build_after compiled ds (drop i planned) in
+      grows_after start asked asked' going.some rest.asked (plain_build compiled planned).asked going.asks going.grew
+      (grows_more asked asked' (asked_for p (givens_of ds p.wanted)) more.0 rest.asked
+      (more.1 ∙ ap (λ l. (build_after compiled ds l).asked) (sym next)) grown)
 
   stored_so_far : {i : ℕ} {ds : List BuiltUnit} {start asked : List (List ℕ)} {old now : Option Files} → Going i ds start asked old now
       → now ≡ told (λ files. put_units files (take i planned) (take i (plain_build compiled planned).units)) old

@@ -1,5 +1,5 @@
 -- A unit that is done can be stored.
-use Rattle.std.proofs.Common.{◌≡◌, ◌∙◌, sym, ap, subst, refl, ℕ, suc, ◌+◌, ◌<◌, ◌≤◌, ◌^◌, Bool, true, false, cond, ◌||◌, ◌&&◌, List, [], ◌∷◌, Option, Some, None, length, map, arith}
+use Rattle.std.proofs.Common.{◌≡◌, sym, ap, subst, refl, ℕ, suc, ◌+◌, ◌<◌, ◌≤◌, ◌^◌, Bool, true, false, cond, ◌||◌, ◌&&◌, List, [], ◌∷◌, Option, Some, None, length, map, arith}
 use Rattle.std.specs.Prelude.{Result, Ok, Err, nat_lt}
 use Rattle.std.specs.List.{AllByRecursion, list_all}
 use Rattle.std.proofs.lemmas.List.Elements.{All-from_recursion}
@@ -10,14 +10,14 @@ use Rattle.cm_base.specs.declared.record.BuiltUnit.{BuiltUnit}
 use Rattle.cm_base.specs.declared.record.CompileInput.{CompileInput}
 use Rattle.cm_base.specs.declared.record.Compiled.{Compiled}
 use Rattle.cm_base.specs.declared.record.Given.{Given}
-use Rattle.bin_store.specs.Format.{IsShortBin, IsShortImport}
+use Rattle.bin_store.specs.Format.{IsShortImport}
 use Rattle.cutoff_builder.specs.declared.planned.PlannedUnit.{PlannedUnit}
 use Rattle.cutoff_builder.specs.declared.planned.WantedName.{WantedName}
 use Rattle.cutoff_builder.specs.declared.limits.TheConstants.{INTERFACE, CODE, ALL_INTERFACES}
 use Rattle.cutoff_builder.specs.PlainBuild.{done_unit, given_by, with_given, givens_of, input_of, is_too_large, interface_bytes, built_unit, within_limits, unit_given, unit_after}
-use Rattle.cutoff_builder.specs.Stored.{IsShortPlanned, IsShortWanted, IsStorable, bin_of_unit, is_short, is_short_count, is_short_spot, is_short_need, is_short_wanted}
+use Rattle.cutoff_builder.specs.Stored.{IsShortPlanned, IsShortWanted, IsStorable, is_short, is_short_count, is_short_spot, is_short_need, is_short_wanted}
 
-or_false : (a b : Bool) → (a || b) ≡ false → (a ≡ false) × (b ≡ false)
+pub or_false : (a b : Bool) → (a || b) ≡ false → (a ≡ false) × (b ≡ false)
 or_false true b h = cc
 or_false false b h = (refl, h)
 

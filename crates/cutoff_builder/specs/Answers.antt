@@ -1,37 +1,18 @@
 -- What the builder's calls answer, by cases on their results.
-use Rattle.std.specs.Prelude.{ℕ, ◌≡◌, ◌≤◌, ◌<◌, ◌⊎◌, List, [], ◌∷◌, ◌++◌, Option, Some, None, Result, Ok, Err, length, slice_get}
+use Rattle.std.specs.Prelude.{ℕ, ◌≡◌, ◌<◌, ◌⊎◌, List, [], ◌∷◌, ◌++◌, Option, Some, None, Result, Ok, Err, length, slice_get}
 use Rattle.cm_base.specs.Files.{Files, told}
+use Rattle.cm_base.specs.Fronts.{GrowsUpTo}
 use Rattle.cm_base.specs.declared.diag.Diag.{Diag}
-use Rattle.cm_base.specs.declared.fault.Fault.{Fault}
-use Rattle.cm_base.specs.declared.fault.Fault.TheVariants as fault
 use Rattle.cm_base.specs.declared.record.Built.{Built}
 use Rattle.cm_base.specs.declared.record.BuiltUnit.{BuiltUnit}
-use Rattle.cm_base.specs.declared.record.Given.{Given}
 use Rattle.bin_store.specs.Format.{IsBin}
 use Rattle.cutoff_builder.specs.declared.builder.BuildFault.{BuildFault}
 use Rattle.cutoff_builder.specs.declared.builder.BuildFault.TheVariants as stop
 use Rattle.cutoff_builder.specs.declared.builder.UnitFault.{UnitFault}
 use Rattle.cutoff_builder.specs.declared.builder.UnitFault.TheVariants as unit_stop
 use Rattle.cutoff_builder.specs.declared.planned.PlannedUnit.{PlannedUnit}
-use Rattle.cutoff_builder.specs.PlainBuild.{Build, done_unit, interface_bytes}
+use Rattle.cutoff_builder.specs.PlainBuild.{Build, done_unit}
 use Rattle.cutoff_builder.specs.Stored.{bin_of_unit, put_unit, put_units, StoresUnit, FitUnits, LeftByBuild}
-use Rattle.cutoff_builder.specs.declared.limits.TheConstants.{ALL_INTERFACES}
-
--- a list is a front of another
-abbrev pub IsFront : {A : Type 0} → List A → List A → Type 0
-IsFront {A} front whole = (rest : List A) × (front ++ rest ≡ whole)
-
--- a call gives what its definition gives, or wants memory
-abbrev pub Gives : {A : Type 0} → Result A Fault → Result A Diag → Type 0
-Gives (Ok value) defined = defined ≡ Ok value
-Gives (Err (fault.Diag diag)) defined = defined ≡ Err diag
-Gives (Err fault.NoMemory) defined = Unit {0}
-
--- a list of what was asked grew so, or by a front of it after want of memory
-abbrev pub Asks : {A : Type 0} → Result A Fault → List (List ℕ) → List (List ℕ) → List (List ℕ) → Type 0
-Asks (Ok value) old new asked = new ≡ old ++ asked
-Asks (Err (fault.Diag diag)) old new asked = new ≡ old ++ asked
-Asks (Err fault.NoMemory) old new asked = IsFront new (old ++ asked)
 
 -- a table of places finds each unit that is done by its name
 abbrev pub unit_at : List BuiltUnit → Option ℕ → Option BuiltUnit
@@ -62,7 +43,7 @@ abbrev pub UnitAsked : Result (Unit {0}) UnitFault → List (List ℕ) → List 
 UnitAsked (Ok done) old new asked = new ≡ old ++ asked
 UnitAsked (Err (unit_stop.Diag diag)) old new asked = new ≡ old ++ asked
 UnitAsked (Err unit_stop.Folder) old new asked = new ≡ old ++ asked
-UnitAsked (Err unit_stop.NoMemory) old new asked = IsFront new (old ++ asked)
+UnitAsked (Err unit_stop.NoMemory) old new asked = GrowsUpTo old new asked
 
 -- a whole build: it ended without a diagnostic, or with the first one, or it was cut off
 abbrev pub GivesBuild : Result Built BuildFault → Build → Type 0
@@ -74,8 +55,8 @@ GivesBuild (Err stop.NoMemory) build = Unit {0}
 abbrev pub BuildAsked : Result Built BuildFault → List (List ℕ) → List (List ℕ) → List (List ℕ) → Type 0
 BuildAsked (Ok built) old new asked = new ≡ old ++ asked
 BuildAsked (Err (stop.Stop diag done)) old new asked = new ≡ old ++ asked
-BuildAsked (Err stop.Folder) old new asked = IsFront new (old ++ asked)
-BuildAsked (Err stop.NoMemory) old new asked = IsFront new (old ++ asked)
+BuildAsked (Err stop.Folder) old new asked = GrowsUpTo old new asked
+BuildAsked (Err stop.NoMemory) old new asked = GrowsUpTo old new asked
 
 abbrev pub BuildStored : Result Built BuildFault → Option Files → Option Files → List PlannedUnit → Build → Type 0
 BuildStored (Ok built) old new planned build =

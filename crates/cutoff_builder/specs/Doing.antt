@@ -1,5 +1,5 @@
 -- What the builder keeps of the units that are done.
-use Rattle.std.specs.Prelude.{ℕ, ◌≡◌, nat_eq}
+use Rattle.std.specs.Prelude.{◌≡◌, nat_eq}
 use Rattle.indexmap.specs.IndexMap.{get}
 use lib.Pointwise.{pointwise}
 use Rattle.cutoff_builder.specs.declared.done.Done.{Done}

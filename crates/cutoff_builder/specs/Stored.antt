@@ -1,5 +1,5 @@
 -- What a build leaves in the store: of each unit that is done its interface file and its binfile.
-use Rattle.std.specs.Prelude.{ℕ, Bool, ◌&&◌, nat_lt, ◌≡◌, ◌⊎◌, ◌<◌, ◌^◌, length, All, List, [], ◌∷◌, ◌++◌, Option, Some, None, take, slice_get}
+use Rattle.std.specs.Prelude.{ℕ, Bool, ◌&&◌, nat_lt, ◌≡◌, ◌⊎◌, ◌<◌, ◌^◌, length, All, List, [], ◌∷◌, Option, Some, take, slice_get}
 use Rattle.std.specs.FinMap.{insert}
 use Rattle.cm_base.specs.Files.{Files, told}
 use Rattle.std.specs.List.{AllByRecursion, list_all}

@@ -2,8 +2,10 @@
 
 ghost use Rattle.std.specs.Prelude.{◌≡◌, ◌≤◌, Err, OnOk};
 ghost use Rattle.cm_base.specs.Causes.{HasCause};
+ghost use Rattle.cm_base.specs.Keeping.{Keeps};
 ghost use Rattle.cutoff_builder.specs.Answers.{GivesUnit, UnitStored, UnitAsked, GivesBuild, BuildStored, BuildAsked};
 ghost use Rattle.cutoff_builder.specs.Doing.{IsDone};
+ghost use Rattle.cutoff_builder.specs.Kept.{interfaces_of, paths_of, HaveSkeletons, KeepsGood, PutsPlain};
 ghost use Rattle.cutoff_builder.specs.PlainBuild.{unit_after, asked_for, givens_of, plain_build};
 
 use crate::done::Done;
@@ -71,10 +73,8 @@ fn build_unit<F: Folder, C: Compiler>(
     }
 }
 
-/// Builds the units in their order, as the plain build defines it, and leaves them in the store. It stops at the
-/// first diagnostic, where the folder fails, or for want of memory, for which a text or a list of 2^32 bytes or
-/// items, which no format can hold, counts too.
-pub fn build<F: Folder, C: Compiler>(
+/// Builds the units one after the other.
+fn build_each<F: Folder, C: Compiler>(
     alloc: Global,
     folder: &mut F,
     compiler: &mut C,
@@ -101,4 +101,27 @@ pub fn build<F: Folder, C: Compiler>(
         }
     }
     Ok(Built { units: done.units })
+}
+
+/// Builds the units in their order, as the plain build defines it, and leaves them in the store. It stops at the
+/// first diagnostic, where the folder fails, or for want of memory, for which a text or a list of 2^32 bytes or
+/// items, which no format can hold, counts too.
+pub fn build<F: Folder, C: Compiler>(
+    alloc: Global,
+    folder: &mut F,
+    compiler: &mut C,
+    units: &[PlannedUnit],
+) -> Result<Built, BuildFault>
+    ensures cause { HasCause (F.faults folder.old) (F.faults folder.new) (result ≡ Err BuildFault.Folder) }
+    ensures gives { GivesBuild result (plain_build C.compiled units.now) }
+    ensures stored { BuildStored result (F.holds folder.old) (F.holds folder.new) units.now (plain_build C.compiled units.now) }
+    ensures frame { Keeps (F.holds folder.old) (F.holds folder.new) (paths_of (plain_build C.compiled units.now).units) }
+    ensures good { HaveSkeletons C.skel units.now → KeepsGood (record { skel = C.skel; compiled = C.compiled })
+        (interfaces_of (plain_build C.compiled units.now).units) (F.holds folder.old) (F.holds folder.new) }
+    ensures plain { HaveSkeletons C.skel units.now → PutsPlain (record { skel = C.skel; compiled = C.compiled }) result
+        (F.holds folder.old) (F.holds folder.new) units.now (plain_build C.compiled units.now).units }
+    ensures asked { BuildAsked result (C.asked compiler.old) (C.asked compiler.new) (plain_build C.compiled units.now).asked }
+    ensures same { C.asked_skeletons compiler.new ≡ C.asked_skeletons compiler.old }
+{
+    build_each(alloc, folder, compiler, units)
 }

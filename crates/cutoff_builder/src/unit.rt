@@ -1,8 +1,7 @@
 //! One unit of a build: what the compiler sees of it, and what it makes of it.
 
 ghost use Rattle.std.specs.Prelude.{◌≡◌, ◌<◌, ◌≤◌, ◌+◌, ◌∷◌, [], Ok, IfOk, OnOk, length, map};
-ghost use Rattle.cm_base.specs.Calls.{Answers, Grows};
-ghost use Rattle.cutoff_builder.specs.Answers.{Gives, Asks};
+ghost use Rattle.cm_base.specs.Calls.{Answers, Asks, Gives, Grows};
 ghost use Rattle.cutoff_builder.specs.Doing.{IsDone};
 ghost use Rattle.cutoff_builder.specs.PlainBuild.{given_by, givens_of, asked_for, unit_after, unit_given, within_limits, is_too_large, interface_bytes};
 

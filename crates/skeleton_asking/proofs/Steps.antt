@@ -7,14 +7,19 @@ use Rattle.cm_base.specs.declared.fault.Fault.{Fault}
 use Rattle.cm_base.specs.declared.fault.Fault.TheVariants as fault
 use Rattle.cm_base.specs.declared.record.Skeleton.{Skeleton}
 use Rattle.cm_description.specs.declared.project.Unit.{Unit as SourceUnit}
-use Rattle.skeleton_asking.specs.Answers.{Gives, Asks, GivesSkeletons, IsFront}
+use Rattle.cm_base.specs.Calls.{Gives, Asks}
+use Rattle.cm_base.specs.Fronts.{GrowsUpTo}
+use Rattle.cm_base.proofs.FrontLemmas.{grows_more, grows_after}
+use Rattle.skeleton_asking.specs.Answers.{GivesSkeletons}
 use Rattle.skeleton_asking.specs.Skeletons.{Skeletons, then_skeletons, skeletons_of}
 
 -- what was found and asked before, and the rest, are all that is found and asked
 pub record Continues (before : List Skeleton) (old now : List (List ℕ)) (rest all : Skeletons) : Type 0 where
   pub found : before ++ rest.found ≡ all.found
   pub ended : rest.ended ≡ all.ended
-  pub asked : now ++ rest.asked ≡ old ++ all.asked
+  pub some : List (List ℕ)
+  pub grew : now ≡ old ++ some
+  pub asked : some ++ rest.asked ≡ all.asked
 
 -- the units that are left begin with the one that is asked for
 pub left_at : (units : List SourceUnit) (i : ℕ) (unit : SourceUnit) → i < length units → unit ≡ get_or units i unit
@@ -40,25 +45,19 @@ continues_more before next old now new name skeleton rest whole all pushed grown
   found = ap (λ n. n ++ whole.found) pushed ∙ append_assoc before (skeleton ∷ []) whole.found
       ∙ ap (λ r. before ++ r.found) (sym is) ∙ so.found;
   ended = ap (λ r. r.ended) (sym is) ∙ so.ended;
-  asked = ap (λ n. n ++ whole.asked) grown ∙ append_assoc now (name ∷ []) whole.asked
-      ∙ ap (λ r. now ++ r.asked) (sym is) ∙ so.asked;
+  some = so.some ++ name ∷ [];
+  grew = grown ∙ ap (λ n. n ++ name ∷ []) so.grew ∙ append_assoc old so.some (name ∷ []);
+  asked = append_assoc so.some (name ∷ []) whole.asked ∙ ap (λ r. so.some ++ r.asked) (sym is) ∙ so.asked;
 }
-
--- what was asked so far is a front of all that is asked
-pub asked_front : (before : List Skeleton) (old now : List (List ℕ)) (rest all : Skeletons)
-    → Continues before old now rest all → IsFront now (old ++ all.asked)
-asked_front before old now rest all so = (rest.asked, so.asked)
 
 -- a unit is asked for, and the answer is want of memory
 front_one : (before : List Skeleton) (old now new : List (List ℕ)) (name : List ℕ) (more : List (List ℕ))
     (rest all : Skeletons)
-    → rest.asked ≡ name ∷ more → IsFront new (now ++ name ∷ []) → Continues before old now rest all
-    → IsFront new (old ++ all.asked)
-front_one before old now new name more rest all is front so = (
-  front.0 ++ more,
-  sym (append_assoc new front.0 more) ∙ ap (λ l. l ++ more) front.1 ∙ append_assoc now (name ∷ []) more
-      ∙ ap (λ l. now ++ l) (sym is) ∙ so.asked,
-)
+    → rest.asked ≡ name ∷ more → GrowsUpTo now new (name ∷ []) → Continues before old now rest all
+    → GrowsUpTo old new all.asked
+front_one before old now new name more rest all is grown so =
+    grows_after old now new so.some (name ∷ more) all.asked (ap (λ l. so.some ++ l) (sym is) ∙ so.asked) so.grew
+    (grows_more now new (name ∷ []) more (name ∷ more) refl grown)
 
 -- what a unit's answer asks of the compiler begins with the unit
 asked_first : (name : List ℕ) (answer : Result Skeleton Diag) (rest : Skeletons)
@@ -76,7 +75,7 @@ stops_gives (fault.Diag diag) skel units i unit before old now all lt here is so
     sym so.ended ∙ ap (λ r. r.ended) (rest_at skel units i unit (Err diag) lt here is)
 stops_gives fault.NoMemory skel units i unit before old now all lt here is so = tt
 
--- .. and what was asked is what it defines, or a front of it
+-- .. and what was asked is what it defines, or grew by a front of it
 pub stops_asks : (e : Fault) (skel : List ℕ → List ℕ → Result Skeleton Diag)
     (units : List SourceUnit) (i : ℕ) (unit : SourceUnit)
     (before : List Skeleton) (old now new : List (List ℕ)) (all : Skeletons)
@@ -85,7 +84,8 @@ pub stops_asks : (e : Fault) (skel : List ℕ → List ℕ → Result Skeleton D
     → Continues before old now (skeletons_of skel (drop i units)) all
     → Asks {A = List Skeleton} (Err e) old new all.asked
 stops_asks (fault.Diag diag) skel units i unit before old now new all lt here is grown so =
-    grown ∙ ap (λ r. now ++ r.asked) (sym (rest_at skel units i unit (Err diag) lt here is)) ∙ so.asked
+    grown ∙ ap (λ n. n ++ unit.name ∷ []) so.grew ∙ append_assoc old so.some (unit.name ∷ [])
+    ∙ ap (λ l. old ++ l) (ap (λ r. so.some ++ r.asked) (sym (rest_at skel units i unit (Err diag) lt here is)) ∙ so.asked)
 stops_asks fault.NoMemory skel units i unit before old now new all lt here is grown so =
     let first = asked_first unit.name (skel unit.name unit.source) (skeletons_of skel (drop (i + 1) units)) in
     front_one before old now new unit.name first.0 (skeletons_of skel (drop i units)) all
@@ -96,12 +96,12 @@ pub kept_asks : (skel : List ℕ → List ℕ → Result Skeleton Diag) (units :
     (skeleton : Skeleton) (before : List Skeleton) (old now new : List (List ℕ)) (all : Skeletons)
     → i < length units → unit ≡ get_or units i unit → skel unit.name unit.source ≡ Ok skeleton
     → new ≡ now ++ unit.name ∷ []
-    → Continues before old now (skeletons_of skel (drop i units)) all → IsFront new (old ++ all.asked)
+    → Continues before old now (skeletons_of skel (drop i units)) all → GrowsUpTo old new all.asked
 kept_asks skel units i unit skeleton before old now new all lt here is grown so =
     let whole = skeletons_of skel (drop (i + 1) units) in
     let more = continues_more before (before ++ skeleton ∷ []) old now new unit.name skeleton
     (skeletons_of skel (drop i units)) whole all refl grown (rest_at skel units i unit (Ok skeleton) lt here is) so in
-    (whole.asked, more.asked)
+    (more.some, more.grew, (whole.asked, more.asked))
 
 -- after the last unit all is found
 all_found : (skel : List ℕ → List ℕ → Result Skeleton Diag) (units : List SourceUnit) (i : ℕ)
@@ -125,7 +125,8 @@ pub all_asks : (skel : List ℕ → List ℕ → Result Skeleton Diag) (units : 
     (before : List Skeleton) (old now : List (List ℕ)) (all : Skeletons)
     → length units ≤ i → Continues before old now (skeletons_of skel (drop i units)) all → now ≡ old ++ all.asked
 all_asks skel units i before old now all end so =
-    sym (append-nil now) ∙ (all_found skel units i before old now all end so).asked
+    let whole = all_found skel units i before old now all end so in
+    whole.grew ∙ ap (λ l. old ++ l) (sym (append-nil whole.some) ∙ whole.asked)
 
 -- what holds of a fault holds of the answer that passes it on
 pub passed : {A E : Type 0} (r : Result A E) (e : E) (P : Result A E → Type 0) → IsErrAnd r (λ y. y ≡ e)

@@ -1,7 +1,8 @@
 //! The compiler is asked for the skeleton of each unit, in load order.
 
 ghost use Rattle.std.specs.Prelude.{◌≡◌, ◌∷◌, [], IfOk, length};
-ghost use Rattle.skeleton_asking.specs.Answers.{Gives, Asks, GivesSkeletons};
+ghost use Rattle.cm_base.specs.Calls.{Gives, Asks};
+ghost use Rattle.skeleton_asking.specs.Answers.{GivesSkeletons};
 ghost use Rattle.skeleton_asking.specs.Skeletons.{skeletons_of};
 
 use cm_base::{CompileFault, Compiler, Fault, List, Skeleton};

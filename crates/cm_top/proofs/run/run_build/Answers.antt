@@ -1,6 +1,9 @@
 use Rattle.std.proofs.Common.{refl}
 use Rattle.group_loader.specs.Loading.{project_of}
-use Rattle.cm_top.specs.Meaning.{Meaning, of_project}
+use Rattle.cm_top.specs.Meaning.{of_project}
+use Rattle.cm_base.proofs.FrontLemmas.{grows_none}
+use Rattle.bin_store.specs.GoodStore.{Definitions}
+use Rattle.cm_top.proofs.Staying.{stays_failed, stays_printed}
 use Rattle.cm_top.proofs.Ending.{after_print, after_cut}
 use Rattle.cm_top.proofs.run.run_build.Goals as goal
 
@@ -10,7 +13,9 @@ returns-then-as_bytes-clause-means g c = λ files is text before.
     after_cut m text (g.S.Sink.written c.args.out.now) (g.S.Sink.written c.args.out.now) (g.F.Folder.holds c.args.folder.now)
     (g.C.Compiler.asked c.args.compiler.now) (g.C.Compiler.asked c.args.compiler.now)
     (g.C.Compiler.asked_skeletons c.args.compiler.now) (g.C.Compiler.asked_skeletons c.args.compiler.now)
-    refl before (m.asked, refl) (m.asked_skeletons, refl)
+    refl before (grows_none (g.C.Compiler.asked c.args.compiler.now) (g.C.Compiler.asked c.args.compiler.now) m.asked refl)
+    (grows_none (g.C.Compiler.asked_skeletons c.args.compiler.now) (g.C.Compiler.asked_skeletons c.args.compiler.now)
+    m.asked_skeletons refl)
 
 pub returns-in-Ok-clause-means : goal.returns-in-Ok-clause-means
 returns-in-Ok-clause-means g c = λ files is text before.
@@ -37,3 +42,14 @@ returns-in-Err-NoMemory-clause-means g c = λ files is text before.
     (g.C.Compiler.asked c.args.compiler.now) (g.C.Compiler.asked c.work.new.compiler)
     (g.C.Compiler.asked_skeletons c.args.compiler.now) (g.C.Compiler.asked_skeletons c.work.new.compiler)
     refl before (c.in-Err-NoMemory.ensures.works files is) (c.in-Err-NoMemory.ensures.skeletons files is)
+
+pub returns-then-as_bytes-clause-stays : goal.returns-then-as_bytes-clause-stays
+returns-then-as_bytes-clause-stays g c = λ files is.
+    let by : Definitions = record { skel = g.C.Compiler.skel; compiled = g.C.Compiler.compiled } in
+    stays_failed by (of_project by c.args.root.now files (project_of files c.args.root.now)) (g.F.Folder.holds c.args.folder.now)
+
+pub returns-in-Ok-clause-stays : goal.returns-in-Ok-clause-stays
+returns-in-Ok-clause-stays g c = λ files is.
+    let by : Definitions = record { skel = g.C.Compiler.skel; compiled = g.C.Compiler.compiled } in
+    stays_printed by (of_project by c.args.root.now files (project_of files c.args.root.now)) c.print_report.result
+    c.in-Ok.report (g.F.Folder.holds c.args.folder.now) (g.F.Folder.holds c.work.new.folder) (c.in-Ok.ensures.stays files is)

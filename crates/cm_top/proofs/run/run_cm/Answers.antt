@@ -1,6 +1,10 @@
-use Rattle.std.proofs.Common.{refl, map}
+use Rattle.std.proofs.Common.{◌∙◌, sym, subst, refl, map}
 use Rattle.std.specs.Prelude.{string_bytes}
-use Rattle.cm_top.specs.Meaning.{Meaning, meaning_of}
+use Rattle.cm_top.specs.Answers.{IsPlain, Stays}
+use Rattle.cm_top.specs.Meaning.{meaning_of, of_command, usage}
+use Rattle.cm_base.proofs.FrontLemmas.{grows_none}
+use Rattle.bin_store.specs.GoodStore.{Definitions}
+use Rattle.cm_top.proofs.Staying.{stays_failed, stays_still}
 use Rattle.cm_top.proofs.Ending.{after_cut}
 use Rattle.cm_top.proofs.run.run_cm.Goals as goal
 
@@ -10,4 +14,19 @@ returns-in-Err-clause-means g c = λ files is text before.
     after_cut m text (g.S.Sink.written c.args.out.now) (g.S.Sink.written c.args.out.now) (g.F.Folder.holds c.args.folder.now)
     (g.C.Compiler.asked c.args.compiler.now) (g.C.Compiler.asked c.args.compiler.now)
     (g.C.Compiler.asked_skeletons c.args.compiler.now) (g.C.Compiler.asked_skeletons c.args.compiler.now)
-    refl before (m.asked, refl) (m.asked_skeletons, refl)
+    refl before (grows_none (g.C.Compiler.asked c.args.compiler.now) (g.C.Compiler.asked c.args.compiler.now) m.asked refl)
+    (grows_none (g.C.Compiler.asked_skeletons c.args.compiler.now) (g.C.Compiler.asked_skeletons c.args.compiler.now)
+    m.asked_skeletons refl)
+
+pub returns-in-Ok-None-clause-stays : goal.returns-in-Ok-None-clause-stays
+returns-in-Ok-None-clause-stays g c = λ files is.
+    let by : Definitions = record { skel = g.C.Compiler.skel; compiled = g.C.Compiler.compiled } in
+    let holds = g.F.Folder.holds c.args.folder.now in
+    subst (λ command. Stays by (of_command by files command) (IsPlain c.run_usage.result) holds holds)
+    (sym c.in-Ok-None.field-0-is ∙ c.in-Ok-None.ensures)
+    (stays_still by (usage files) (IsPlain c.run_usage.result) holds holds refl (λ plain. is))
+
+pub returns-in-Err-clause-stays : goal.returns-in-Err-clause-stays
+returns-in-Err-clause-stays g c = λ files is.
+    let by : Definitions = record { skel = g.C.Compiler.skel; compiled = g.C.Compiler.compiled } in
+    stays_failed by (meaning_of by (map string_bytes c.args.words.now) files) (g.F.Folder.holds c.args.folder.now)

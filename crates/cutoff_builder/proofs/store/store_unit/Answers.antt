@@ -1,4 +1,4 @@
-use Rattle.std.proofs.Common.{refl, inl, inr, subst, ap, ◌∙◌}
+use Rattle.std.proofs.Common.{refl, inl, inr, subst}
 use Rattle.std.specs.Prelude.{OnOk}
 use Rattle.bin_store.specs.Format.{IsBin}
 use Rattle.bin_store.specs.Stored.{PutsBin}

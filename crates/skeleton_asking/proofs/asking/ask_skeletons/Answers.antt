@@ -1,7 +1,8 @@
 use Rattle.std.proofs.Common.{◌∙◌, ap, arith, length, length-append, ◌∷◌, [], drop, ◌+◌}
 use Rattle.std.specs.Prelude.{Ok}
 use Rattle.cm_base.specs.declared.fault.Fault.TheVariants as fault
-use Rattle.skeleton_asking.specs.Answers.{Asks, GivesSkeletons}
+use Rattle.cm_base.specs.Calls.{Asks}
+use Rattle.skeleton_asking.specs.Answers.{GivesSkeletons}
 use Rattle.skeleton_asking.specs.Skeletons.{skeletons_of}
 use Rattle.skeleton_asking.proofs.Steps.{rest_at, continues_more, stops_gives, stops_asks, kept_asks, all_gives, all_asks, passed}
 use Rattle.skeleton_asking.proofs.asking.ask_skeletons.Goals as goal

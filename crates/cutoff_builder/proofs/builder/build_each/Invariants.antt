@@ -2,7 +2,7 @@ use Rattle.std.proofs.Common.{◌≡◌, ◌≤◌}
 use Rattle.cutoff_builder.specs.Doing.{IsDone}
 use Rattle.cutoff_builder.specs.declared.limits.TheConstants.{ALL_INTERFACES}
 use Rattle.cutoff_builder.proofs.BuildLemmas.{Going}
-use Rattle.cutoff_builder.proofs.builder.build.Given as goal
+use Rattle.cutoff_builder.proofs.builder.build_each.Given as goal
 
 -- what is done and the plain build of the rest is the plain build of all, and so in the store and in what was asked
 abbrev pub invariant-loop-planned : goal.invariant-loop-planned
