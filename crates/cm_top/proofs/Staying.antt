@@ -21,7 +21,8 @@ use Rattle.cm_top.specs.declared.status.Status.{Status}
 use Rattle.cm_top.specs.declared.status.Status.TheVariants as status
 use Rattle.cm_top.specs.declared.work.Report.{Report}
 use Rattle.cm_top.specs.declared.work.WorkFault.{WorkFault}
-use Rattle.cm_top.specs.Answers.{IsPlain, IsUsageEnd, IsWorkDone, EndsSo, Prints, Stays, TouchesLinked}
+use Rattle.cm_top.specs.Answers.{IsWorkDone, EndsSo, Prints, TouchesLinked}
+use Rattle.cm_top.specs.Headline.{IsPlain, IsUsageEnd, Stays}
 use Rattle.cm_top.specs.ProjectBuild.{build_in_order, build_with}
 use Rattle.cm_top.specs.Meaning.{Meaning, refused, of_end, of_build, of_plain, of_project, ended_with, with_linked, linked_paths}
 

@@ -2,7 +2,8 @@
 
 ghost use Rattle.std.specs.Prelude.{◌≡◌};
 ghost use Rattle.cm_base.specs.Causes.{HasCause};
-ghost use Rattle.cm_top.specs.Answers.{IsPlain, Prints};
+ghost use Rattle.cm_top.specs.Answers.{Prints};
+ghost use Rattle.cm_top.specs.Headline.{IsPlain};
 
 use crate::status::Status;
 use cm_base::{Sink, SinkFault};

@@ -3,7 +3,8 @@
 ghost use Rattle.std.specs.Prelude.{◌≡◌, ◌≢◌, None, Some, map, string_bytes};
 ghost use Rattle.cm_base.specs.Causes.{HasCause};
 ghost use Rattle.cm_base.specs.Files.{Told};
-ghost use Rattle.cm_top.specs.Answers.{Ends, IsPlain, IsReported, IsUsageEnd, Prints, Stays};
+ghost use Rattle.cm_top.specs.Answers.{IsReported, Prints};
+ghost use Rattle.cm_top.specs.Headline.{Ends, IsPlain, IsUsageEnd, Stays};
 ghost use Rattle.cm_top.specs.Meaning.{meaning_of, of_command, of_project, usage};
 ghost use Rattle.cm_top.specs.Words.{command_of};
 ghost use Rattle.group_loader.specs.Loading.{project_of};

@@ -1,6 +1,6 @@
 use Rattle.std.proofs.Common.{◌∙◌, sym, subst, refl, map}
 use Rattle.std.specs.Prelude.{string_bytes}
-use Rattle.cm_top.specs.Answers.{IsPlain, Stays}
+use Rattle.cm_top.specs.Headline.{IsPlain, Stays}
 use Rattle.cm_top.specs.Meaning.{meaning_of, of_command, usage}
 use Rattle.cm_base.proofs.FrontLemmas.{grows_none}
 use Rattle.bin_store.specs.GoodStore.{Definitions}

@@ -2,7 +2,8 @@ use Rattle.std.proofs.Common.{sym, subst, ap, ◌∙◌}
 use Rattle.bin_store.specs.GoodStore.{Definitions}
 use Rattle.skeleton_asking.specs.Skeletons.{skeletons_of}
 use Rattle.unit_order.specs.Planning.{plan_of}
-use Rattle.cm_top.specs.Answers.{IsWorkDone, Stays, Works}
+use Rattle.cm_top.specs.Answers.{IsWorkDone, Works}
+use Rattle.cm_top.specs.Headline.{Stays}
 use Rattle.cm_top.specs.Meaning.{of_plain}
 use Rattle.cm_top.specs.ProjectBuild.{build_with, build_in_order, plain_build_of}
 use Rattle.cm_top.proofs.Staying.{stays_failed, stays_planned, stays_stopped, stays_unasked}

@@ -1,7 +1,8 @@
 use Rattle.std.proofs.Common.{sym, subst}
 use Rattle.bin_store.specs.GoodStore.{Definitions}
 use Rattle.group_loader.specs.Loading.{project_of}
-use Rattle.cm_top.specs.Answers.{IsWorkDone, Stays}
+use Rattle.cm_top.specs.Answers.{IsWorkDone}
+use Rattle.cm_top.specs.Headline.{Stays}
 use Rattle.cm_top.specs.Meaning.{of_project}
 use Rattle.cm_top.proofs.Staying.{stays_failed, stays_stopped, stays_unloaded}
 use Rattle.cm_top.proofs.work.work.Goals as goal
