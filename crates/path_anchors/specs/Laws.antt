@@ -1,0 +1,1 @@
+-- The laws of anchors and names: a file has one name, and a name lies where it says.

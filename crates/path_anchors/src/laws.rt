@@ -1,0 +1,1 @@
+//! The laws of anchors and names, as calls that do nothing.
