@@ -13,6 +13,7 @@ mod route;
 
 pub use anchors::Anchors;
 pub use fault::PathFault;
+pub use laws::{a_file_has_one_name, names_lie_in_the_project};
 pub use line::BoundLine;
 pub use naming::{folder_path, resolve};
 pub use pathconfig::read_pathconfig;
