@@ -2,13 +2,12 @@
 use Rattle.std.proofs.Common.{◌≡◌, ◌∙◌, ap, sym, refl, ℕ, ◌+◌, ◌==◌, ◌&&◌, ◌||◌, Bool, true, false, not, List, [], ◌∷◌, ◌++◌, length, Some, None}
 use Rattle.std.specs.Prelude.{Option, Result, Ok, Err, nat_eq, is_some, if◌then◌else◌}
 use Rattle.std.specs.List.{list_any}
-use Rattle.std.specs.Map.{lookup}
 use Rattle.std.specs.Option.{option_and_then, option_map, option_map_or}
 use Rattle.std.specs.Cmp.Lexicographic.{pointwise, same_text}
 use Rattle.cm_base.specs.declared.diag.Diag.{Diag}
 use Rattle.path_anchors.specs.declared.line.BoundLine.{BoundLine}
-use Rattle.path_anchors.specs.Names.{Bindings, parts_of, path_of, is_up, walked, begins_with, passes_limit, bound_to, is_store}
-use Rattle.path_anchors.specs.Pathconfig.{has_form, is_word, has_slash, has_blank, first_word, second_word, has_up, directory_parts, if_any, with_directory, bound_line, touches, is_nested, is_in_store, refusal, bound_more, is_skipped, after_line, and_then, after_lines, lines_of, bindings_of, AreBindings}
+use Rattle.path_anchors.specs.Names.{Bindings, parts_of, path_of, walked, begins_with, passes_limit, bound_to, is_store}
+use Rattle.path_anchors.specs.Pathconfig.{has_form, is_word, has_slash, has_blank, first_word, second_word, has_up, directory_parts, if_any, with_directory, bound_line, touches, is_nested, is_in_store, refusal, bound_more, is_skipped, after_line, and_then, after_lines, lines_of, AreBindings}
 use Rattle.path_anchors.proofs.Spelling.{EachFree-parts_of}
 use Rattle.path_anchors.proofs.Clean.{if_ok, if_some, if_none, Good, Good-walked}
 

@@ -1,12 +1,12 @@
 -- The names that paths have: what they are spelled of, and where they lie.
-use Rattle.std.proofs.Common.{◌≡◌, ◌∙◌, ap, sym, refl, ℕ, ◌==◌, ◌&&◌, ◌||◌, Bool, true, false, not, List, [], ◌∷◌, ◌++◌, length, drop, Some, None, inl, inr, arith}
-use Rattle.std.specs.Prelude.{◌⊎◌, Option, Result, Ok, Err, nat_eq, is_some, if◌then◌else◌}
+use Rattle.std.proofs.Common.{◌≡◌, ◌∙◌, ap, sym, refl, ℕ, ◌==◌, ◌||◌, Bool, true, false, not, List, [], ◌∷◌, ◌++◌, length, drop, Some, None, inl, inr, arith}
+use Rattle.std.specs.Prelude.{◌⊎◌, Option, Ok, Err, nat_eq, is_some, if◌then◌else◌}
 use Rattle.std.specs.Option.{option_map_or}
-use Rattle.std.specs.Cmp.Lexicographic.{pointwise, nat_list_eq_equiv, same_text}
+use Rattle.std.specs.Cmp.Lexicographic.{pointwise, nat_list_eq_equiv}
 use Rattle.std.proofs.lemmas.List.{append_cancel_left}
 use Rattle.std.proofs.lemmas.Bool.Decides.{nat_tests}
 use Rattle.path_anchors.specs.declared.route.Route.{Route}
-use Rattle.path_anchors.specs.Names.{Bindings, IsName, parts_of, path_of, name_of, is_stay, is_up, is_marked, is_store, is_bound, is_claimed, all_but_last, anchor_named, anchored, plain_route, top_route, directory_of, below, route_of, walked, begins_with, begins_at_root, passes_limit, bound_to, plain_name, named, name_at, resolved, top_of, folder_parts, folder_path_of}
+use Rattle.path_anchors.specs.Names.{Bindings, IsName, parts_of, path_of, is_marked, is_store, is_bound, is_claimed, all_but_last, anchor_named, anchored, plain_route, top_route, directory_of, below, route_of, walked, begins_with, begins_at_root, passes_limit, bound_to, plain_name, named, name_at, resolved, folder_parts, folder_path_of}
 use Rattle.path_anchors.specs.Pathconfig.{AreBindings, is_in_store, touches}
 use Rattle.path_anchors.specs.Laws.{LeadsDown, IsProjectPath, IsPlain, IsAnchored, FileHasOneName, NameMeansItself, NameLiesInProject, NameLiesWhereItSays}
 use Rattle.path_anchors.proofs.Spelling.{Free, EachFree, EachFree-append, EachFree-all_but_last, EachFree-parts_of, parts_of-path_of}
@@ -30,6 +30,7 @@ Free-anchor_named mark next fm fn = by_test (length mark == 1)
     dropped : (m : List ℕ) → Free m → Free (drop 1 m)
     dropped [] free = tt
     dropped (byte ∷ bytes) free = free.1
+
     by_test : (b : Bool) → Free (if b then next else drop 1 mark)
     by_test true = fn
     by_test false = dropped mark fm

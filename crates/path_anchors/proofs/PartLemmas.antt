@@ -1,7 +1,7 @@
 -- Components: what stands above a place, and what a path begins with.
-use Rattle.std.proofs.Common.{◌≡◌, ℕ, ◌+◌, ◌==◌, ◌&&◌, Bool, true, false, cond, List, [], ◌∷◌, ◌++◌, length, take, drop, Some, refl, ap, sym, get_or, append-nil, ◌<◌, ◌≤◌, ◌-◌, take_all, ◌∙◌, arith, suc, append_assoc}
+use Rattle.std.proofs.Common.{◌≡◌, ℕ, ◌+◌, ◌==◌, ◌&&◌, Bool, true, false, cond, List, [], ◌∷◌, ◌++◌, length, take, drop, Some, refl, ap, sym, get_or, append-nil, ◌<◌, ◌≤◌, ◌-◌, take_all, ◌∙◌, arith}
 use Rattle.std.specs.Prelude.{nat_eq, flat_map, Option, Result, Ok, Err, IsErrAnd}
-use Rattle.std.specs.List.{slice_split, onto_first, starts_with, join_with_byte, position_or_len}
+use Rattle.std.specs.List.{onto_first, starts_with, position_or_len}
 use Rattle.std.specs.Option.{option_and_then}
 use Rattle.std.proofs.lemmas.List.{drop_more, take_rest}
 use Rattle.std.proofs.lemmas.Bool.{eq-eqb, eqb-true}
@@ -139,8 +139,11 @@ pub walk_stops : (r : Result (Unit {0}) PathFault) (e : PathFault) (parts : List
     → at < length parts → part ≡ get_or parts at part → Walks (Err e) (stepped here part) now
     → walked here (drop at parts) ≡ all → Walks r all now
 walk_stops r (fault.Number number) parts at part here now all is lt item gives so =
-    rw is (gives.0, sym so ∙ ap (walked here) (rest_from parts at part lt item)
-    ∙ ap (option_and_then (λ there. walked there (drop (at + 1) parts))) gives.1)
+    rw is (
+      gives.0,
+      sym so ∙ ap (walked here) (rest_from parts at part lt item)
+          ∙ ap (option_and_then (λ there. walked there (drop (at + 1) parts))) gives.1,
+    )
 walk_stops r fault.NoMemory parts at part here now all is lt item gives so = rw is tt
 
 -- ---- a directory

@@ -1,6 +1,6 @@
 -- Components without slashes are read back from their path.
-use Rattle.std.proofs.Common.{◌≡◌, ◌∙◌, ap, sym, refl, ℕ, ◌==◌, Bool, true, false, cond, List, [], ◌∷◌, ◌++◌}
-use Rattle.std.specs.List.{slice_split, onto_first}
+use Rattle.std.proofs.Common.{◌≡◌, ◌∙◌, ap, refl, ℕ, ◌==◌, Bool, true, false, cond, List, [], ◌∷◌, ◌++◌}
+use Rattle.std.specs.List.{onto_first}
 use Rattle.path_anchors.specs.Names.{parts_of, path_of, all_but_last}
 
 -- the byte between two components

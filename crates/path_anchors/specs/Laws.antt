@@ -1,7 +1,7 @@
 -- The laws of anchors and names, over the anchors that any pathconfig binds: a file has one name, and a name lies
 -- where it says.
-use Rattle.std.specs.Prelude.{ℕ, ◌≡◌, ◌⊎◌, Bool, false, List, [], ◌∷◌, ◌++◌, Option, Some, Result, Ok, All}
-use Rattle.path_anchors.specs.Names.{Bindings, IsName, parts_of, name_of, is_stay, is_up, begins_with, passes_limit, bound_to, is_claimed, resolved, folder_path_of}
+use Rattle.std.specs.Prelude.{ℕ, ◌≡◌, ◌⊎◌, false, List, [], ◌++◌, Some, Ok, All}
+use Rattle.path_anchors.specs.Names.{Bindings, IsName, parts_of, name_of, is_stay, is_up, passes_limit, bound_to, is_claimed, resolved, folder_path_of}
 use Rattle.path_anchors.specs.Pathconfig.{AreBindings, is_in_store}
 
 -- two names of one file are one: what two written paths, wherever they stand, mean by one path of the folder

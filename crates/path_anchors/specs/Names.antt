@@ -96,7 +96,7 @@ top_route parts = option_map_or (λ at. at) (anchored parts) (plain_route parts)
 abbrev pub directory_of : Route → Route
 directory_of base = record { anchor = base.anchor; parts = all_but_last base.parts }
 
--- a written path that isn't anchored is taken in the directory of the description that holds it
+-- a written path that isn't anchored starts where its description lies
 abbrev pub below : Route → List (List ℕ) → Route
 below at parts = record { anchor = at.anchor; parts = at.parts ++ parts }
 

@@ -67,9 +67,7 @@ impl Anchors {
     pub(crate) fn claims(&self, path: &Text) -> bool
         ensures { result ≡ is_claimed self.now path.now }
     {
-        self.table
-            .iter()
-            .any(|(_, directory)| lies_in(path.as_bytes(), directory.as_bytes()))
+        self.table.iter().any(|(_, directory)| lies_in(path.as_bytes(), directory.as_bytes()))
     }
 
     /// Whether a directory is that of an anchor, or one of them lies inside the other.

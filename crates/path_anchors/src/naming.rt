@@ -54,7 +54,12 @@ fn anchored_name(alloc: Global, anchor: &Text, path: &Text) -> Result<Text, NoMe
 }
 
 /// The name of the components that a path leads to. 6 where none are left.
-fn named(alloc: Global, anchors: &Anchors, anchor: &Option<Text>, parts: &[Text]) -> Result<Text, PathFault>
+fn named(
+    alloc: Global,
+    anchors: &Anchors,
+    anchor: &Option<Text>,
+    parts: &[Text],
+) -> Result<Text, PathFault>
     ensures { Resolves result (named anchors.now anchor.now (Some parts.now)) }
 {
     if parts.is_empty() {
@@ -70,7 +75,12 @@ fn named(alloc: Global, anchors: &Anchors, anchor: &Option<Text>, parts: &[Text]
 }
 
 /// The name of the file at the end of a route.
-fn name_at(alloc: Global, anchors: &Anchors, route: &Route, written: &Text) -> Result<Text, PathFault>
+fn name_at(
+    alloc: Global,
+    anchors: &Anchors,
+    route: &Route,
+    written: &Text,
+) -> Result<Text, PathFault>
     ensures { Resolves result (name_at anchors.now route.now written.now) }
 {
     if !is_bound(anchors, &route.anchor) {
@@ -88,7 +98,12 @@ fn name_at(alloc: Global, anchors: &Anchors, route: &Route, written: &Text) -> R
 /// `base` is empty. The first of these refuses it: 12 for a limit, 5 for an anchor that isn't bound, 6 for a path
 /// that begins with a slash, climbs above its top or has no component, and of a plain path 5 for a mark of an
 /// anchor, 18 for the store, and 7 for a file in an anchor's directory.
-pub fn resolve(alloc: Global, anchors: &Anchors, base: &Text, written: &Text) -> Result<Text, PathFault>
+pub fn resolve(
+    alloc: Global,
+    anchors: &Anchors,
+    base: &Text,
+    written: &Text,
+) -> Result<Text, PathFault>
     requires base { length base.now < 2 ^ 32 }
     requires written { length written.now < 2 ^ 32 }
     ensures { Resolves result (resolved anchors.now base.now written.now) }

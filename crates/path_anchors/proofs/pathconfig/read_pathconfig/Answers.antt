@@ -1,8 +1,7 @@
-use Rattle.std.proofs.Common.{◌≡◌, ◌∙◌, ◌+◌, ap, sym, subst, arith, length, length-drop, take, drop}
+use Rattle.std.proofs.Common.{◌≡◌, ◌∙◌, ◌+◌, ap, sym, arith, length, length-drop, take, drop}
 use Rattle.std.proofs.lemmas.List.{length-take}
 use Rattle.std.proofs.lemmas.Bool.Decides.{nat_tests}
-use Rattle.cm_base.specs.declared.fault.Fault.TheVariants as fault
-use Rattle.path_anchors.specs.Pathconfig.{after_line, after_lines, lines_of, Binds}
+use Rattle.path_anchors.specs.Pathconfig.{after_line, after_lines, lines_of}
 use Rattle.path_anchors.proofs.PartLemmas.{err_is}
 use Rattle.path_anchors.proofs.LineLemmas.{front_line, later_text, line_bound, line_refused}
 use Rattle.path_anchors.proofs.pathconfig.read_pathconfig.Goals as goal
