@@ -1,6 +1,6 @@
 //! The one name of a file, and where it lies in the folder.
 
-ghost use Rattle.std.specs.Prelude.{◌≡◌, ◌<◌, ◌^◌, ◌∷◌, ◌++◌, IfOk, length, Some};
+ghost use Rattle.std.specs.Prelude.{◌≡◌, ◌∷◌, ◌++◌, IfOk, Some};
 ghost use Rattle.path_anchors.specs.Names.{Resolves, resolved, is_bound, is_store, named, name_at, plain_name, name_of, begins_at_root, top_of, folder_parts, folder_path_of};
 
 use crate::anchors::Anchors;
@@ -104,8 +104,6 @@ pub fn resolve(
     base: &Text,
     written: &Text,
 ) -> Result<Text, PathFault>
-    requires base { length base.now < 2 ^ 32 }
-    requires written { length written.now < 2 ^ 32 }
     ensures { Resolves result (resolved anchors.now base.now written.now) }
 {
     if passes_limit(written.as_bytes()) {
