@@ -1,0 +1,3 @@
+pub mod Comments
+pub mod Fitting
+pub mod Steps
