@@ -24,10 +24,12 @@ comment_within (suc d) [] = tt
 comment_within (suc d) (a ∷ []) = tt
 comment_within (suc d) (a ∷ (b ∷ bytes)) =
     if_within (length (a ∷ (b ∷ bytes))) (opens a b) _ _
-    (longer_within 2 (length bytes) _ (comment_len (suc (suc d)) bytes) (comment_within (suc (suc d)) bytes) (omega arith))
+    (longer_within 2 (length bytes) _ (comment_len (suc (suc d)) bytes) (comment_within (suc (suc d)) bytes)
+    (omega arith))
     (if_within (length (a ∷ (b ∷ bytes))) (closes a b) _ _
     (longer_within 2 (length bytes) _ (comment_len d bytes) (comment_within d bytes) (omega arith))
-    (longer_within 1 (length (b ∷ bytes)) _ (comment_len (suc d) (b ∷ bytes)) (comment_within (suc d) (b ∷ bytes)) (omega arith)))
+    (longer_within 1 (length (b ∷ bytes)) _ (comment_len (suc d) (b ∷ bytes)) (comment_within (suc d) (b ∷ bytes))
+    (omega arith)))
 
 -- a longer length of a longer length
 pub longer_longer : (k m : ℕ) (o : Option ℕ) → longer k (longer m o) ≡ longer (k + m) o
@@ -62,7 +64,8 @@ len_close (suc d) (a ∷ (b ∷ bytes)) some g h =
     rw (isnt, is, less) refl
 
 -- behind another byte, as many
-pub len_other : (d : ℕ) (bytes : List ℕ) → 0 < d → 0 < length bytes → begins 40 42 bytes ≡ false → begins 42 41 bytes ≡ false
+pub len_other : (d : ℕ) (bytes : List ℕ) → 0 < d → 0 < length bytes → begins 40 42 bytes ≡ false
+    → begins 42 41 bytes ≡ false
     → comment_len d bytes ≡ longer 1 (comment_len d (drop 1 bytes))
 len_other zero bytes some any g h = absurd (omega arith)
 len_other (suc d) [] some any g h = absurd (omega arith)

@@ -37,7 +37,11 @@ sign_fits first bytes =
     let le = prefix_len-le-length is_word_byte bytes in
     let more = prefix_len-le-length is_in_line (drop word bytes) in
     let rest = length-drop word bytes in
-    if_fits (1 + length bytes) (first && is_directive (take word bytes)) _ _ (omega arith, omega (arith, le, more, rest)) (omega arith)
+    if_fits (1 + length bytes) (first && is_directive (take word bytes)) _ _ (
+      omega arith,
+      omega
+          (arith, le, more, rest),
+    ) (omega arith)
 
 pub piece_fits : (first : Bool) (byte : ℕ) (bytes : List ℕ) → FitsIn (1 + length bytes) (piece_at first byte bytes)
 piece_fits first byte bytes =

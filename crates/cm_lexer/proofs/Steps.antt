@@ -14,7 +14,8 @@ use Rattle.cm_lexer.specs.declared.piece.Piece.TheVariants as piece
 use Rattle.cm_lexer.proofs.Fitting.{piece_fits}
 
 -- what stands behind a piece is read alike
-same_behind : (f g : Scanning) (n : ℕ) (first : Bool) (p : Point) (bytes : List ℕ) (piece : Piece) → FitsIn n piece → length bytes ≡ n
+same_behind : (f g : Scanning) (n : ℕ) (first : Bool) (p : Point) (bytes : List ℕ) (piece : Piece) → FitsIn n piece
+    → length bytes ≡ n
     → ((first : Bool) (p : Point) (rest : List ℕ) → length rest < n → f first p rest ≡ g first p rest)
     → by_piece f first p bytes piece ≡ by_piece g first p bytes piece
 same_behind f g n first p bytes (piece.Gap len) fits is same =
@@ -54,7 +55,8 @@ pub scan_some : (first : Bool) (p : Point) (byte : ℕ) (bytes : List ℕ)
     → scan_from first p (byte ∷ bytes) ≡ by_piece scan_from first p (byte ∷ bytes) (piece_at first byte bytes)
 unfolding scan_from
 scan_some first p byte bytes =
-    same_behind (scan_pieces (length bytes)) (λ first p bytes. scan_pieces (length bytes) first p bytes) (1 + length bytes) first p
+    same_behind (scan_pieces (length bytes)) (λ first p bytes. scan_pieces (length bytes) first p bytes)
+    (1 + length bytes) first p
     (byte ∷ bytes) (piece_at first byte bytes) (piece_fits first byte bytes) (omega arith)
     (λ first p rest lt. enough (length bytes) (length rest) first p rest (omega arith) (omega arith))
 
@@ -64,35 +66,43 @@ onto_onto found more scan = ap (λ (tokens : List Token). let s : Scan = record 
     (sym (append_assoc found more scan.tokens))
 
 -- a gap is passed
-pub step_gap : (found : List Token) (first : Bool) (p : Point) (byte len : ℕ) (bytes text : List ℕ) → text ≡ byte ∷ bytes
+pub step_gap : (found : List Token) (first : Bool) (p : Point) (byte len : ℕ) (bytes text : List ℕ)
+    → text ≡ byte ∷ bytes
     → piece_at first byte bytes ≡ piece.Gap len
-    → onto found (scan_from (first || list_any (λ byte. byte == 10) (take len text)) (after p (take len text)) (drop len text))
+    → onto found (scan_from (first || list_any (λ byte. byte == 10) (take len text)) (after p (take len text))
+    (drop len text))
     ≡ onto found (scan_from first p text)
 step_gap found first p byte len bytes text is gap =
     ap (onto found) (rw is (sym (scan_some first p byte bytes ∙ ap (by_piece scan_from first p (byte ∷ bytes)) gap)))
 
 -- a token is taken
-pub step_token : (found : List Token) (first : Bool) (p : Point) (k : TokenKind) (byte len : ℕ) (bytes text : List ℕ) → text ≡ byte ∷ bytes
+pub step_token : (found : List Token) (first : Bool) (p : Point) (k : TokenKind) (byte len : ℕ)
+    (bytes text : List ℕ) → text ≡ byte ∷ bytes
     → piece_at first byte bytes ≡ piece.Token k len
     → onto (found ++ token_at k len p ∷ []) (scan_from false (after p (take len text)) (drop len text))
     ≡ onto found (scan_from first p text)
 step_token found first p k byte len bytes text is token =
     sym (onto_onto found (token_at k len p ∷ []) _)
-    ∙ ap (onto found) (rw is (sym (scan_some first p byte bytes ∙ ap (by_piece scan_from first p (byte ∷ bytes)) token)))
+    ∙ ap (onto found) (rw is (sym (scan_some first p byte bytes ∙ ap (by_piece scan_from first p
+    (byte ∷ bytes)) token)))
 
 -- a directive is taken with the rest of its line
-pub step_directive : (found : List Token) (first : Bool) (p : Point) (byte len more : ℕ) (bytes text : List ℕ) → text ≡ byte ∷ bytes
+pub step_directive : (found : List Token) (first : Bool) (p : Point) (byte len more : ℕ) (bytes text : List ℕ)
+    → text ≡ byte ∷ bytes
     → piece_at first byte bytes ≡ piece.Directive len more
     → onto ((found ++ token_at kind.Directive len p ∷ []) ++ token_at kind.Rest more (after p (take len text)) ∷ [])
     (scan_from false (after (after p (take len text)) (take more (drop len text))) (drop more (drop len text)))
     ≡ onto found (scan_from first p text)
 step_directive found first p byte len more bytes text is directive =
-    sym (onto_onto (found ++ token_at kind.Directive len p ∷ []) (token_at kind.Rest more (after p (take len text)) ∷ []) _)
+    sym (onto_onto (found ++ token_at kind.Directive len p ∷ []) (token_at kind.Rest more (after p
+    (take len text)) ∷ []) _)
     ∙ sym (onto_onto found (token_at kind.Directive len p ∷ []) _)
-    ∙ ap (onto found) (rw is (sym (scan_some first p byte bytes ∙ ap (by_piece scan_from first p (byte ∷ bytes)) directive)))
+    ∙ ap (onto found) (rw is (sym (scan_some first p byte bytes ∙ ap (by_piece scan_from first p
+    (byte ∷ bytes)) directive)))
 
 -- the text is refused
-pub step_wrong : (found : List Token) (first : Bool) (p : Point) (byte len : ℕ) (bytes text : List ℕ) → text ≡ byte ∷ bytes
+pub step_wrong : (found : List Token) (first : Bool) (p : Point) (byte len : ℕ) (bytes text : List ℕ)
+    → text ≡ byte ∷ bytes
     → piece_at first byte bytes ≡ piece.Wrong len
     → onto found (refused (after p (take len text))) ≡ onto found (scan_from first p text)
 step_wrong found first p byte len bytes text is wrong =

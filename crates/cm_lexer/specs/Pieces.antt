@@ -49,7 +49,8 @@ after_quote bytes = quoted_piece (prefix_len is_quotable bytes) (slice_get bytes
 unfoldable pub is_directive : List ℕ → Bool
 is_directive word =
     pointwise nat_eq word (codes "if") || (pointwise nat_eq word (codes "elif")
-    || (pointwise nat_eq word (codes "else") || (pointwise nat_eq word (codes "endif") || pointwise nat_eq word (codes "error"))))
+    || (pointwise nat_eq word (codes "else") || (pointwise nat_eq word (codes "endif") || pointwise nat_eq word
+    (codes "error"))))
 
 -- behind a `#`, which is a directive only with its whole word, and where nothing but blanks and comments stands
 -- before it on its line; the rest of the line belongs to it

@@ -8,8 +8,9 @@ mod point;
 mod scanner;
 mod token;
 
-ghost use Rattle.std.specs.Prelude.{◌≡◌, IfOk};
+ghost use Rattle.std.specs.Prelude.{◌≡◌, IfOk, length};
 ghost use Rattle.cm_base.specs.Calls.{Gives};
+ghost use Rattle.cm_lexer.specs.Spelling.{AreInOrder, AreSlices};
 ghost use Rattle.cm_lexer.specs.Tokens.{scan_of, refusal, tokens_of};
 
 pub use byte::{is_blank, is_word_byte};
@@ -19,8 +20,11 @@ use std::alloc::Global;
 pub use token::{Scan, Token, TokenKind};
 
 /// The tokens of a text up to its end, or up to the first byte at which it is refused.
+#[tactic(auto, using(crate::proofs::Slices::scan_good))]
 pub fn scan(alloc: Global, text: &Text) -> Result<Scan, NoMemory>
-    ensures { IfOk result (λ scan. scan ≡ scan_of text.now) }
+    ensures exact { IfOk result (λ scan. scan ≡ scan_of text.now) }
+    ensures order { IfOk result (λ scan. AreInOrder 0 (length text.now) scan.tokens) }
+    ensures slices { IfOk result (λ scan. AreSlices text.now scan.tokens) }
 {
     scanner::scan(alloc, text.as_bytes())
 }
@@ -44,7 +48,9 @@ fn refusal(alloc: Global, file: &Text, at: Point) -> Result<Diag, NoMemory>
 /// blank or comment: an open comment and an open quote at their first byte, a byte that may not stand in a
 /// quote at that byte.
 pub fn tokens(alloc: Global, file: &Text, text: &Text) -> Result<List<Token>, Fault>
-    ensures { Gives result (tokens_of file.now text.now) }
+    ensures exact { Gives result (tokens_of file.now text.now) }
+    ensures order { IfOk result (λ tokens. AreInOrder 0 (length text.now) tokens) }
+    ensures slices { IfOk result (λ tokens. AreSlices text.now tokens) }
 {
     let Scan { tokens, wrong } = scan(alloc, text)?;
     match wrong {

@@ -42,7 +42,8 @@ impl<'a> Scanner<'a> {
         requires { len ≤ length self.old.rest.now }
         ensures rest { OnOk result (self.new.rest.now ≡ drop len self.old.rest.now) }
         ensures point { OnOk result (self.new.point ≡ after self.old.point (take len self.old.rest.now)) }
-        ensures first { OnOk result (self.new.first ≡ (self.old.first || list_any (λ byte. byte == 10) (take len self.old.rest.now))) }
+        ensures first { OnOk result
+            (self.new.first ≡ (self.old.first || list_any (λ byte. byte == 10) (take len self.old.rest.now))) }
         ensures tokens { self.new.tokens ≡ self.old.tokens }
     {
         let (passed, rest) = self.rest.split_at(len);
@@ -90,7 +91,8 @@ impl<'a> Scanner<'a> {
             ≡ onto self.old.tokens (scan_from self.old.first self.old.point self.old.rest.now))
             (λ p. onto self.new.tokens (refused p)
             ≡ onto self.old.tokens (scan_from self.old.first self.old.point self.old.rest.now))) }
-        ensures shorter { IfOk result (λ wrong. MatchOption wrong (length self.new.rest.now < length self.old.rest.now) (λ _. Unit {0})) }
+        ensures shorter { IfOk result
+            (λ wrong. MatchOption wrong (length self.new.rest.now < length self.old.rest.now) (λ _. Unit {0})) }
     {
         match piece_at(self.first, byte, bytes) {
             Piece::Gap(len) => self.pass(len)?,
