@@ -25,6 +25,17 @@ fn is_read(rt: &impl Abort, alloc: Global, text: &[u8], wanted: &[Want]) -> Resu
     Ok(())
 }
 
+/// The refusal of a text, if it is refused.
+fn refusal_of(alloc: Global, text: &[u8]) -> Result<Option<Diag>, NoMemory> {
+    let file = Text::from_bytes(alloc, b"a.cm")?;
+    let source = Text::from_bytes(alloc, text)?;
+    match tokens(alloc, &file, &source) {
+        Ok(_) => Ok(None),
+        Err(Fault::Diag(diag)) => Ok(Some(diag)),
+        Err(Fault::NoMemory) => Err(NoMemory),
+    }
+}
+
 fn is_refused(
     rt: &impl Abort,
     alloc: Global,
@@ -32,16 +43,13 @@ fn is_refused(
     line: u32,
     col: u32,
 ) -> Result<(), NoMemory> {
-    let file = Text::from_bytes(alloc, b"a.cm")?;
-    let source = Text::from_bytes(alloc, text)?;
-    match tokens(alloc, &file, &source) {
-        Err(Fault::Diag(diag)) => {
-            assert_eq!(rt; diag.number, 2, "{text:?}");
-            assert_eq!(rt; diag.at.file.as_bytes(), b"a.cm".as_slice());
-            assert_eq!(rt; (diag.at.line, diag.at.col), (line, col), "{text:?}");
-            assert_eq!(rt; diag.names.len(), 0);
-        }
-        _ => assert!(rt; false, "{text:?} isn't refused"),
+    let refusal = refusal_of(alloc, text)?;
+    assert!(rt; refusal.is_some(), "{text:?} isn't refused");
+    if let Some(diag) = refusal {
+        assert_eq!(rt; diag.number, 2, "{text:?}");
+        assert_eq!(rt; diag.at.file.as_bytes(), b"a.cm".as_slice());
+        assert_eq!(rt; (diag.at.line, diag.at.col), (line, col), "{text:?}");
+        assert_eq!(rt; diag.names.len(), 0);
     }
     Ok(())
 }
