@@ -46,7 +46,8 @@ fn joined(alloc: Global, op: Op, left: Cond, right: Cond) -> Result<Cond, NoMemo
     })
 }
 
-/// The value of a condition where `BIG` is 7 and the structure `A` is there; `None` where it is refused with 3 at its place.
+/// The value of a condition where `BIG` is 7 and the structure `A` is there; `None` where it is refused with 3 at its
+/// place.
 fn value_in(rt: &impl Abort, alloc: Global, cond: &Cond) -> Result<Option<i64>, NoMemory> {
     let at = Place {
         file: Text::from_bytes(alloc, b"main.cm")?,
@@ -327,5 +328,11 @@ fn the_first_definition_of_a_name_counts(rt: HostRuntime) -> Result<(), Fail> {
     let name = Cond::Name(Text::from_bytes(rt.alloc(), b"A")?);
     let found = value(rt.alloc(), &at, &name, &defs, &List::new(rt.alloc())).ok();
     assert_eq!(rt; found, Some(1));
+    Ok(())
+}
+
+#[test]
+fn conditions_obey_the_laws_of_grammars(_rt: HostRuntime) -> Result<(), Fail> {
+    conditions_are_lawful::<128>();
     Ok(())
 }
