@@ -1,0 +1,5 @@
+pub mod Comments
+pub mod Fitting
+pub mod Steps
+pub mod Spelled
+pub mod Slices
