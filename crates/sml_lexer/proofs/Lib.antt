@@ -1,3 +1,4 @@
 pub mod BytesLemmas
 pub mod NumbersLemmas
 pub mod GapsLemmas
+pub mod NamesLemmas

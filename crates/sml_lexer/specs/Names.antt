@@ -24,10 +24,10 @@ reserved_symbols =
     codes ":" ∷ codes ":>" ∷ codes "|" ∷ codes "=" ∷ codes "=>" ∷ codes "->" ∷ codes "#" ∷ []
 
 unfoldable pub is_reserved_word : List ℕ → Bool
-is_reserved_word word = list_any (bytes_eq word) reserved_words
+is_reserved_word word = list_any (λ entry. bytes_eq entry word) reserved_words
 
 unfoldable pub is_reserved_symbol : List ℕ → Bool
-is_reserved_symbol word = list_any (bytes_eq word) reserved_symbols
+is_reserved_symbol word = list_any (λ entry. bytes_eq entry word) reserved_symbols
 
 abbrev pub is_reserved : List ℕ → Bool
 is_reserved word = is_reserved_word word || is_reserved_symbol word

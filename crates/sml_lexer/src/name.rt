@@ -1,9 +1,9 @@
 //! Words: reserved words and marks, identifiers, long ones too, and type variables.
 
-ghost use Rattle.std.specs.Prelude.{◌≡◌, ◌≤◌, ◌<◌, ◌≢◌, IfOk, length, slice_index, true};
-ghost use Rattle.std.specs.List.{list_all};
+ghost use Rattle.std.specs.Prelude.{◌≡◌, ◌≤◌, ◌<◌, ◌++◌, ◌∷◌, [], IfOk, OnOk, length, map, slice_index};
+ghost use Rattle.std.specs.List.{list_all, list_any};
+ghost use Rattle.std.specs.Str.{bytes_eq};
 ghost use Rattle.sml_lexer.specs.Names as spec;
-ghost use Rattle.sml_lexer.specs.Fronts.{TakesWithin};
 
 use crate::bytes::{byte_at, name_run, symbol_run};
 use crate::front::Front;
@@ -27,15 +27,39 @@ const RESERVED_SYMBOLS: [&[u8]; 7] = [b":", b":>", b"|", b"=", b"=>", b"->", b"#
 const MAX_IDENTIFIER: usize = 255;
 
 /// Whether a word is in a table.
-fn is_in(table: &[&[u8]], word: &[u8]) -> bool {
-    table.iter().any(|entry| *entry == word)
+fn is_in(mut table: &[&[u8]], word: &[u8]) -> bool
+    ensures { result ≡ list_any (λ entry. bytes_eq entry word.now) (map (λ entry. entry.now) table.entry.now) }
+{
+    while let [entry, rest @ ..] = table {
+        if *entry == word {
+            return true;
+        }
+        table = rest;
+    }
+    false
+}
+
+/// Whether a word is one of the reserved ones.
+#[tactic(auto, unfolding(crate::specs::Names::is_reserved_word, crate::specs::Names::reserved_words))]
+fn is_reserved_word(word: &[u8]) -> bool
+    ensures { result ≡ spec.is_reserved_word word.now }
+{
+    is_in(&RESERVED_WORDS, word)
+}
+
+/// Whether a run of symbols is a mark.
+#[tactic(auto, unfolding(crate::specs::Names::is_reserved_symbol, crate::specs::Names::reserved_symbols))]
+fn is_reserved_symbol(word: &[u8]) -> bool
+    ensures { result ≡ spec.is_reserved_symbol word.now }
+{
+    is_in(&RESERVED_SYMBOLS, word)
 }
 
 /// Whether a word is reserved.
 fn is_reserved(word: &[u8]) -> bool
     ensures { result ≡ spec.is_reserved word.now }
 {
-    is_in(&RESERVED_WORDS, word) || is_in(&RESERVED_SYMBOLS, word)
+    is_reserved_word(word) || is_reserved_symbol(word)
 }
 
 /// The length of the longest word at the front: a letter and identifier bytes, or a run of symbols.
@@ -81,28 +105,53 @@ fn is_short(part: &[u8]) -> bool
     part.len() <= MAX_IDENTIFIER
 }
 
-/// The long identifier at the front of a text that begins with an identifier.
-fn name(alloc: Global, text: &[u8]) -> Result<Front, NoMemory>
+/// Adds a part at the end.
+fn add_part(alloc: Global, parts: &mut List<Text>, part: &[u8]) -> Result<(), NoMemory>
+    ensures { OnOk result (parts.new ≡ parts.old ++ part.now ∷ []) }
+{
+    let part = Text::from_bytes(alloc, part)?;
+    parts.add(part)
+}
+
+/// The parts of the long identifier at the front of a text, and how many bytes they take with the dots.
+#[tactic(auto, unfolding(crate::specs::Names::name_parts))]
+fn name_parts(alloc: Global, text: &[u8]) -> Result<(List<Text>, usize), NoMemory>
     requires { 0 < spec.identifier_len text.now }
-    ensures value { IfOk result (λ front. front ≡ spec.name_front text.now) }
-    ensures within { IfOk result (λ front. TakesWithin front (length text.now)) }
+    ensures parts { IfOk result (λ found. found.0 ≡ spec.name_parts text.now) }
+    ensures len { IfOk result (λ found. found.1 ≡ spec.joined_len (spec.name_parts text.now)) }
 {
     let mut parts = List::new(alloc);
-    let mut at = 0usize;
-    let mut len = qualifier_len(text);
-    while len > 0 {
-        parts.add(Text::from_bytes(alloc, &text[at..at + len - 1])?)?;
-        at += len;
-        len = qualifier_len(&text[at..]);
+    let mut rest = text;
+    let mut len = 0usize;
+    let mut next = qualifier_len(text);
+    while next > 0 {
+        add_part(alloc, &mut parts, &rest[..next - 1])?;
+        let (_qualifier, after) = rest.split_at(next);
+        rest = after;
+        len += next;
+        next = qualifier_len(rest);
     }
-    let last = identifier_len(&text[at..]);
-    parts.add(Text::from_bytes(alloc, &text[at..at + last])?)?;
-    if parts
-        .as_slice()
-        .iter()
-        .all(|part| is_short(part.as_bytes()))
-    {
-        Ok(Front::Lexeme(LexemeKind::Name(parts), at + last))
+    let last = identifier_len(rest);
+    add_part(alloc, &mut parts, &rest[..last])?;
+    Ok((parts, len + last))
+}
+
+/// Whether each part is no longer than the limit.
+fn are_short(parts: &[Text]) -> bool
+    ensures { result ≡ list_all spec.is_short parts.now }
+{
+    parts.iter().all(|part| is_short(part.as_bytes()))
+}
+
+/// The long identifier at the front of a text that begins with an identifier.
+#[tactic(auto, unfolding(crate::specs::Names::name_front))]
+fn name(alloc: Global, text: &[u8]) -> Result<Front, NoMemory>
+    requires { 0 < spec.identifier_len text.now }
+    ensures { IfOk result (λ front. front ≡ spec.name_front text.now) }
+{
+    let (parts, len) = name_parts(alloc, text)?;
+    if are_short(parts.as_slice()) {
+        Ok(Front::Lexeme(LexemeKind::Name(parts), len))
     } else {
         Ok(Front::Refused(12))
     }
@@ -112,8 +161,7 @@ fn name(alloc: Global, text: &[u8]) -> Result<Front, NoMemory>
 #[tactic(auto, unfolding(crate::specs::Names::word_front))]
 pub(crate) fn word(alloc: Global, text: &[u8]) -> Result<Front, NoMemory>
     requires { 0 < spec.word_len text.now }
-    ensures value { IfOk result (λ front. front ≡ spec.word_front text.now) }
-    ensures within { IfOk result (λ front. TakesWithin front (length text.now)) }
+    ensures { IfOk result (λ front. front ≡ spec.word_front text.now) }
 {
     let len = word_len(text);
     let word = &text[..len];
@@ -129,8 +177,7 @@ pub(crate) fn word(alloc: Global, text: &[u8]) -> Result<Front, NoMemory>
 #[tactic(auto, unfolding(crate::specs::Names::type_variable_front))]
 pub(crate) fn type_variable(alloc: Global, text: &[u8]) -> Result<Front, NoMemory>
     requires { slice_index text.now 0 ≡ 39 }
-    ensures value { IfOk result (λ front. front ≡ spec.type_variable_front text.now) }
-    ensures within { IfOk result (λ front. TakesWithin front (length text.now)) }
+    ensures { IfOk result (λ front. front ≡ spec.type_variable_front text.now) }
 {
     let len = name_run(text);
     let word = &text[..len];
