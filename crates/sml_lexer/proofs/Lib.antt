@@ -2,3 +2,4 @@ pub mod BytesLemmas
 pub mod NumbersLemmas
 pub mod GapsLemmas
 pub mod NamesLemmas
+pub mod QuotedLemmas

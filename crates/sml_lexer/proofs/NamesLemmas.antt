@@ -38,11 +38,13 @@ pub identifier-after_qualifier : (text : List ℕ) → 0 < qualifier_len text �
 unfolding qualifier_len
 identifier-after_qualifier text h =
     let n = identifier_len text in
-    let dotted : Bool = nat_lt 0 n && (slice_index text n == 46 && nat_lt 0 (identifier_len (drop (n + 1) text))) in
+    let joined : Bool = slice_index text n == 46 && nat_lt 0 (identifier_len (drop (n + 1) text)) in
+    let dotted : Bool = nat_lt 0 n && joined in
     elim (cases_Bool (is_letter (first text) && dotted)) [
       | inl e ↦
           let follows : nat_lt 0 (identifier_len (drop (n + 1) text)) ≡ true =
-              (and_parts _ _ (and_parts _ _ (and_parts (is_letter (first text)) dotted e).1).1).1 in
+              (and_parts (slice_index text n == 46) (nat_lt 0 (identifier_len (drop (n + 1) text)))
+              (and_parts (nat_lt 0 n) joined (and_parts (is_letter (first text)) dotted e).1).1).1 in
           rw e (grind (arith, nat_tests))
       | inr e ↦ let none : qualifier_len text ≡ 0 = rw e refl in absurd (omega arith)
     ]

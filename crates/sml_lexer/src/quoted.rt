@@ -1,6 +1,7 @@
 //! Strings and characters, with the bytes that they stand for.
 
-ghost use Rattle.std.specs.Prelude.{◌≡◌, ◌≤◌, ◌+◌, ◌<◌, IfOk, IfSome, length, option_map, slice_index, true};
+ghost use Rattle.std.specs.Prelude.{◌≡◌, ◌≤◌, ◌<◌, ◌++◌, IfOk, IfSome, OnOk, Some, None, if◌then◌else◌, length, slice_index, true};
+ghost use Rattle.std.specs.Char.{digit_value, is_digit};
 ghost use Rattle.sml_lexer.specs.Quoted as spec;
 
 use crate::bytes::{blank_run, byte_at, is_blank};
@@ -56,7 +57,10 @@ fn control_escape(byte: u8) -> Option<Item>
 }
 
 /// The value of a decimal digit.
-fn digit(byte: u8) -> Option<u32> {
+fn digit(byte: u8) -> Option<u32>
+    ensures value { result ≡ (if is_digit byte 10 then Some (digit_value byte) else None) }
+    ensures small { IfSome result (λ digit. digit < 10) }
+{
     char::from(byte).to_digit(10)
 }
 
@@ -117,7 +121,7 @@ fn escape_item(text: &[u8]) -> Option<Item>
 }
 
 /// The item at the front of a text.
-#[tactic(auto, unfolding(crate::specs::Quoted::item))]
+#[tactic(auto, unfolding(crate::specs::Quoted::item), using(crate::proofs::QuotedLemmas::escapes))]
 fn next_item(text: &[u8]) -> Option<Item>
     ensures value { result ≡ spec.item text.now }
     ensures within { IfSome result (λ i. (1 ≤ i.len) × (i.len ≤ length text.now)) }
@@ -136,7 +140,9 @@ fn next_item(text: &[u8]) -> Option<Item>
 }
 
 /// Adds the byte that an item stands for.
-fn add_byte(out: &mut Vec<u8>, byte: Option<u8>) -> Result<(), NoMemory> {
+fn add_byte(out: &mut Vec<u8>, byte: Option<u8>) -> Result<(), NoMemory>
+    ensures { OnOk result (out.new.items ≡ out.old.items ++ spec.item_bytes byte) }
+{
     if let Some(byte) = byte {
         out.push(byte)?;
     }
@@ -149,13 +155,16 @@ fn items(alloc: Global, text: &[u8]) -> Result<Option<(Text, usize)>, NoMemory>
     ensures within { IfOk result (λ found. IfSome found (λ s. s.1 ≤ length text.now)) }
 {
     let mut out = Vec::new(alloc);
-    let mut at = 0usize;
-    while let Some(next) = next_item(&text[at..]) {
+    let mut rest = text;
+    let mut len = 0usize;
+    while let Some(next) = next_item(rest) {
         add_byte(&mut out, next.byte)?;
-        at += next.len;
+        let (_item, after) = rest.split_at(next.len);
+        rest = after;
+        len += next.len;
     }
-    if byte_at(text, at) == b'"' {
-        Ok(Some((Text::from_vec(out), at + 1)))
+    if byte_at(rest, 0) == b'"' {
+        Ok(Some((Text::from_vec(out), len + 1)))
     } else {
         Ok(None)
     }
