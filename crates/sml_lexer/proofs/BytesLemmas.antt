@@ -3,6 +3,7 @@ use Rattle.std.proofs.Common.{◌≡◌, ℕ, ◌+◌, ◌<◌, ◌≤◌, Bool,
 use Rattle.std.proofs.lemmas.Bool.{cases_lt, cases_Bool, false≢true}
 use Rattle.std.proofs.lemmas.List.{get_or_past}
 use Rattle.std.specs.List.{prefix_len, list_all}
+use Rattle.sml_lexer.specs.Classes.{is_blank, is_name_byte}
 
 -- a byte of a class that 0 isn't in was read inside the text
 pub within_class : (p : ℕ → Bool) (xs : List ℕ) (i : ℕ) → p 0 ≡ false → p (get_or xs i 0) ≡ true → i < length xs
@@ -27,3 +28,9 @@ all_in_run p q (x ∷ xs) within =
           rw (here, more, passes) (all_in_run p q xs within)
       | inr other ↦ rw other refl
     ]
+
+pub blank_begins : (text : List ℕ) → is_blank (get_or text 0 0) ≡ true → 1 ≤ prefix_len is_blank text
+blank_begins text h = run_begins is_blank text refl h
+
+pub name_begins : (text : List ℕ) → get_or text 0 0 ≡ 39 → 1 ≤ prefix_len is_name_byte text
+name_begins text h = run_begins is_name_byte text refl (rw h refl)

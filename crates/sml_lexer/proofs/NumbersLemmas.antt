@@ -6,7 +6,10 @@ use Rattle.std.specs.List.{prefix_len, list_all}
 use Rattle.std.specs.Char.{digit_value, is_digit, is_ascii_digit, is_ascii_hexdigit}
 use Rattle.std.specs.Str.Parse.{digits_value_after}
 use Rattle.sml_lexer.specs.Numbers.{begins_hex}
-use Rattle.sml_lexer.proofs.BytesLemmas.{all_in_run, within_class}
+use Rattle.sml_lexer.specs.declared.front.Front.{Front}
+use Rattle.sml_lexer.specs.declared.front.Front.TheVariants.{Gap, Lexeme, Refused}
+use Rattle.sml_lexer.specs.Fronts.{Takes, TakesWithin}
+use Rattle.sml_lexer.proofs.BytesLemmas.{all_in_run, run_begins, within_class}
 
 decimal_digit : (c : ℕ) → is_ascii_digit c ≡ true → is_digit c 10 ≡ true
 decimal_digit c h = grind (arith, nat_tests)
@@ -33,3 +36,13 @@ unfolding begins_hex
 hex_has_prefix xs h =
     let digit : is_ascii_hexdigit (get_or xs 2 0) ≡ true = (and_parts (get_or xs 1 0 == 120) (is_ascii_hexdigit (get_or xs 2 0)) (and_parts (get_or xs 0 0 == 48) _ h).1).1 in
     omega (arith, within_class is_ascii_hexdigit xs 2 refl digit)
+
+pub within-takes : (f : Front) (n all : ℕ) → Takes f n → 1 ≤ n → n ≤ all → TakesWithin f all
+within-takes (Gap len) n all e some h = (omega arith, omega arith)
+within-takes (Lexeme kind len) n all e some h = (omega arith, omega arith)
+within-takes (Refused number) n all e some h = tt
+
+pub decimal_begins : (text : List ℕ) → is_ascii_digit (get_or text 0 0) ≡ true → 1 ≤ prefix_len is_ascii_digit text
+decimal_begins text h = run_begins is_ascii_digit text refl h
+
+pub ruleset within = (within-takes, decimal_begins)

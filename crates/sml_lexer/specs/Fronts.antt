@@ -1,6 +1,6 @@
 -- What stands at the front of a text. Each kind of lexeme is the longest run of its class; no byte but `~`, `#` and `(`
 -- begins two kinds, and of those the longer one is taken: a number, a character, a comment.
-use Rattle.std.specs.Prelude.{ℕ, ◌≤◌, ⊤, ◌==◌, nat_lt, List, take, if◌then◌else◌}
+use Rattle.std.specs.Prelude.{◌≡◌, ℕ, ◌≤◌, ⊤, ◌==◌, nat_lt, List, take, if◌then◌else◌}
 use Rattle.std.specs.List.{prefix_len}
 use Rattle.sml_lexer.specs.declared.lexeme.LexemeKind.TheVariants as kind
 use Rattle.sml_lexer.specs.declared.front.Front.{Front}
@@ -32,3 +32,9 @@ abbrev pub TakesWithin : Front → ℕ → Type 0
 TakesWithin (Gap len) all = (1 ≤ len) × (len ≤ all)
 TakesWithin (Lexeme kind len) all = (1 ≤ len) × (len ≤ all)
 TakesWithin (Refused number) all = ⊤
+
+-- what stands at the front takes so many bytes
+abbrev pub Takes : Front → ℕ → Type 0
+Takes (Gap len) n = len ≡ n
+Takes (Lexeme kind len) n = len ≡ n
+Takes (Refused number) n = ⊤

@@ -2,6 +2,7 @@
 
 ghost use Rattle.std.specs.Prelude.{◌≡◌, ◌<◌, IfOk, length};
 ghost use Rattle.sml_lexer.specs.Fronts as spec;
+ghost use Rattle.sml_lexer.specs.Fronts.{TakesWithin};
 
 use crate::bytes::{blank_run, byte_at, is_blank};
 use crate::gap::{begins_comment, comment};
@@ -23,7 +24,8 @@ pub(crate) enum Front {
 /// The mark at the front of a text that is made of other bytes than symbols.
 #[tactic(auto, unfolding(crate::specs::Fronts::mark_front))]
 fn mark(alloc: Global, text: &[u8]) -> Result<Front, NoMemory>
-    ensures { IfOk result (λ front. front ≡ spec.mark_front text.now) }
+    ensures value { IfOk result (λ front. front ≡ spec.mark_front text.now) }
+    ensures within { IfOk result (λ front. TakesWithin front (length text.now)) }
 {
     let len = mark_len(text);
     if len == 0 {
@@ -34,10 +36,11 @@ fn mark(alloc: Global, text: &[u8]) -> Result<Front, NoMemory>
 }
 
 /// What stands at the front of a text.
-#[tactic(auto, unfolding(crate::specs::Fronts::front))]
+#[tactic(auto, unfolding(crate::specs::Fronts::front), using(crate::proofs::BytesLemmas::blank_begins))]
 pub(crate) fn at_front(alloc: Global, text: &[u8]) -> Result<Front, NoMemory>
     requires { 0 < length text.now }
-    ensures { IfOk result (λ front. front ≡ spec.front text.now) }
+    ensures value { IfOk result (λ front. front ≡ spec.front text.now) }
+    ensures within { IfOk result (λ front. TakesWithin front (length text.now)) }
 {
     let byte = byte_at(text, 0);
     if is_blank(byte) {

@@ -2,6 +2,7 @@
 
 ghost use Rattle.std.specs.Prelude.{◌≡◌, ◌≤◌, IfSome, length, true};
 ghost use Rattle.sml_lexer.specs.Gaps as spec;
+ghost use Rattle.sml_lexer.specs.Fronts.{TakesWithin};
 
 use crate::bytes::byte_at;
 use crate::front::Front;
@@ -56,7 +57,8 @@ fn comment_rest(text: &[u8]) -> Option<usize>
 #[tactic(auto, unfolding(crate::specs::Gaps::comment_front), using(crate::proofs::GapsLemmas::comment_has_opening))]
 pub(crate) fn comment(text: &[u8]) -> Front
     requires { spec.begins_comment text.now ≡ true }
-    ensures { result ≡ spec.comment_front text.now }
+    ensures value { result ≡ spec.comment_front text.now }
+    ensures within { TakesWithin result (length text.now) }
 {
     match comment_rest(&text[2..]) {
         Some(len) => Front::Gap(2 + len),

@@ -4,6 +4,7 @@ ghost use Rattle.std.specs.Prelude.{◌≡◌, ◌≤◌, ◌<◌, ◌++◌, ◌
 ghost use Rattle.std.specs.List.{list_all, list_any};
 ghost use Rattle.std.specs.Str.{bytes_eq};
 ghost use Rattle.sml_lexer.specs.Names as spec;
+ghost use Rattle.sml_lexer.specs.Fronts.{TakesWithin};
 
 use crate::bytes::{byte_at, name_run, symbol_run};
 use crate::front::Front;
@@ -119,6 +120,7 @@ fn name_parts(alloc: Global, text: &[u8]) -> Result<(List<Text>, usize), NoMemor
     requires { 0 < spec.identifier_len text.now }
     ensures parts { IfOk result (λ found. found.0 ≡ spec.name_parts text.now) }
     ensures len { IfOk result (λ found. found.1 ≡ spec.joined_len (spec.name_parts text.now)) }
+    ensures within { IfOk result (λ found. (1 ≤ found.1) × (found.1 ≤ length text.now)) }
 {
     let mut parts = List::new(alloc);
     let mut rest = text;
@@ -147,7 +149,8 @@ fn are_short(parts: &[Text]) -> bool
 #[tactic(auto, unfolding(crate::specs::Names::name_front))]
 fn name(alloc: Global, text: &[u8]) -> Result<Front, NoMemory>
     requires { 0 < spec.identifier_len text.now }
-    ensures { IfOk result (λ front. front ≡ spec.name_front text.now) }
+    ensures value { IfOk result (λ front. front ≡ spec.name_front text.now) }
+    ensures within { IfOk result (λ front. TakesWithin front (length text.now)) }
 {
     let (parts, len) = name_parts(alloc, text)?;
     if are_short(parts.as_slice()) {
@@ -161,7 +164,8 @@ fn name(alloc: Global, text: &[u8]) -> Result<Front, NoMemory>
 #[tactic(auto, unfolding(crate::specs::Names::word_front))]
 pub(crate) fn word(alloc: Global, text: &[u8]) -> Result<Front, NoMemory>
     requires { 0 < spec.word_len text.now }
-    ensures { IfOk result (λ front. front ≡ spec.word_front text.now) }
+    ensures value { IfOk result (λ front. front ≡ spec.word_front text.now) }
+    ensures within { IfOk result (λ front. TakesWithin front (length text.now)) }
 {
     let len = word_len(text);
     let word = &text[..len];
@@ -174,10 +178,11 @@ pub(crate) fn word(alloc: Global, text: &[u8]) -> Result<Front, NoMemory>
 }
 
 /// The type variable at the front of a text that begins with a prime.
-#[tactic(auto, unfolding(crate::specs::Names::type_variable_front))]
+#[tactic(auto, unfolding(crate::specs::Names::type_variable_front), using(crate::proofs::BytesLemmas::name_begins))]
 pub(crate) fn type_variable(alloc: Global, text: &[u8]) -> Result<Front, NoMemory>
     requires { slice_index text.now 0 ≡ 39 }
-    ensures { IfOk result (λ front. front ≡ spec.type_variable_front text.now) }
+    ensures value { IfOk result (λ front. front ≡ spec.type_variable_front text.now) }
+    ensures within { IfOk result (λ front. TakesWithin front (length text.now)) }
 {
     let len = name_run(text);
     let word = &text[..len];

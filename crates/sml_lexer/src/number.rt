@@ -2,9 +2,11 @@
 
 ghost use Rattle.std.specs.Prelude.{◌≡◌, ◌≤◌, ◌^◌, ◌+◌, ◌<◌, Some, None, if◌then◌else◌, length, nat_le, true};
 ghost use Rattle.std.specs.List.{list_all};
-ghost use Rattle.std.specs.Char.{is_digit};
+ghost use Rattle.std.specs.Char.{is_ascii_digit, is_digit};
 ghost use Rattle.std.specs.Str.Parse.{digits_value};
 ghost use Rattle.sml_lexer.specs.Numbers as spec;
+ghost use Rattle.sml_lexer.specs.Fronts.{Takes, TakesWithin};
+ghost use Rattle.sml_lexer.specs.Classes.{first};
 
 use crate::bytes::{byte_at, digit_run, hex_run};
 use crate::front::Front;
@@ -121,7 +123,8 @@ fn integer(negative: bool, digits: &[u8], radix: u32, label: bool, len: usize) -
     requires low { 2 ≤ radix }
     requires high { radix ≤ 16 }
     requires digits { list_all (λ c. is_digit c radix) digits.now ≡ true }
-    ensures { result ≡ spec.integer negative (digits_value radix digits.now) label len }
+    ensures value { result ≡ spec.integer negative (digits_value radix digits.now) label len }
+    ensures takes { Takes result len }
 {
     match value_of(negative, digits, radix) {
         Some(value) => Front::Lexeme(LexemeKind::Int { value, label }, len),
@@ -130,20 +133,23 @@ fn integer(negative: bool, digits: &[u8], radix: u32, label: bool, len: usize) -
 }
 
 /// The hexadecimal constant whose digits are at the front of a text, after a sign of so many bytes and `0x`.
-#[tactic(auto, unfolding(crate::specs::Numbers::hex_front))]
+#[tactic(auto, unfolding(crate::specs::Numbers::hex_front), using(crate::proofs::NumbersLemmas::within))]
 fn hex(sign: usize, digits: &[u8]) -> Front
     requires { sign ≤ 1 }
-    ensures { result ≡ spec.hex_front sign digits.now }
+    ensures value { result ≡ spec.hex_front sign digits.now }
+    ensures within { TakesWithin result (sign + 2 + length digits.now) }
 {
     let len = hex_run(digits);
     integer(sign == 1, &digits[..len], 16, false, sign + 2 + len)
 }
 
 /// The decimal constant at the front of a text, after a sign of so many bytes.
-#[tactic(auto, unfolding(crate::specs::Numbers::decimal_front))]
+#[tactic(auto, unfolding(crate::specs::Numbers::decimal_front), using(crate::proofs::NumbersLemmas::within))]
 fn decimal(sign: usize, text: &[u8]) -> Front
-    requires { sign ≤ 1 }
-    ensures { result ≡ spec.decimal_front sign text.now }
+    requires sign { sign ≤ 1 }
+    requires digit { is_ascii_digit (first text.now) ≡ true }
+    ensures value { result ≡ spec.decimal_front sign text.now }
+    ensures within { TakesWithin result (sign + length text.now) }
 {
     let len = digit_run(text);
     let label = sign == 0 && byte_at(text, 0) != b'0';
@@ -161,8 +167,10 @@ fn is_left_out(sign: usize, digits: &[u8]) -> bool
 /// The number at the front of a text, after a sign of so many bytes.
 #[tactic(auto, unfolding(crate::specs::Numbers::unsigned_front), using(crate::proofs::NumbersLemmas::hex_has_prefix))]
 fn unsigned(sign: usize, digits: &[u8]) -> Front
-    requires { sign ≤ 1 }
-    ensures { result ≡ spec.unsigned_front sign digits.now }
+    requires sign { sign ≤ 1 }
+    requires digit { is_ascii_digit (first digits.now) ≡ true }
+    ensures value { result ≡ spec.unsigned_front sign digits.now }
+    ensures within { TakesWithin result (sign + length digits.now) }
 {
     if begins_hex(digits) {
         hex(sign, &digits[2..])
@@ -177,7 +185,8 @@ fn unsigned(sign: usize, digits: &[u8]) -> Front
 #[tactic(auto, unfolding(crate::specs::Numbers::number_front), using(crate::proofs::BytesLemmas::within_class))]
 pub(crate) fn number(text: &[u8]) -> Front
     requires { spec.begins_number text.now ≡ true }
-    ensures { result ≡ spec.number_front text.now }
+    ensures value { result ≡ spec.number_front text.now }
+    ensures within { TakesWithin result (length text.now) }
 {
     let sign = sign_len(text);
     unsigned(sign, &text[sign..])

@@ -3,6 +3,7 @@
 ghost use Rattle.std.specs.Prelude.{◌≡◌, ◌≤◌, ◌<◌, ◌++◌, IfOk, IfSome, OnOk, Some, None, if◌then◌else◌, length, slice_index, true};
 ghost use Rattle.std.specs.Char.{digit_value, is_digit};
 ghost use Rattle.sml_lexer.specs.Quoted as spec;
+ghost use Rattle.sml_lexer.specs.Fronts.{TakesWithin};
 
 use crate::bytes::{blank_run, byte_at, is_blank};
 use crate::front::Front;
@@ -187,7 +188,8 @@ fn quoted(alloc: Global, text: &[u8]) -> Result<Option<(Text, usize)>, NoMemory>
 #[tactic(auto, unfolding(crate::specs::Quoted::string_front))]
 pub(crate) fn string(alloc: Global, text: &[u8]) -> Result<Front, NoMemory>
     requires { slice_index text.now 0 ≡ 34 }
-    ensures { IfOk result (λ front. front ≡ spec.string_front text.now) }
+    ensures value { IfOk result (λ front. front ≡ spec.string_front text.now) }
+    ensures within { IfOk result (λ front. TakesWithin front (length text.now)) }
 {
     match quoted(alloc, text)? {
         Some((bytes, len)) => Ok(Front::Lexeme(LexemeKind::Str(bytes), len)),
@@ -216,7 +218,8 @@ fn one_byte(text: &[u8]) -> Option<u8>
 #[tactic(auto, unfolding(crate::specs::Quoted::character_front))]
 pub(crate) fn character(alloc: Global, text: &[u8]) -> Result<Front, NoMemory>
     requires { spec.begins_character text.now ≡ true }
-    ensures { IfOk result (λ front. front ≡ spec.character_front text.now) }
+    ensures value { IfOk result (λ front. front ≡ spec.character_front text.now) }
+    ensures within { IfOk result (λ front. TakesWithin front (length text.now)) }
 {
     if let Some((bytes, len)) = quoted(alloc, &text[1..])? {
         if let Some(byte) = one_byte(bytes.as_bytes()) {
