@@ -1,8 +1,8 @@
 -- Comments, a step at a time.
-use Rattle.std.proofs.Common.{◌≡◌, ℕ, zero, suc, ◌+◌, ◌-◌, ◌<◌, ◌≤◌, Bool, true, false, ◌==◌, List, [], ◌∷◌, length, length-drop, get_or, drop, Option, Some, None, refl, sym, ap, ◌∙◌, arith, inl, inr}
+use Rattle.std.proofs.Common.{◌≡◌, ℕ, zero, suc, ◌+◌, ◌-◌, ◌<◌, ◌≤◌, true, false, ◌==◌, List, [], ◌∷◌, length, length-drop, get_or, drop, Option, Some, None, refl, sym, ap, ◌∙◌, arith}
 use Rattle.std.proofs.lemmas.Bool.{and_parts}
 use Rattle.std.proofs.lemmas.List.{drop_more}
-use Rattle.sml_lexer.specs.Gaps.{opens, closes, further, after_close, comment_rest, begins_comment}
+use Rattle.sml_lexer.specs.Gaps.{opens, closes, further, comment_rest, begins_comment}
 use Rattle.sml_lexer.proofs.BytesLemmas.{within_class}
 
 -- a comment has the two bytes that open it

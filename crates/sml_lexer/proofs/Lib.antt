@@ -3,3 +3,4 @@ pub mod NumbersLemmas
 pub mod GapsLemmas
 pub mod NamesLemmas
 pub mod QuotedLemmas
+pub mod LexingLemmas

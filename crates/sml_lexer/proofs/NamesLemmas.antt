@@ -1,5 +1,5 @@
 -- Long identifiers, a part at a time.
-use Rattle.std.proofs.Common.{◌≡◌, ℕ, zero, suc, ◌+◌, ◌-◌, ◌<◌, ◌≤◌, Bool, true, false, List, [], ◌∷◌, ◌++◌, length, take, drop, slice_index, ◌==◌, ◌&&◌, nat_lt, refl, sym, ap, ◌∙◌, arith, inl, inr, append_assoc}
+use Rattle.std.proofs.Common.{◌≡◌, ℕ, zero, suc, ◌+◌, ◌-◌, ◌<◌, ◌≤◌, Bool, true, List, [], ◌∷◌, ◌++◌, length, take, drop, slice_index, ◌==◌, ◌&&◌, nat_lt, refl, sym, ap, ◌∙◌, arith, inl, inr, append_assoc}
 use Rattle.std.proofs.lemmas.Bool.{and_parts, cases_Bool, lt-ltb}
 use Rattle.std.proofs.lemmas.Bool.Decides.{nat_tests}
 use Rattle.std.proofs.lemmas.List.{length-take-le}
@@ -43,8 +43,8 @@ identifier-after_qualifier text h =
     elim (cases_Bool (is_letter (first text) && dotted)) [
       | inl e ↦
           let follows : nat_lt 0 (identifier_len (drop (n + 1) text)) ≡ true =
-              (and_parts (slice_index text n == 46) (nat_lt 0 (identifier_len (drop (n + 1) text)))
-              (and_parts (nat_lt 0 n) joined (and_parts (is_letter (first text)) dotted e).1).1).1 in
+          (and_parts (slice_index text n == 46) (nat_lt 0 (identifier_len (drop (n + 1) text)))
+          (and_parts (nat_lt 0 n) joined (and_parts (is_letter (first text)) dotted e).1).1).1 in
           rw e (grind (arith, nat_tests))
       | inr e ↦ let none : qualifier_len text ≡ 0 = rw e refl in absurd (omega arith)
     ]

@@ -1,8 +1,7 @@
 -- Strings, an item at a time.
-use Rattle.std.proofs.Common.{◌≡◌, ◌≢◌, ℕ, zero, suc, ◌+◌, ◌-◌, ◌<◌, ◌≤◌, Bool, true, false, not, ◌==◌, ◌&&◌, nat_le, List, [], ◌∷◌, ◌++◌, length, get_or, take, drop, Option, Some, None, IfSome, refl, sym, ap, ap₂, ◌∙◌, arith, inl, inr, append_assoc, append-nil}
+use Rattle.std.proofs.Common.{◌≡◌, ◌≢◌, ℕ, zero, suc, ◌+◌, ◌-◌, ◌<◌, ◌≤◌, Bool, true, false, ◌==◌, ◌&&◌, nat_le, List, [], ◌∷◌, ◌++◌, length, get_or, take, drop, Option, Some, None, IfSome, refl, sym, ap, ap₂, ◌∙◌, arith, inl, inr, append_assoc, append-nil}
 use Rattle.std.proofs.lemmas.Bool.{and_parts, cases_Bool, cases_lt}
 use Rattle.std.proofs.lemmas.Bool.Decides.{nat_tests}
-use Rattle.std.proofs.lemmas.Grind.{common_steps}
 use Rattle.std.proofs.lemmas.List.{get_or_past}
 use Rattle.std.specs.List.{prefix_len}
 use Rattle.std.specs.Option.{option_map}
@@ -36,7 +35,7 @@ decimal-within text =
     let small : Bool = nat_le (digits_value 10 (take 3 (drop 1 text))) 255 in
     elim (cases_Bool (digits && small)) [
       | inl e ↦ let last : is_digit (get_or text 3 0) ≡ true =
-              (and_parts (is_digit (get_or text 1 0) && is_digit (get_or text 2 0)) (is_digit (get_or text 3 0)) (and_parts digits small e).0).1 in
+          (and_parts (is_digit (get_or text 1 0) && is_digit (get_or text 2 0)) (is_digit (get_or text 3 0)) (and_parts digits small e).0).1 in
           let within : 3 < length text = within_class is_digit text 3 refl last in
           rw e (omega arith, omega arith)
       | inr e ↦ rw e tt
@@ -74,12 +73,12 @@ escape_item-within text =
     elim (cases_Bool (c == 94)) [
       | inl e ↦ rw e (control-within text)
       | inr e ↦ elim (cases_Bool (is_digit c)) [
-          | inl d ↦ rw (e, d) (decimal-within text)
-          | inr d ↦ elim (cases_Bool (is_blank c)) [
-              | inl b ↦ rw (e, d, b) (gap-within text)
-              | inr b ↦ rw (e, d, b) (simple-within text)
-            ]
+        | inl d ↦ rw (e, d) (decimal-within text)
+        | inr d ↦ elim (cases_Bool (is_blank c)) [
+          | inl b ↦ rw (e, d, b) (gap-within text)
+          | inr b ↦ rw (e, d, b) (simple-within text)
         ]
+      ]
     ]
 
 pub ruleset escapes = (escape_item-within)

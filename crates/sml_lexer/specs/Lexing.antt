@@ -1,7 +1,8 @@
 -- The lexemes of a whole text with their places, or its first lexical diagnostic.
-use Rattle.std.specs.Prelude.{ℕ, ◌+◌, ◌-◌, ◌==◌, nat_lt, zero, suc, List, [], ◌∷◌, length, Result, Ok, Err, if◌then◌else◌}
+use Rattle.std.specs.Prelude.{◌≡◌, ⊤, ◌++◌, ℕ, ◌+◌, ◌-◌, ◌==◌, nat_lt, zero, suc, List, [], ◌∷◌, length, Result, Ok, Err, if◌then◌else◌}
+use Rattle.cm_base.specs.declared.fault.Fault.{Fault}
+use Rattle.cm_base.specs.declared.fault.Fault.TheVariants as fault
 use Rattle.cm_base.specs.declared.diag.Diag.{Diag}
-use Rattle.cm_base.specs.declared.diag.Place.{Place}
 use Rattle.cm_base.specs.Diags.{whole_file}
 use Rattle.sml_lexer.specs.declared.lexeme.Lexeme.{Lexeme}
 use Rattle.sml_lexer.specs.declared.place.Point.{Point}
@@ -36,6 +37,16 @@ lexemes_after file passed at [] = Ok []
 lexemes_after file (suc passed) at (b ∷ bs) = lexemes_after file passed (after_byte at b) bs
 lexemes_after file zero at (b ∷ bs) =
     front_and_rest file at (front (b ∷ bs)) (λ passed. lexemes_after file passed (after_byte at b) bs)
+
+-- what a step over the front of a text leaves: its length and the lexeme that it is, if it is one, or its refusal
+abbrev pub TakesFront : Result ℕ Fault → List Lexeme → List Lexeme → List ℕ → Point → Front → Type 0
+TakesFront (Ok len) old new file at (at_front.Gap n) = (len ≡ n) × (new ≡ old)
+TakesFront (Ok len) old new file at (at_front.Lexeme kind n) =
+    (len ≡ n) × (new ≡ old ++ record { kind = kind; line = at.line; col = at.col } ∷ [])
+TakesFront (Ok len) old new file at (at_front.Refused number) = ⊥
+TakesFront (Err (fault.Diag diag)) old new file at (at_front.Refused number) = diag ≡ refusal file at number
+TakesFront (Err (fault.Diag diag)) old new file at _ = ⊥
+TakesFront (Err fault.NoMemory) old new file at _ = ⊤
 
 -- the lexemes of a source of at most 1,048,576 bytes
 unfoldable pub lexemes_of : List ℕ → List ℕ → Result (List Lexeme) Diag

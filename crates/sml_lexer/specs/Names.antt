@@ -1,6 +1,6 @@
 -- Identifiers, type variables, and the reserved words and marks (The Definition of Standard ML, sections 2.1, 2.4
 -- and 2.5; `funsig` is a reserved word of SML/NJ).
-use Rattle.std.specs.Prelude.{ℕ, ◌+◌, ◌-◌, Bool, false, ◌&&◌, ◌||◌, ◌==◌, nat_lt, nat_le, zero, suc, List, [], ◌∷◌, take, drop, length, slice_index, codes, if◌then◌else◌}
+use Rattle.std.specs.Prelude.{ℕ, ◌+◌, ◌-◌, Bool, ◌&&◌, ◌||◌, ◌==◌, nat_lt, nat_le, zero, suc, List, [], ◌∷◌, take, drop, length, slice_index, codes, if◌then◌else◌}
 use Rattle.std.specs.List.{prefix_len, list_any, list_all, sum_by}
 use Rattle.std.specs.Str.{bytes_eq}
 use Rattle.sml_lexer.specs.declared.lexeme.LexemeKind.TheVariants as kind

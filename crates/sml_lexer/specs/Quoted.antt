@@ -1,5 +1,5 @@
 -- Strings and characters, with the bytes that they stand for (The Definition of Standard ML, sections 2.2 and 2.3).
-use Rattle.std.specs.Prelude.{ℕ, ◌+◌, ◌-◌, ◌*◌, Bool, not, ◌&&◌, ◌||◌, ◌==◌, nat_lt, nat_le, zero, suc, List, [], ◌∷◌, ◌++◌, take, drop, slice_index, Option, Some, None, option_map, if◌then◌else◌}
+use Rattle.std.specs.Prelude.{ℕ, ◌+◌, ◌-◌, Bool, not, ◌&&◌, ◌||◌, ◌==◌, nat_le, zero, suc, List, [], ◌∷◌, ◌++◌, take, drop, slice_index, Option, Some, None, option_map, if◌then◌else◌}
 use Rattle.std.specs.List.{prefix_len}
 use Rattle.std.specs.Str.Parse.{digits_value}
 use Rattle.sml_lexer.specs.declared.lexeme.LexemeKind.TheVariants as kind

@@ -23,8 +23,26 @@ fn is_symbol_byte(byte: u8) -> bool
     ensures { result ≡ spec.is_symbol_byte byte }
 {
     match byte {
-        b'!' | b'%' | b'&' | b'$' | b'#' | b'+' | b'-' | b'/' | b':' | b'<' | b'=' | b'>'
-        | b'?' | b'@' | b'\\' | b'~' | b'`' | b'^' | b'|' | b'*' => true,
+        b'!'
+        | b'%'
+        | b'&'
+        | b'$'
+        | b'#'
+        | b'+'
+        | b'-'
+        | b'/'
+        | b':'
+        | b'<'
+        | b'='
+        | b'>'
+        | b'?'
+        | b'@'
+        | b'\\'
+        | b'~'
+        | b'`'
+        | b'^'
+        | b'|'
+        | b'*' => true,
         _ => false,
     }
 }
@@ -49,7 +67,9 @@ pub(crate) fn symbol_run(text: &[u8]) -> usize
     ensures run { result ≡ prefix_len spec.is_symbol_byte text.now }
     ensures within { result ≤ length text.now }
 {
-    text.iter().take_while(|byte| is_symbol_byte(**byte)).count()
+    text.iter()
+        .take_while(|byte| is_symbol_byte(**byte))
+        .count()
 }
 
 /// The length of the run of separators at the front.

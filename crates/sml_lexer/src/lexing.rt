@@ -2,7 +2,9 @@
 
 ghost use Rattle.std.specs.Prelude.{◌≡◌, ◌≤◌, IfOk, length};
 ghost use Rattle.cm_base.specs.Calls.{Gives};
+ghost use Rattle.sml_lexer.specs.Fronts.{front};
 ghost use Rattle.sml_lexer.specs.Lexing as spec;
+ghost use Rattle.sml_lexer.specs.Lexing.{TakesFront};
 
 use crate::front::{Front, at_front};
 use crate::lexeme::Lexeme;
@@ -41,6 +43,8 @@ fn take_front(
     text: &[u8],
 ) -> Result<usize, Fault>
     requires { 1 ≤ length text.now }
+    ensures front { TakesFront result lexemes.old lexemes.new file.now at (front text.now) }
+    ensures within { IfOk result (λ len. (1 ≤ len) × (len ≤ length text.now)) }
 {
     match at_front(alloc, text)? {
         Front::Gap(len) => Ok(len),

@@ -120,10 +120,48 @@ fn gaps_alone_have_no_lexemes(rt: HostRuntime) -> Result<(), Fail> {
 #[test]
 fn each_reserved_word_is_one(rt: HostRuntime) -> Result<(), Fail> {
     for word in [
-        b"abstype".as_slice(), b"and", b"andalso", b"as", b"case", b"datatype", b"do", b"else", b"end", b"eqtype",
-        b"exception", b"fn", b"fun", b"functor", b"funsig", b"handle", b"if", b"in", b"include", b"infix", b"infixr",
-        b"let", b"local", b"nonfix", b"of", b"op", b"open", b"orelse", b"raise", b"rec", b"sharing", b"sig",
-        b"signature", b"struct", b"structure", b"then", b"type", b"val", b"where", b"while", b"with", b"withtype",
+        b"abstype".as_slice(),
+        b"and",
+        b"andalso",
+        b"as",
+        b"case",
+        b"datatype",
+        b"do",
+        b"else",
+        b"end",
+        b"eqtype",
+        b"exception",
+        b"fn",
+        b"fun",
+        b"functor",
+        b"funsig",
+        b"handle",
+        b"if",
+        b"in",
+        b"include",
+        b"infix",
+        b"infixr",
+        b"let",
+        b"local",
+        b"nonfix",
+        b"of",
+        b"op",
+        b"open",
+        b"orelse",
+        b"raise",
+        b"rec",
+        b"sharing",
+        b"sig",
+        b"signature",
+        b"struct",
+        b"structure",
+        b"then",
+        b"type",
+        b"val",
+        b"where",
+        b"while",
+        b"with",
+        b"withtype",
     ] {
         let mut wanted = Vec::from_slice(rt.alloc(), b"r:")?;
         wanted.extend_from_slice(word)?;
@@ -134,14 +172,22 @@ fn each_reserved_word_is_one(rt: HostRuntime) -> Result<(), Fail> {
 
 #[test]
 fn a_word_that_goes_on_is_a_name(rt: HostRuntime) -> Result<(), Fail> {
-    is_lexed(&rt, rt.alloc(), b"ends end' end_ end1 En", b"n:ends n:end' n:end_ n:end1 n:En")?;
+    is_lexed(
+        &rt,
+        rt.alloc(),
+        b"ends end' end_ end1 En",
+        b"n:ends n:end' n:end_ n:end1 n:En",
+    )?;
     is_lexed(&rt, rt.alloc(), b"_x a_'", b"r:_ n:x n:a_'")
 }
 
 #[test]
 fn marks_are_as_long_as_they_can_be(rt: HostRuntime) -> Result<(), Fail> {
     for (source, wanted) in [
-        (b"()[]{},;_".as_slice(), b"r:( r:) r:[ r:] r:{ r:} r:, r:; r:_".as_slice()),
+        (
+            b"()[]{},;_".as_slice(),
+            b"r:( r:) r:[ r:] r:{ r:} r:, r:; r:_".as_slice(),
+        ),
         (b":> : > :>:", b"r::> r:: n:> n::>:"),
         (b"=> =>= = ==", b"r:=> n:=>= r:= n:=="),
         (b"-> ->> | || # ##", b"r:-> n:->> r:| n:|| r:# n:##"),
@@ -202,13 +248,25 @@ fn a_dot_that_joins_nothing_is_refused(rt: HostRuntime) -> Result<(), Fail> {
 #[test]
 fn integers_have_their_values(rt: HostRuntime) -> Result<(), Fail> {
     for (source, wanted) in [
-        (b"0 1 10 007 9".as_slice(), b"i:0 l:1 l:10 i:7 l:9".as_slice()),
+        (
+            b"0 1 10 007 9".as_slice(),
+            b"i:0 l:1 l:10 i:7 l:9".as_slice(),
+        ),
         (b"~1 ~0 ~007", b"i:-1 i:0 i:-7"),
         (b"0x1F 0xff ~0x10 0x0", b"i:31 i:255 i:-16 i:0"),
-        (b"9223372036854775807 ~9223372036854775808", b"l:9223372036854775807 i:-9223372036854775808"),
-        (b"0x7fffffffffffffff ~0x8000000000000000", b"i:9223372036854775807 i:-9223372036854775808"),
+        (
+            b"9223372036854775807 ~9223372036854775808",
+            b"l:9223372036854775807 i:-9223372036854775808",
+        ),
+        (
+            b"0x7fffffffffffffff ~0x8000000000000000",
+            b"i:9223372036854775807 i:-9223372036854775808",
+        ),
         (b"00000000000000000000000000000001", b"i:1"),
-        (b"1x 0xg 0w ~0w1 1e 1e~ 1E 0wx", b"l:1 n:x i:0 n:xg i:0 n:w i:0 n:w1 l:1 n:e l:1 n:e n:~ l:1 n:E i:0 n:wx"),
+        (
+            b"1x 0xg 0w ~0w1 1e 1e~ 1E 0wx",
+            b"l:1 n:x i:0 n:xg i:0 n:w i:0 n:w1 l:1 n:e l:1 n:e n:~ l:1 n:E i:0 n:wx",
+        ),
         (b"~~1 -~1 ~x ~ 1", b"n:~~ l:1 n:-~ l:1 n:~ n:x n:~ l:1"),
         (b"1-1 1~1 x~1", b"l:1 n:- l:1 l:1 i:-1 n:x i:-1"),
         (b"0xFg", b"i:15 n:g"),
@@ -257,13 +315,19 @@ fn strings_stand_for_bytes(rt: HostRuntime) -> Result<(), Fail> {
     for (source, wanted) in [
         (b"\"\"".as_slice(), b"s:".as_slice()),
         (b"\"ab c~ !\"", b"s:ab c~ !"),
-        (b"\"\\a\\b\\t\\n\\v\\f\\r\\\\\\\"\"", b"s:\x07\x08\x09\x0a\x0b\x0c\x0d\\\""),
+        (
+            b"\"\\a\\b\\t\\n\\v\\f\\r\\\\\\\"\"",
+            b"s:\x07\x08\x09\x0a\x0b\x0c\x0d\\\"",
+        ),
         (b"\"\\^@\\^A\\^_\\^[\"", b"s:\x00\x01\x1f\x1b"),
         (b"\"\\000\\065\\255\\0101\"", b"s:\x00A\xff\x0a1"),
         (b"\"a\\ \n\t\x0c\r\\b\"", b"s:ab"),
         (b"\"\xc3\xa9\x80\xff\"", b"s:\xc3\xa9\x80\xff"),
         (b"\"(*\" \"*)\"", b"s:(* s:*)"),
-        (b"#\"a\" #\"\\n\" #\"\\ \\x\" #\"\xff\"", b"c:a c:\x0a c:x c:\xff"),
+        (
+            b"#\"a\" #\"\\n\" #\"\\ \\x\" #\"\xff\"",
+            b"c:a c:\x0a c:x c:\xff",
+        ),
         (b"#\"\" #\"ab\" # \"a\"", b"r:# s: r:# s:ab r:# s:a"),
         (b"##\"a\"", b"n:## s:a"),
     ] {
@@ -325,7 +389,11 @@ fn the_first_refusal_is_told(rt: HostRuntime) -> Result<(), Fail> {
 
 #[test]
 fn places_count_lines_and_bytes(rt: HostRuntime) -> Result<(), Fail> {
-    let found = lexemes(&rt, rt.alloc(), b"a\t b\n\n(*\xc3\xa9*)c \"\\\n \\x\" d\r e\n'f")?;
+    let found = lexemes(
+        &rt,
+        rt.alloc(),
+        b"a\t b\n\n(*\xc3\xa9*)c \"\\\n \\x\" d\r e\n'f",
+    )?;
     assert_eq!(&rt; found.len(), 7);
     has_place(&rt, &found, 0, 1, 1);
     has_place(&rt, &found, 1, 1, 4);

@@ -1,5 +1,5 @@
-use Rattle.std.proofs.Common.{◌≡◌, ◌<◌, ◌≤◌, ◌-◌, ◌∷◌, ◌++◌, [], drop, length, take, arith}
-use Rattle.sml_lexer.specs.Names.{parts_after, identifier_len, qualifier_len}
+use Rattle.std.proofs.Common.{◌≡◌, ◌<◌, ◌-◌, ◌∷◌, ◌++◌, [], drop, take, arith}
+use Rattle.sml_lexer.specs.Names.{parts_after}
 use Rattle.sml_lexer.proofs.NamesLemmas.{parts-step, taken-step, identifier-step}
 use Rattle.sml_lexer.proofs.name.name_parts.Goals as goal
 
