@@ -4,3 +4,5 @@ pub mod GapsLemmas
 pub mod NamesLemmas
 pub mod QuotedLemmas
 pub mod LexingLemmas
+pub mod FrontsLemmas
+pub mod CuttingsLemmas

@@ -5,3 +5,4 @@ pub mod Quoted
 pub mod Gaps
 pub mod Fronts
 pub mod Lexing
+pub mod Cuttings

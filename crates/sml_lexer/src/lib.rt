@@ -5,6 +5,7 @@
 mod bytes;
 mod front;
 mod gap;
+pub mod laws;
 mod lexeme;
 mod lexing;
 mod name;
