@@ -47,9 +47,9 @@ one_way text (p ∷ ps) (q ∷ qs) (rest, split, some, here, more) (rest', split
     let len : length p.bytes ≡ length q.bytes = same_len p.kind q.kind _ _ fronts in
     let kind : p.kind ≡ q.kind = same_kind p.kind q.kind _ _ fronts in
     let bytes : p.bytes ≡ q.bytes =
-        bytes_of p.bytes rest text split ∙ ap (λ (n : ℕ). take n text) len ∙ sym (bytes_of q.bytes rest' text split') in
+    bytes_of p.bytes rest text split ∙ ap (λ (n : ℕ). take n text) len ∙ sym (bytes_of q.bytes rest' text split') in
     let rests : rest ≡ rest' =
-        rest_is p.bytes rest text split ∙ ap (λ (n : ℕ). drop n text) len ∙ sym (rest_is q.bytes rest' text split') in
+    rest_is p.bytes rest text split ∙ ap (λ (n : ℕ). drop n text) len ∙ sym (rest_is q.bytes rest' text split') in
     let first : p ≡ q = ap₂ (λ (bs : List ℕ) (k : Option LexemeKind). record { bytes = bs; kind = k }) bytes kind in
     let others : ps ≡ qs = one_way rest ps qs more (subst (IsCutting qs) (sym rests) more') in
     ap₂ (λ (x : Piece) (xs : List Piece). x ∷ xs) first others
@@ -73,10 +73,10 @@ lexed_from file at text (p ∷ ps) (rest, split, some, here, more) =
     let whole : length text ≡ n + length rest = ap length split ∙ length-append p.bytes rest in
     let next : n - 1 + 1 ≡ n = omega arith in
     let after : rest_of file at text (n - 1 + 1) ≡ Ok (placed (fold after_byte at p.bytes) ps) =
-        ap (rest_of file at text) next
-        ∙ ap₂ (λ (bs cs : List ℕ). lexemes_after file 0 (fold after_byte at bs) cs)
-        (sym (bytes_of p.bytes rest text split)) (sym (rest_is p.bytes rest text split))
-        ∙ lexed_from file (fold after_byte at p.bytes) rest ps more in
+    ap (rest_of file at text) next
+    ∙ ap₂ (λ (bs cs : List ℕ). lexemes_after file 0 (fold after_byte at bs) cs)
+    (sym (bytes_of p.bytes rest text split)) (sym (rest_is p.bytes rest text split))
+    ∙ lexed_from file (fold after_byte at p.bytes) rest ps more in
     lexemes-front file at text (omega arith)
     ∙ ap (λ (f : Front). front_and_rest file at f (λ passed. rest_of file at text (passed + 1))) here
     ∙ with_piece p.kind file at n (λ passed. rest_of file at text (passed + 1)) (placed (fold after_byte at p.bytes) ps) after

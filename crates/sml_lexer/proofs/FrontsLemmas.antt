@@ -37,9 +37,9 @@ comment_rest-within depth (a ∷ (b ∷ bs)) =
     elim (cases_Bool (opens a b)) [
       | inl e ↦ rw e (further-within 2 (comment_rest (suc depth) bs) (length bs) all (comment_rest-within (suc depth) bs) (omega arith))
       | inr e ↦ elim (cases_Bool (closes a b)) [
-          | inl f ↦ rw (e, f) (closed-within depth (λ outer. comment_rest outer bs) (length bs) all (λ d. comment_rest-within d bs) (omega arith))
-          | inr f ↦ rw (e, f) (further-within 1 (comment_rest depth (b ∷ bs)) (length (b ∷ bs)) all (comment_rest-within depth (b ∷ bs)) (omega arith))
-        ]
+        | inl f ↦ rw (e, f) (closed-within depth (λ outer. comment_rest outer bs) (length bs) all (λ d. comment_rest-within d bs) (omega arith))
+        | inr f ↦ rw (e, f) (further-within 1 (comment_rest depth (b ∷ bs)) (length (b ∷ bs)) all (comment_rest-within depth (b ∷ bs)) (omega arith))
+      ]
     ]
 
 gap-within : (s : Option ℕ) (m all : ℕ) → IfSome s (λ k. k ≤ m) → 2 + m ≤ all → TakesWithin (comment_gap s) all
@@ -170,7 +170,7 @@ qualifier_len-within text h =
           let parts : dotted ≡ true = (and_parts (is_letter (first text)) dotted e).1 in
           let some : nat_lt 0 n ≡ true = (and_parts (nat_lt 0 n) joined parts).0 in
           let dot : (get_or text n 0 == 46) ≡ true =
-              (and_parts (get_or text n 0 == 46) (nat_lt 0 (identifier_len (drop (n + 1) text))) (and_parts (nat_lt 0 n) joined parts).1).0 in
+          (and_parts (get_or text n 0 == 46) (nat_lt 0 (identifier_len (drop (n + 1) text))) (and_parts (nat_lt 0 n) joined parts).1).0 in
           let inside : n < length text = within_class (λ c. c == 46) text n refl dot in
           let one : 0 < n = ltb-true 0 n some in
           rw e (omega arith, omega arith)
@@ -193,7 +193,7 @@ parts_alone : (b : ℕ) (bs : List ℕ) → nat_lt 0 (qualifier_len (b ∷ bs)) 
 parts_alone b bs e =
     let step : parts_after 0 (b ∷ bs) ≡ take (identifier_len (b ∷ bs)) (b ∷ bs) ∷ [] = rw e refl in
     let last : length (take (identifier_len (b ∷ bs)) (b ∷ bs)) ≡ identifier_len (b ∷ bs) =
-        length-take-le (identifier_len (b ∷ bs)) (b ∷ bs) (identifier_len-within (b ∷ bs)) in
+    length-take-le (identifier_len (b ∷ bs)) (b ∷ bs) (identifier_len-within (b ∷ bs)) in
     ap dotted_len step ∙ omega arith
 
 parts-within : (passed : ℕ) (text : List ℕ) → passed ≤ length text → passed + dotted_len (parts_after passed text) ≤ length text + 1
@@ -273,9 +273,9 @@ mark_len-within text some =
     elim (cases_Bool (is_single_mark (first text))) [
       | inl e ↦ rw e some
       | inr e ↦ elim (cases_Bool (first text == 46 && (get_or text 1 0 == 46 && get_or text 2 0 == 46))) [
-          | inl f ↦ rw (e, f) (three_dots text f)
-          | inr f ↦ rw (e, f) (omega arith)
-        ]
+        | inl f ↦ rw (e, f) (three_dots text f)
+        | inr f ↦ rw (e, f) (omega arith)
+      ]
     ]
 
 mark-within : (text : List ℕ) → 1 ≤ length text → TakesWithin (mark_front text) (length text)
@@ -296,12 +296,12 @@ others-within text some =
     elim (cases_Bool (begins_character text)) [
       | inl a ↦ rw a (character-within text a)
       | inr a ↦ elim (cases_Bool (first text == 39)) [
-          | inl b ↦ let prime : first text ≡ 39 = grind (arith, nat_tests) in rw (a, b) (type_variable-within text prime)
-          | inr b ↦ elim (cases_Bool (nat_lt 0 (word_len text))) [
-              | inl c ↦ rw (a, b, c) (word-within text (ltb-true 0 (word_len text) c))
-              | inr c ↦ rw (a, b, c) (mark-within text some)
-            ]
+        | inl b ↦ let prime : first text ≡ 39 = grind (arith, nat_tests) in rw (a, b) (type_variable-within text prime)
+        | inr b ↦ elim (cases_Bool (nat_lt 0 (word_len text))) [
+          | inl c ↦ rw (a, b, c) (word-within text (ltb-true 0 (word_len text) c))
+          | inr c ↦ rw (a, b, c) (mark-within text some)
         ]
+      ]
     ]
 
 pub front-within : (text : List ℕ) → 1 ≤ length text → TakesWithin (front text) (length text)
@@ -310,13 +310,13 @@ front-within text some =
     elim (cases_Bool (is_blank (first text))) [
       | inl a ↦ rw a (blank_begins text a, prefix_len-le-length is_blank text)
       | inr a ↦ elim (cases_Bool (begins_comment text)) [
-          | inl b ↦ rw (a, b) (comment-within text b)
-          | inr b ↦ elim (cases_Bool (begins_number text)) [
-              | inl c ↦ rw (a, b, c) (number-within text c)
-              | inr c ↦ elim (cases_Bool (first text == 34)) [
-                  | inl d ↦ rw (a, b, c, d) (string-within text some)
-                  | inr d ↦ rw (a, b, c, d) (others-within text some)
-                ]
-            ]
+        | inl b ↦ rw (a, b) (comment-within text b)
+        | inr b ↦ elim (cases_Bool (begins_number text)) [
+          | inl c ↦ rw (a, b, c) (number-within text c)
+          | inr c ↦ elim (cases_Bool (first text == 34)) [
+            | inl d ↦ rw (a, b, c, d) (string-within text some)
+            | inr d ↦ rw (a, b, c, d) (others-within text some)
+          ]
         ]
+      ]
     ]

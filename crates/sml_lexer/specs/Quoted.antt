@@ -96,7 +96,7 @@ string_lexeme (Some s) = Lexeme (kind.Str s.0) s.1
 unfoldable pub string_front : List ℕ → Front
 string_front text = string_lexeme (quoted text)
 
--- a character is `#` and a string of one byte
+-- a character: the mark `#`, and right after it a string that stands for one byte
 abbrev pub one_byte : List ℕ → Option ℕ
 one_byte (b ∷ []) = Some b
 one_byte _ = None
@@ -109,6 +109,7 @@ abbrev pub character_or : Option (List ℕ × ℕ) → Front → Front
 character_or None other = other
 character_or (Some s) other = character_lexeme (one_byte s.0) (s.1 + 1) other
 
+-- a character: the mark `#`, and right after it a string that stands for one byte
 abbrev pub begins_character : List ℕ → Bool
 begins_character text = first text == 35 && slice_index text 1 == 34
 

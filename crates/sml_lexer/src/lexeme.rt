@@ -11,7 +11,7 @@ pub enum LexemeKind {
     Name(List<Text>),
     /// A type variable, with its primes.
     TyVar(Text),
-    /// An integer constant. It is a label where it is written in decimal digits that don't begin with `0`.
+    /// An integer constant. It may be a record's label where it has no sign and is decimal with no leading `0`.
     Int { value: i64, label: bool },
     /// A string constant: the bytes that it stands for.
     Str(Text),
