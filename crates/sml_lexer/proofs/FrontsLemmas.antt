@@ -151,7 +151,7 @@ word_len-within text =
       | inr e ↦ rw e (prefix_len-le-length is_symbol_byte text)
     ]
 
-identifier_len-within : (text : List ℕ) → identifier_len text ≤ length text
+pub identifier_len-within : (text : List ℕ) → identifier_len text ≤ length text
 identifier_len-within text =
     elim (cases_Bool (is_reserved (take (word_len text) text))) [
       | inl e ↦ rw e (omega arith)
@@ -159,7 +159,7 @@ identifier_len-within text =
     ]
 
 -- a structure name and its dot lie inside the text, and the name has at least one byte
-qualifier_len-within : (text : List ℕ) → 0 < qualifier_len text → (2 ≤ qualifier_len text) × (qualifier_len text ≤ length text)
+pub qualifier_len-within : (text : List ℕ) → 0 < qualifier_len text → (2 ≤ qualifier_len text) × (qualifier_len text ≤ length text)
 unfolding qualifier_len
 qualifier_len-within text h =
     let n = identifier_len text in
@@ -248,15 +248,21 @@ type_variable-within text h =
     let len : length (take n text) ≡ n = length-take-le n text within in
     elim (cases_Bool (is_short (take n text))) [ inl e ↦ rw e (omega arith, omega arith) | inr e ↦ rw e tt ]
 
-character-within : (text : List ℕ) → begins_character text ≡ true → TakesWithin (character_front text) (length text)
-unfolding character_front
-character-within text h =
-    let (hash, quote) = and_parts (first text == 35) (get_or text 1 0 == 34) h in
-    let two : 1 < length text = within_class (λ c. c == 34) text 1 refl quote in
+-- the mark of a character is a word by itself
+pub character_has_word : (text : List ℕ) → begins_character text ≡ true → 0 < word_len text
+character_has_word text h =
+    let hash : (first text == 35) ≡ true = (and_parts (first text == 35) (get_or text 1 0 == 34) h).0 in
     let byte : first text ≡ 35 = grind (arith, nat_tests) in
     let letter : is_letter (first text) ≡ false = ap is_letter byte in
     let symbol : is_symbol_byte (first text) ≡ true = ap is_symbol_byte byte in
-    let some : 0 < word_len text = rw letter (run_begins is_symbol_byte text refl symbol) in
+    rw letter (run_begins is_symbol_byte text refl symbol)
+
+character-within : (text : List ℕ) → begins_character text ≡ true → TakesWithin (character_front text) (length text)
+unfolding character_front
+character-within text h =
+    let quote : (get_or text 1 0 == 34) ≡ true = (and_parts (first text == 35) (get_or text 1 0 == 34) h).1 in
+    let two : 1 < length text = within_class (λ c. c == 34) text 1 refl quote in
+    let some : 0 < word_len text = character_has_word text h in
     let len : length (drop 1 text) ≡ length text - 1 = length-drop 1 text in
     character_or-within (quoted (drop 1 text)) (length (drop 1 text)) (length text) (word_front text)
     (quoted-within (drop 1 text) (omega arith)) (omega arith) (word-within text some)

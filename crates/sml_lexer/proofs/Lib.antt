@@ -6,3 +6,4 @@ pub mod QuotedLemmas
 pub mod LexingLemmas
 pub mod FrontsLemmas
 pub mod CuttingsLemmas
+pub mod SpelledLemmas

@@ -24,7 +24,7 @@ parts-qualifier (b ∷ bs) h within =
     rw (lt-ltb _ _ h) (ap (λ (rest : List (List ℕ)). take (n - 1) (b ∷ bs) ∷ rest) (parts_after-drop (n - 1) bs
     ∙ ap (λ (k : ℕ). parts_after 0 (drop k (b ∷ bs))) more))
 
-no_identifier : identifier_len [] ≡ 0
+pub no_identifier : identifier_len [] ≡ 0
 no_identifier = elim (cases_Bool (is_reserved [])) [ inl e ↦ rw e refl | inr e ↦ rw e refl ]
 
 -- the last part

@@ -1,9 +1,10 @@
 -- A text cut into its lexemes and the gaps between them. The laws: a text has at most one such cutting, its pieces give
 -- back the text, and where it has one, its lexemes are those of the text, each at the place that its piece begins at.
-use Rattle.std.specs.Prelude.{◌≡◌, ◌≤◌, ℕ, List, [], ◌∷◌, ◌++◌, length, Option, Some, None, Result, Ok}
-use Rattle.std.specs.List.{fold, flat_map}
+use Rattle.std.specs.Prelude.{◌≡◌, ◌≤◌, ⊤, ℕ, List, [], ◌∷◌, ◌++◌, length, Option, Some, None, Result, Ok, All}
+use Rattle.std.specs.List.{fold, flat_map, join_with_byte}
 use Rattle.sml_lexer.specs.declared.lexeme.Lexeme.{Lexeme}
 use Rattle.sml_lexer.specs.declared.lexeme.LexemeKind.{LexemeKind}
+use Rattle.sml_lexer.specs.declared.lexeme.LexemeKind.TheVariants as kind
 use Rattle.sml_lexer.specs.declared.place.Point.{Point}
 use Rattle.sml_lexer.specs.declared.front.Front.{Front}
 use Rattle.sml_lexer.specs.declared.front.Front.TheVariants as at_front
@@ -35,6 +36,20 @@ placed_piece (Some kind) at lexemes = record { kind = kind; line = at.line; col 
 abbrev pub placed : Point → List Piece → List Lexeme
 placed at [] = []
 placed at (p ∷ ps) = placed_piece p.kind at (placed (fold after_byte at p.bytes) ps)
+
+-- the bytes of a word are its own, and those of a long identifier its parts with a dot between each two
+abbrev pub IsSpelledBy : LexemeKind → List ℕ → Type 0
+IsSpelledBy (kind.Reserved word) bytes = bytes ≡ word
+IsSpelledBy (kind.Name parts) bytes = bytes ≡ join_with_byte 46 parts
+IsSpelledBy (kind.TyVar word) bytes = bytes ≡ word
+IsSpelledBy _ bytes = ⊤
+
+abbrev pub PieceSpells : Option LexemeKind → List ℕ → Type 0
+PieceSpells None bytes = ⊤
+PieceSpells (Some k) bytes = IsSpelledBy k bytes
+
+abbrev pub PiecesSpell : Type 0
+PiecesSpell = (text : List ℕ) (ps : List Piece) → IsCutting ps text → All (λ p. PieceSpells p.kind p.bytes) ps
 
 abbrev pub IsCutInOneWay : Type 0
 IsCutInOneWay = (text : List ℕ) (ps qs : List Piece) → IsCutting ps text → IsCutting qs text → ps ≡ qs

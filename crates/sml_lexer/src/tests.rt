@@ -91,7 +91,8 @@ fn is_refused(
             assert_eq!(rt; diag.at.col, col);
             assert_eq!(rt; diag.names.len(), 0);
         }
-        _ => assert!(rt; false, "not refused"),
+        Err(Fault::NoMemory) => assert!(rt; false, "out of memory"),
+        Ok(_lexemes) => assert!(rt; false, "not refused"),
     }
     Ok(())
 }
