@@ -55,11 +55,11 @@ fn identifiers_have_at_most_255_bytes(rt: HostRuntime) -> Result<(), Fail> {
         let long = repeated(alloc, head, piece, 256)?;
         is_refused(&rt, alloc, long.as_slice(), 12, 0, 0)?;
     }
-    let mut late = repeated(alloc, b"\x01 ", b"a", 256)?;
-    is_refused(&rt, alloc, late.as_slice(), 20, 1, 1)?;
-    late[0] = b' ';
-    late.extend_from_slice(b".end")?;
-    is_refused(&rt, alloc, late.as_slice(), 12, 0, 0)
+    let after_another = repeated(alloc, b"\x01 ", b"a", 256)?;
+    is_refused(&rt, alloc, after_another.as_slice(), 20, 1, 1)?;
+    let mut before_another = repeated(alloc, b"", b"a", 256)?;
+    before_another.extend_from_slice(b".end")?;
+    is_refused(&rt, alloc, before_another.as_slice(), 12, 0, 0)
 }
 
 #[test]
