@@ -6,3 +6,6 @@ mod project;
 
 pub use first_form::{is_name_byte, read_first};
 pub use project::{Project, Unit};
+
+#[cfg(test)]
+mod tests;

@@ -4,3 +4,6 @@
 mod asking;
 
 pub use asking::ask_skeletons;
+
+#[cfg(test)]
+mod tests;
