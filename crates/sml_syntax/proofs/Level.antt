@@ -1,14 +1,13 @@
 -- What one level of a tree is spelled as: the tag and its parts, with the spellings of the children.
 use Rattle.std.proofs.Common.{◌≡◌, ℕ, List, [], ◌∷◌, ◌++◌, refl, suc, sym, ap, ap₂, ◌∙◌, append_assoc, map, length}
 use Rattle.std.specs.List.{flat_map}
-use Rattle.cm_base.specs.formers.list.List
-use Rattle.cm_bytes.specs.Fields.{u32_of, text_of, list_of}
-use Rattle.sml_syntax.specs.Code.{parts, name_of, long_of, ty_of, ty_field_of, ty_level, ty_field_level, pat_of, pat_field_of, pat_level, pat_field_level, sig_of, spec_of, sig_bind_of, sig_level, spec_level, sig_bind_level, exp_of, exp_field_of, rule_of, dec_of, str_bind_of, exp_level, exp_field_level, rule_level, dec_level, str_level, str_bind_level}
+use Rattle.cm_bytes.specs.Fields.{u32_of, list_of}
+use Rattle.sml_syntax.specs.Code.{parts, name_of, long_of, ty_of, ty_field_of, ty_level, ty_field_level, pat_of, pat_field_of, pat_level, pat_field_level, spec_of, sig_bind_of, sig_level, spec_level, sig_bind_level, exp_of, exp_field_of, rule_of, dec_of, str_bind_of, exp_level, exp_field_level, rule_level, dec_level, str_level, str_bind_level}
 use Rattle.sml_syntax.specs.declared.name.At.{At}
 use Rattle.sml_syntax.specs.declared.name.LongName.{LongName}
 use Rattle.sml_syntax.specs.declared.ty.Ty.{Ty}
-use Rattle.sml_syntax.specs.declared.ty.Ty.TheOpen.{Ty-F, TyField-F}
-use Rattle.sml_syntax.specs.declared.ty.Ty.TheFolds.{fold-roll-Ty, fold-roll-TyField}
+use Rattle.sml_syntax.specs.declared.ty.Ty.TheOpen.{Ty-F}
+use Rattle.sml_syntax.specs.declared.ty.Ty.TheFolds.{fold-roll-Ty}
 use Rattle.sml_syntax.specs.declared.ty.Ty.TheVariants as ty
 use Rattle.sml_syntax.specs.declared.ty.TyField.{TyField}
 use Rattle.sml_syntax.specs.declared.name.Name.{Name}
