@@ -74,11 +74,15 @@ fn main(rt: HostRuntime) -> ExitCode {
 }
 
 #[cfg(test)]
+mod called;
+#[cfg(test)]
 mod failing;
 #[cfg(test)]
 mod refusals;
 #[cfg(test)]
 mod rows;
+#[cfg(test)]
+mod sizes;
 #[cfg(test)]
 mod ten;
 #[cfg(test)]

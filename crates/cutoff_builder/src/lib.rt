@@ -13,3 +13,8 @@ mod unit;
 pub use builder::{BuildFault, build};
 pub use limits::{ALL_INTERFACES, CODE, INTERFACE};
 pub use planned::{PlannedUnit, WantedName};
+
+#[cfg(test)]
+mod copier;
+#[cfg(test)]
+mod tests;
