@@ -111,8 +111,8 @@ fn without_feed(text: &[u8]) -> &[u8]
     }
 }
 
-/// The anchors that a pathconfig binds, or the diagnostic of its first bad line: 2, 16, 17 or 18.
-pub fn read_pathconfig(alloc: Global, text: &Text) -> Result<Anchors, Fault>
+/// The anchors that the lines bind, the first of which is line 1.
+fn read_lines(alloc: Global, text: &Text) -> Result<Anchors, Fault>
     requires { length text.now < 2 ^ 32 }
     ensures { Gives result (bindings_of text.now) }
 {
@@ -126,4 +126,15 @@ pub fn read_pathconfig(alloc: Global, text: &Text) -> Result<Anchors, Fault>
         number += 1;
     }
     Ok(anchors)
+}
+
+/// The anchors that a pathconfig binds, or the diagnostic of its first bad line: 2, 16, 17 or 18. A text of 2^32 bytes
+/// or more, whose places have no numbers, counts as want of memory.
+pub fn read_pathconfig(alloc: Global, text: &Text) -> Result<Anchors, Fault>
+    ensures { Gives result (bindings_of text.now) }
+{
+    if text.as_bytes().len() >= 1 << 32 {
+        return Err(Fault::NoMemory);
+    }
+    read_lines(alloc, text)
 }

@@ -1,6 +1,6 @@
 use Rattle.std.proofs.Common.{◌≡◌, ◌+◌, ◌≤◌, length}
 use Rattle.path_anchors.specs.Pathconfig.{after_lines, bindings_of, lines_of}
-use Rattle.path_anchors.proofs.pathconfig.read_pathconfig.Given as goal
+use Rattle.path_anchors.proofs.pathconfig.read_lines.Given as goal
 
 -- the lines that are left, after the bindings so far, give what all lines give; a line is counted for its line feed
 abbrev pub invariant-loop-rest : goal.invariant-loop-rest

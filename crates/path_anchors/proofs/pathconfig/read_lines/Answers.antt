@@ -4,7 +4,7 @@ use Rattle.std.proofs.lemmas.Bool.Decides.{nat_tests}
 use Rattle.path_anchors.specs.Pathconfig.{after_line, after_lines, lines_of}
 use Rattle.path_anchors.proofs.PartLemmas.{err_is}
 use Rattle.path_anchors.proofs.LineLemmas.{front_line, later_text, line_bound, line_refused}
-use Rattle.path_anchors.proofs.pathconfig.read_pathconfig.Goals as goal
+use Rattle.path_anchors.proofs.pathconfig.read_lines.Goals as goal
 
 pub add_line-requires : goal.add_line-requires
 add_line-requires c =
