@@ -1,16 +1,15 @@
 -- What stands at the front of a text takes at least one byte of it, and no more than there are.
-use Rattle.std.proofs.Common.{◌≡◌, ℕ, zero, suc, ◌+◌, ◌-◌, ◌<◌, ◌≤◌, Bool, true, false, ◌==◌, ◌&&◌, nat_lt, List, [], ◌∷◌, length, length-drop, get_or, get_or-drop, take, drop, Option, Some, None, IfSome, refl, sym, ap, ◌∙◌, arith, inl, inr, add-zero, if◌then◌else◌}
-use Rattle.std.proofs.lemmas.Bool.{and_parts, cases_Bool, cases_lt, lt-ltb, le-ltb, ltb-true}
+use Rattle.std.proofs.Common.{◌≡◌, ℕ, zero, suc, ◌+◌, ◌-◌, ◌<◌, ◌≤◌, Bool, true, false, ◌==◌, ◌&&◌, nat_lt, List, [], ◌∷◌, length, length-drop, get_or, get_or-drop, take, drop, Option, Some, None, IfSome, refl, ap, ◌∙◌, arith, inl, inr, add-zero, if◌then◌else◌}
+use Rattle.std.proofs.lemmas.Bool.{and_parts, cases_Bool, ltb-true}
 use Rattle.std.proofs.lemmas.Bool.Decides.{nat_tests}
 use Rattle.std.proofs.lemmas.List.{length-take-le}
 use Rattle.std.proofs.lemmas.List.Sums.{prefix_len-le-length, sum_by-cons}
 use Rattle.std.specs.List.{prefix_len, sum_by, list_all}
 use Rattle.std.specs.Str.Parse.{digits_value}
 use Rattle.sml_lexer.specs.declared.front.Front.{Front}
-use Rattle.sml_lexer.specs.declared.front.Front.TheVariants.{Gap, Lexeme, Refused}
 use Rattle.sml_lexer.specs.declared.quoted.Item.{Item}
 use Rattle.sml_lexer.specs.Classes.{first, is_letter, is_digit, is_hex_digit, is_blank, is_name_byte, is_symbol_byte}
-use Rattle.sml_lexer.specs.Names.{is_reserved, word_len, identifier_len, qualifier_len, parts_after, name_parts, joined_len, is_short, name_front, word_front, type_variable_front, is_single_mark, mark_len}
+use Rattle.sml_lexer.specs.Names.{is_reserved, word_len, identifier_len, qualifier_len, parts_after, name_parts, is_short, name_front, word_front, type_variable_front, is_single_mark, mark_len}
 use Rattle.sml_lexer.specs.Numbers.{sign_len, begins_number, begins_hex, in_range, integer, hex_front, decimal_front, is_left_out, unsigned_front, number_front}
 use Rattle.sml_lexer.specs.Quoted.{item, item_bytes, longer, item_and_rest, items_after, quoted, string_lexeme, string_front, one_byte, character_lexeme, character_or, begins_character, character_front}
 use Rattle.sml_lexer.specs.Gaps.{opens, closes, further, after_close, comment_rest, begins_comment, comment_gap, comment_front}

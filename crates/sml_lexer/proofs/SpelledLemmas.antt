@@ -1,5 +1,5 @@
 -- What a word's piece spells.
-use Rattle.std.proofs.Common.{◌≡◌, ◌≢◌, ℕ, zero, suc, ◌+◌, ◌-◌, ◌<◌, ◌≤◌, Bool, true, false, ◌==◌, ◌&&◌, nat_lt, if◌then◌else◌, List, [], ◌∷◌, ◌++◌, length, length-append, get_or, take, drop, take_at, Option, Some, None, refl, sym, ap, ◌∙◌, arith, inl, inr, append_assoc, subst}
+use Rattle.std.proofs.Common.{◌≡◌, ℕ, zero, suc, ◌+◌, ◌-◌, ◌<◌, ◌≤◌, Bool, true, ◌==◌, ◌&&◌, nat_lt, if◌then◌else◌, List, [], ◌∷◌, ◌++◌, length, length-append, get_or, take, drop, take_at, Option, Some, None, refl, sym, ap, ◌∙◌, arith, inl, inr, append_assoc, subst}
 use Rattle.std.specs.Prelude.{⊤}
 use Rattle.std.proofs.lemmas.Bool.{and_parts, cases_Bool, ltb-true}
 use Rattle.std.proofs.lemmas.Bool.Decides.{nat_tests}
@@ -18,7 +18,7 @@ use Rattle.sml_lexer.specs.Gaps.{comment_rest, begins_comment, comment_gap, comm
 use Rattle.sml_lexer.specs.Fronts.{mark_front, front}
 use Rattle.sml_lexer.specs.Cuttings.{IsSpelledBy, PieceSpells, PiecesSpell, front_of}
 use Rattle.sml_lexer.proofs.NamesLemmas.{parts_after-drop, identifier-after_qualifier, no_identifier}
-use Rattle.sml_lexer.proofs.FrontsLemmas.{identifier_len-within, qualifier_len-within, character_has_word}
+use Rattle.sml_lexer.proofs.FrontsLemmas.{qualifier_len-within, character_has_word}
 
 -- a lexeme at the front of a text spells what its bytes are
 abbrev pub SpelledAt : Front → List ℕ → Type 0

@@ -1,6 +1,6 @@
 -- A text cut into its lexemes and the gaps between them. The laws: a text has at most one such cutting, its pieces give
 -- back the text, and where it has one, its lexemes are those of the text, each at the place that its piece begins at.
-use Rattle.std.specs.Prelude.{◌≡◌, ◌≤◌, ⊤, ℕ, List, [], ◌∷◌, ◌++◌, length, Option, Some, None, Result, Ok, All}
+use Rattle.std.specs.Prelude.{◌≡◌, ◌≤◌, ⊤, ℕ, List, [], ◌∷◌, ◌++◌, length, Option, Some, None, Ok, All}
 use Rattle.std.specs.List.{fold, flat_map, join_with_byte}
 use Rattle.sml_lexer.specs.declared.lexeme.Lexeme.{Lexeme}
 use Rattle.sml_lexer.specs.declared.lexeme.LexemeKind.{LexemeKind}
