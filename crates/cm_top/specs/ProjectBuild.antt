@@ -1,5 +1,5 @@
--- The plain build of a project: it knows no store. It ends at the first diagnostic of the skeletons in load order,
--- then of the rule on names, then of the units in their order.
+-- The plain build of a project, which knows no store. Skeletons come before the rule on names, and that before the
+-- first unit is built; whatever is refused first ends it.
 use Rattle.std.specs.Prelude.{ℕ, List, [], Option, Some, None}
 use Rattle.cm_base.specs.Diags.{whole_file}
 use Rattle.cm_base.specs.declared.diag.Diag.{Diag}
