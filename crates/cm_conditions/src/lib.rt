@@ -19,4 +19,6 @@ pub use lexeme::{Lexeme, Mark, Operator, Strength};
 pub use read::read_condition;
 
 #[cfg(test)]
+mod read_tests;
+#[cfg(test)]
 mod tests;
