@@ -146,6 +146,17 @@ is_word t (x.Word word) = t word
 is_word t (x.Mark mark) = false
 is_word t x.Wrong = false
 
+-- the word of a lexeme, if it is one that passes
+abbrev pub if_passes : Bool → List ℕ → Option (List ℕ)
+if_passes true word = Some word
+if_passes false word = None
+
+abbrev pub word_of : (List ℕ → Bool) → Lexeme → Option (List ℕ)
+word_of t (x.Number n) = None
+word_of t (x.Word word) = if_passes (t word) word
+word_of t (x.Mark mark) = None
+word_of t x.Wrong = None
+
 -- whether an atom begins with the lexeme
 abbrev pub starts_atom : Lexeme → Bool
 starts_atom (x.Number n) = true
@@ -153,19 +164,25 @@ starts_atom (x.Word word) = is_defined word || is_name word
 starts_atom (x.Mark mark) = is_mark m.Open mark
 starts_atom x.Wrong = false
 
--- goes on with a lexeme's word
-abbrev pub with_word : (List ℕ → g) → Lexeme → g
-with_word k (x.Number n) = refuse
-with_word k (x.Word word) = k word
-with_word k (x.Mark mark) = refuse
-with_word k x.Wrong = refuse
+-- goes on with a word, if there is one
+abbrev pub with_word : (List ℕ → g) → Option (List ℕ) → g
+with_word k None = refuse
+with_word k (Some word) = k word
+
+-- a word that passes, and what stands behind it
+unfoldable pub word_then : (List ℕ → Bool) → (List ℕ → g) → g
+word_then t k = on (λ x. is_some (word_of t x)) (λ x. with_word k (word_of t x)) refuse
+
+-- a closing parenthesis, behind what this is
+unfoldable pub closed : Cond → g
+closed cond = do
+  expect (is_paren m.Close)
+  pure cond
 
 -- behind a name space: a module's name and the closing parenthesis
 unfoldable pub module_of : Option Namespace → g
 module_of None = refuse
-module_of (Some space) =
-    on (is_word (λ _. true))
-    (with_word (λ name. do expect (is_paren m.Close); pure (c.Provided (record { space = space; name = name })))) refuse
+module_of (Some space) = word_then (λ _. true) (λ name. closed (c.Provided (record { space = space; name = name })))
 
 -- behind `defined`, its parenthesis and a word
 unfoldable pub defined_of : List ℕ → g
@@ -175,7 +192,13 @@ defined_of word = on (is_paren m.Close) (λ _. pure (c.Defined word)) (module_of
 unfoldable pub defined : g
 defined = do
   expect (is_paren m.Open)
-  on (is_word is_name) (with_word defined_of) refuse
+  word_then is_name defined_of
+
+-- behind an opening parenthesis, over what may stand there
+unfoldable pub in_parens : g → g
+in_parens below = do
+  inner ← below
+  closed (c.Parens inner)
 
 -- an atom of a word, which is `defined` or a name
 abbrev pub atom_of_word : Bool → List ℕ → g
@@ -186,10 +209,7 @@ atom_of_word false word = pure (c.Name word)
 abbrev pub atom_after : g → Lexeme → g
 atom_after below (x.Number n) = pure (c.Number n)
 atom_after below (x.Word word) = atom_of_word (is_defined word) word
-atom_after below (x.Mark mark) = do
-  inner ← below
-  expect (is_paren m.Close)
-  pure (c.Parens inner)
+atom_after below (x.Mark mark) = in_parens below
 atom_after below x.Wrong = refuse
 
 unfoldable pub atom : g → g
@@ -211,10 +231,15 @@ chain part strength = do
   first ← part
   rounds part strength first
 
+-- a comparison with another side behind it, or nothing more
+unfoldable pub compared : g → Cond → g
+compared sum left =
+    on (λ x. is_some (comparison_of x)) (λ x. do right ← sum; pure (joined_by (comparison_of x) left right)) (pure left)
+
 unfoldable pub comparison : g → g
 comparison sum = do
   left ← sum
-  on (λ x. is_some (comparison_of x)) (λ x. do right ← sum; pure (joined_by (comparison_of x) left right)) (pure left)
+  compared sum left
 
 -- what stands on each side of an operator of this strength
 abbrev pub part : g → Strength → g

@@ -1,3 +1,6 @@
 pub mod Arithmetic
 pub mod Values
 pub mod Grammar
+pub mod Seen
+pub mod Lexemes
+pub mod Answers

@@ -79,7 +79,7 @@ impl Cond {
 }
 
 /// The diagnostic 3 at a place.
-fn bad_condition(alloc: Global, at: &Place) -> Result<Diag, NoMemory>
+pub(crate) fn bad_condition(alloc: Global, at: &Place) -> Result<Diag, NoMemory>
     ensures { IfOk result (λ diag. diag ≡ bad_condition at.now) }
 {
     Ok(Diag {

@@ -3,14 +3,22 @@
 
 mod arithmetic;
 mod cond;
+mod cursor;
 mod evaluation;
 mod laws;
 mod lexeme;
+mod lexing;
+mod read;
+mod reader;
+mod words;
 
 pub use cond::Cond;
 pub use evaluation::value;
 pub use laws::{Conditions, conditions_are_lawful};
 pub use lexeme::{Lexeme, Mark, Operator, Strength};
+pub use read::read_condition;
 
+#[cfg(test)]
+mod read_tests;
 #[cfg(test)]
 mod tests;

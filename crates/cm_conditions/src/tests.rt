@@ -48,7 +48,11 @@ fn joined(alloc: Global, op: Op, left: Cond, right: Cond) -> Result<Cond, NoMemo
 
 /// The value of a condition where `BIG` is 7 and the structure `A` is there; `None` where it is refused with 3 at its
 /// place.
-fn value_in(rt: &impl Abort, alloc: Global, cond: &Cond) -> Result<Option<i64>, NoMemory> {
+pub(crate) fn value_in(
+    rt: &impl Abort,
+    alloc: Global,
+    cond: &Cond,
+) -> Result<Option<i64>, NoMemory> {
     let at = Place {
         file: Text::from_bytes(alloc, b"main.cm")?,
         line: 2,
