@@ -1,5 +1,5 @@
 -- How a condition's text is cut into lexemes, a step at a time.
-use Rattle.std.proofs.Common.{◌≡◌, ℕ, zero, suc, ◌+◌, ◌*◌, ◌-◌, ◌^◌, ◌<◌, ◌≤◌, List, [], ◌∷◌, ◌++◌, Option, Some, None, Bool, true, false, refl, ap, ap₂, sym, ◌∙◌, drop, length, length-drop, arith, if◌then◌else◌, append_assoc, append-nil, get_or, nat_lt, subst, to_z, w64, pos}
+use Rattle.std.proofs.Common.{◌≡◌, ℕ, zero, suc, ◌+◌, ◌*◌, ◌-◌, ◌^◌, ◌<◌, ◌≤◌, List, [], ◌∷◌, ◌++◌, Some, true, false, refl, ap, ap₂, sym, ◌∙◌, drop, length, length-drop, arith, if◌then◌else◌, append_assoc, append-nil, get_or, nat_lt, subst, to_z, w64, pos}
 use Rattle.std.proofs.lemmas.Bool.{lt-ltb, le-ltb}
 use Rattle.std.proofs.lemmas.Int.{to_z_pos}
 use Rattle.cm_conditions.specs.Lexemes.{is_space, number_from, number_lexeme, next_of, two_bytes, more_of, lexeme_at, lexemes_within, lexemes_of}

@@ -1,6 +1,6 @@
 -- How conditions are read, a step at a time.
 use Rattle.std.proofs.Common.{◌≡◌, ℕ, ◌+◌, ◌<◌, List, [], ◌∷◌, Option, Some, None, Bool, true, false, is_some, refl, ap, sym, ◌∙◌, drop, option_and_then, add-one, length, arith}
-use Rattle.grammars.specs.Grammar.{Grammar, End, begins, head_or, expect, ◌>>◌}
+use Rattle.grammars.specs.Grammar.{Grammar, End, begins, head_or}
 use Rattle.std.proofs.Common.{Result, Ok, Err, subst}
 use Rattle.std.specs.Result.{IsErrAnd}
 use Rattle.cm_base.specs.declared.record.Namespace.{Namespace}
@@ -8,10 +8,10 @@ use Rattle.cm_conditions.specs.Seen.{Stops, Reads}
 use Rattle.cm_conditions.specs.declared.reader.Stop.{Stop}
 use Rattle.cm_conditions.specs.declared.reader.Stop.TheVariants as stop
 use Rattle.grammars.specs.Reading.{Out, Reader, chain as then, read}
-use Rattle.grammars.proofs.Choices.{on_go, on_stop}
+use Rattle.grammars.proofs.Choices.{on_go}
 use Rattle.grammars.proofs.Complete.{goes, stops}
 use Rattle.grammars.proofs.Rounds.{many_go, chain_pure, not_longer}
-use Rattle.cm_conditions.specs.Grammar.{g, operator_of, comparison_of, joined, joined_by, part, rounds, compared, chain, factor, atom, atom_after, starts_atom, is_paren, is_word, is_not, is_name, word_of, with_word, word_then, closed, defined, defined_of, module_of, space_of, below, condition}
+use Rattle.cm_conditions.specs.Grammar.{g, operator_of, comparison_of, joined, joined_by, part, rounds, compared, factor, atom, atom_after, starts_atom, is_paren, is_word, is_not, is_name, word_of, with_word, word_then, closed, defined, defined_of, module_of, space_of, below, condition}
 use Rattle.cm_conditions.specs.declared.cond.Cond.{Cond}
 use Rattle.cm_conditions.specs.declared.cond.Cond.TheVariants as c
 use Rattle.cm_conditions.specs.declared.lexeme.Lexeme.{Lexeme}

@@ -37,11 +37,13 @@ module _ (m : Meaning) (text : List ℕ) (old new : Option (List ℕ)) (holds : 
   after_print status.Usage plain output stands is before files asked skeletons prints =
       whole status.Usage plain output stands is before files asked skeletons prints.0 prints.1
   after_print status.FolderFault plain output stands is before files asked skeletons prints = absurd prints
-  after_print status.SinkFault plain output stands is before files asked skeletons prints =
-      (prints.0, cut (take prints.0 m.output)
-      (prints.1 ∙ ap (told (λ written. written ++ take prints.0 output)) before
-      ∙ ap (λ o. Some (text ++ take prints.0 o)) is)
-      (grows_all a a' m.asked asked) (grows_all s s' m.asked_skeletons skeletons))
+  after_print status.SinkFault plain output stands is before files asked skeletons prints = (
+    prints.0,
+    cut (take prints.0 m.output)
+        (prints.1 ∙ ap (told (λ written. written ++ take prints.0 output)) before
+        ∙ ap (λ o. Some (text ++ take prints.0 o)) is)
+        (grows_all a a' m.asked asked) (grows_all s s' m.asked_skeletons skeletons),
+  )
   after_print status.NoMemory plain output stands is before files asked skeletons prints =
       cut [] (prints ∙ before ∙ ap Some (sym (append-nil text))) (grows_all a a' m.asked asked)
       (grows_all s s' m.asked_skeletons skeletons)

@@ -130,9 +130,11 @@ module _ (compiled : CompileInput → Result Compiled Diag) (texts : List (List 
   then_made p ps asked (Err diag) rest one more within = tt
   then_made p ps asked (Ok u) rest one more within =
       let here : Contains texts u.interface = within u.interface (0, omega arith, refl) in
-      let made = one u refl here in
-      (made, more u (here, its_hash compiled texts p u made)
-      (λ t h. within t (Contains-append_right (u.interface ∷ []) (interfaces_of (rest u).units) t h)))
+      let made = one u refl here in (
+        made,
+        more u (here, its_hash compiled texts p u made)
+            (λ t h. within t (Contains-append_right (u.interface ∷ []) (interfaces_of (rest u).units) t h)),
+      )
 
   pub after_made : (ps : List PlannedUnit) (before : List BuiltUnit) → AllByRecursion IsKnownUnit before
       → ((t : List ℕ) → Contains (interfaces_of (build_after compiled before ps).units) t → Contains texts t)
@@ -158,11 +160,13 @@ keeps_built compiled planned result old new = by_result result
   where
     made : AreMade compiled (interfaces_of (plain_build compiled planned).units) planned (plain_build compiled planned).units
     made = build_made compiled (interfaces_of (plain_build compiled planned).units) planned (λ t h. h)
+
     put : new ≡ told (λ files. put_units files planned (plain_build compiled planned).units) old
         → FitUnits planned (plain_build compiled planned).units → Keeps old new (paths_of (plain_build compiled planned).units)
     put is fits = subst (λ end. Keeps old end (paths_of (plain_build compiled planned).units)) (sym is)
         (keeps_put compiled (interfaces_of (plain_build compiled planned).units) old planned
         (plain_build compiled planned).units made fits)
+
     by_result : (r : Result Built BuildFault) → BuildStored r old new planned (plain_build compiled planned)
         → Keeps old new (paths_of (plain_build compiled planned).units)
     by_result (Ok built) stored = put stored.0 stored.1
@@ -218,6 +222,7 @@ plain_built by planned result old new stored skeletons = record {
         put ∙ ap (told (λ (f : Files). put_units f planned (plain_build by.compiled planned).units)) is
         ∙ ap Some (same_units by texts files planned (plain_build by.compiled planned).units apart skeletons made fits good)
         ∙ ap (told (λ (f : Files). with_units f planned (plain_build by.compiled planned).units)) (sym is)
+
     by_result : (r : Result Built BuildFault) (texts : List (List ℕ)) → HashesApart texts
         → AreMade by.compiled texts planned (plain_build by.compiled planned).units
         → (files : Files) → old ≡ Some files → IsGoodStore by texts files

@@ -55,13 +55,19 @@ unfolding put_unit
 stores_put old p u fits = record {
   between = told (λ files. with_interface files u.interface) old;
   interface = puts_interface old u.interface;
-  bin = inr (refl, record {
-    leaves = inr (fits, touches_written (told (λ files. with_interface files u.interface) old)
-        (told (λ files. insert (with_interface files u.interface) (bin_path p.unit) (binfile (bin_of_unit p u))) old)
-        (bin_path p.unit) (binfile (bin_of_unit p u))
-        (sym (told_told (λ files. insert files (bin_path p.unit) (binfile (bin_of_unit p u)))
-        (λ files. with_interface files u.interface) old)));
-  });
+  bin = inr (
+    refl,
+    record {
+      leaves = inr (
+        fits,
+        touches_written (told (λ files. with_interface files u.interface) old)
+            (told (λ files. insert (with_interface files u.interface) (bin_path p.unit) (binfile (bin_of_unit p u))) old)
+            (bin_path p.unit) (binfile (bin_of_unit p u))
+            (sym (told_told (λ files. insert files (bin_path p.unit) (binfile (bin_of_unit p u)))
+            (λ files. with_interface files u.interface) old)),
+      );
+    },
+  );
 }
 
 -- units are put one after the other
@@ -78,6 +84,7 @@ insert_same files path bytes there =
     by_path : (q : List ℕ) (b : Bool) → eq_by_cmp (slice_cmp nat_cmp) q path ≡ b → cond b (Some bytes) (get files q) ≡ get files q
     by_path q true is = sym there ∙ ap (get files) (sym (same_path q path is))
     by_path q false is = refl
+
     at : (q : List ℕ) → get (insert files path bytes) q ≡ get files q
     at q = get-insert nat_list_cmp_total files path bytes q ∙ by_path q (eq_by_cmp (slice_cmp nat_cmp) q path) refl
 

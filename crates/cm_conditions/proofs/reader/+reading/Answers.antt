@@ -1,4 +1,4 @@
-use Rattle.std.proofs.Common.{◌≡◌, ◌∙◌, Some, None, option_and_then, sym, ap, drop}
+use Rattle.std.proofs.Common.{◌≡◌, ◌∙◌, Some, None, option_and_then, sym, ap}
 use Rattle.grammars.specs.Grammar.{End, head_or}
 use Rattle.grammars.specs.Reading.{Out, chain as then, read}
 use Rattle.cm_conditions.specs.Grammar.{g, below, part, chain, rounds, compared, comparison_of, operator_of, joined}

@@ -6,8 +6,10 @@ use Rattle.cm_top.proofs.letters.needs.Given as goal
 abbrev pub invariant-loop-letter : goal.invariant-loop-letter
 invariant-loop-letter l =
     l.needs ++ map (λ letter. record {
-        spot = record { name = record { space = Structure; name = letter ∷ [] }; line = 1; col = 1 };
-        sure = true }) (drop l.letter-index l.letters)
+      spot = record { name = record { space = Structure; name = letter ∷ [] }; line = 1; col = 1 };
+      sure = true;
+    }) (drop l.letter-index l.letters)
     ≡ map (λ letter. record {
-        spot = record { name = record { space = Structure; name = letter ∷ [] }; line = 1; col = 1 };
-        sure = true }) l.letters
+      spot = record { name = record { space = Structure; name = letter ∷ [] }; line = 1; col = 1 };
+      sure = true;
+    }) l.letters
