@@ -57,6 +57,15 @@ ty_of-Named args long at =
     ∙ fold-roll-Ty _ _ ty_level ty_field_level (Ty-F.Named args long at)
     ∙ ap (λ bytes. 50 ∷ (bytes ++ long_of long)) (parts_map ty_of args)
 
+pub ty_of-Var : (name : Name) (at : At) → ty_of (ty.Var name at) ≡ 48 ∷ name_of name
+ty_of-Var name at =
+    ap ty_of (sym (ty.rolls-Var name at)) ∙ fold-roll-Ty _ _ ty_level ty_field_level (Ty-F.Var name at)
+
+pub ty_of-Arrow : (from to : Ty) (at : At) → ty_of (ty.Arrow from to at) ≡ 51 ∷ (ty_of from ++ ty_of to)
+ty_of-Arrow from to at =
+    ap ty_of (sym (ty.rolls-Arrow from to at))
+    ∙ fold-roll-Ty _ _ ty_level ty_field_level (Ty-F.Arrow from to at)
+
 pub ruleset ty_spelled = (ty_of-Record, ty_of-Named, append_assoc)
 
 pub pat_of-Record : (fields : List PatField) (at : At)

@@ -7,6 +7,7 @@ mod full_pat;
 mod full_sig;
 mod full_ty;
 mod full_unit;
+pub mod laws;
 mod name;
 mod parts;
 mod pat;

@@ -67,3 +67,10 @@ fn a_signature_of_functors(rt: HostRuntime) {
     let want = b"CMC1\0\0\0\x01\x83\0\0\0\x01\0\0\0\x01G\0\0\0\x01X\x61\0\0\0\x01S\x61\0\0\0\x01R";
     assert_eq!(rt; code.as_bytes(), want.as_slice());
 }
+
+#[test]
+fn the_laws_hold(_rt: HostRuntime) {
+    laws::code_is_read_again();
+    laws::code_is_spelled_so();
+    laws::no_front_is_code();
+}
