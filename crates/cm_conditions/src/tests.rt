@@ -237,14 +237,37 @@ fn a_side_that_does_not_count_is_left(rt: HostRuntime) -> Result<(), Fail> {
     Ok(())
 }
 
+/// A condition without a value.
+fn without_value(alloc: Global) -> Result<Cond, NoMemory> {
+    joined(alloc, Op::Mod, Cond::Number(1), Cond::Number(0))
+}
+
+/// An operator has no value where its left side has none.
+fn wants_left(rt: &impl Abort, alloc: Global, op: Op) -> Result<(), NoMemory> {
+    let left = without_value(alloc)?;
+    let cond = joined(alloc, op, left, Cond::Number(1))?;
+    gives(rt, alloc, &cond, None)
+}
+
+/// .. or its right side.
+fn wants_right(rt: &impl Abort, alloc: Global, op: Op) -> Result<(), NoMemory> {
+    let right = without_value(alloc)?;
+    let cond = joined(alloc, op, Cond::Number(1), right)?;
+    gives(rt, alloc, &cond, None)
+}
+
 #[test]
-fn a_part_without_a_value_takes_it_from_the_whole(rt: HostRuntime) -> Result<(), Fail> {
+fn arithmetic_wants_both_sides(rt: HostRuntime) -> Result<(), Fail> {
+    for op in [Op::Multiply, Op::Div, Op::Mod, Op::Add, Op::Subtract] {
+        wants_left(&rt, rt.alloc(), op)?;
+        wants_right(&rt, rt.alloc(), op)?;
+    }
+    Ok(())
+}
+
+#[test]
+fn a_comparison_wants_both_sides(rt: HostRuntime) -> Result<(), Fail> {
     for op in [
-        Op::Multiply,
-        Op::Div,
-        Op::Mod,
-        Op::Add,
-        Op::Subtract,
         Op::Equal,
         Op::Unequal,
         Op::Less,
@@ -252,64 +275,61 @@ fn a_part_without_a_value_takes_it_from_the_whole(rt: HostRuntime) -> Result<(),
         Op::Greater,
         Op::GreaterEqual,
     ] {
-        let bad = joined(rt.alloc(), Op::Mod, Cond::Number(1), Cond::Number(0))?;
-        gives(
-            &rt,
-            rt.alloc(),
-            &joined(rt.alloc(), op, bad, Cond::Number(1))?,
-            None,
-        )?;
-        let bad = joined(rt.alloc(), Op::Mod, Cond::Number(1), Cond::Number(0))?;
-        gives(
-            &rt,
-            rt.alloc(),
-            &joined(rt.alloc(), op, Cond::Number(1), bad)?,
-            None,
-        )?;
+        wants_left(&rt, rt.alloc(), op)?;
+        wants_right(&rt, rt.alloc(), op)?;
     }
-    let bad = joined(rt.alloc(), Op::Mod, Cond::Number(1), Cond::Number(0))?;
-    let parens = Cond::Parens(Boxed::new(rt.alloc(), bad)?);
-    gives(
-        &rt,
-        rt.alloc(),
-        &Cond::Not(Boxed::new(rt.alloc(), parens)?),
-        None,
-    )?;
     Ok(())
 }
 
 #[test]
+fn a_negation_wants_its_part(rt: HostRuntime) -> Result<(), Fail> {
+    let parens = Cond::Parens(Boxed::new(rt.alloc(), without_value(rt.alloc())?)?);
+    let negated = Cond::Not(Boxed::new(rt.alloc(), parens)?);
+    gives(&rt, rt.alloc(), &negated, None)?;
+    Ok(())
+}
+
+/// Whether a name has this value, and `defined` of it that one.
+fn name_gives(
+    rt: &impl Abort,
+    alloc: Global,
+    name: &[u8],
+    number: i64,
+    defined: i64,
+) -> Result<(), NoMemory> {
+    let found = Cond::Name(Text::from_bytes(alloc, name)?);
+    gives(rt, alloc, &found, Some(number))?;
+    let asked = Cond::Defined(Text::from_bytes(alloc, name)?);
+    gives(rt, alloc, &asked, Some(defined))
+}
+
+#[test]
 fn names_are_looked_up(rt: HostRuntime) -> Result<(), Fail> {
-    for (name, number, defined) in [
-        (b"BIG".as_slice(), 7, 1),
-        (b"big", 0, 0),
-        (b"BIGGER", 0, 0),
-        (b"BI", 0, 0),
-    ] {
-        gives(
-            &rt,
-            rt.alloc(),
-            &Cond::Name(Text::from_bytes(rt.alloc(), name)?),
-            Some(number),
-        )?;
-        gives(
-            &rt,
-            rt.alloc(),
-            &Cond::Defined(Text::from_bytes(rt.alloc(), name)?),
-            Some(defined),
-        )?;
-    }
-    for (space, name, wanted) in [
-        (Namespace::Structure, b"A".as_slice(), 1),
-        (Namespace::Signature, b"A", 0),
-        (Namespace::Structure, b"BIG", 0),
-    ] {
-        let provided = ModName {
-            space,
-            name: Text::from_bytes(rt.alloc(), name)?,
-        };
-        gives(&rt, rt.alloc(), &Cond::Provided(provided), Some(wanted))?;
-    }
+    name_gives(&rt, rt.alloc(), b"BIG", 7, 1)?;
+    name_gives(&rt, rt.alloc(), b"big", 0, 0)?;
+    name_gives(&rt, rt.alloc(), b"BIGGER", 0, 0)?;
+    name_gives(&rt, rt.alloc(), b"BI", 0, 0)?;
+    Ok(())
+}
+
+/// Whether `defined` of a module has this value.
+fn module_gives(
+    rt: &impl Abort,
+    alloc: Global,
+    space: Namespace,
+    name: &[u8],
+    wanted: i64,
+) -> Result<(), NoMemory> {
+    let name = Text::from_bytes(alloc, name)?;
+    let provided = Cond::Provided(ModName { space, name });
+    gives(rt, alloc, &provided, Some(wanted))
+}
+
+#[test]
+fn modules_are_looked_up(rt: HostRuntime) -> Result<(), Fail> {
+    module_gives(&rt, rt.alloc(), Namespace::Structure, b"A", 1)?;
+    module_gives(&rt, rt.alloc(), Namespace::Signature, b"A", 0)?;
+    module_gives(&rt, rt.alloc(), Namespace::Structure, b"BIG", 0)?;
     Ok(())
 }
 
