@@ -54,7 +54,7 @@ abbrev is_slash : ℕ → Bool
 is_slash byte = byte == 47
 
 -- whether a path begins with another and a slash, or is it, byte by byte
-abbrev below_bytes : List ℕ → List ℕ → Bool
+abbrev pub below_bytes : List ℕ → List ℕ → Bool
 below_bytes path [] = is_end path
 below_bytes [] (first ∷ front) = false
 below_bytes (byte ∷ path) (first ∷ front) = nat_eq first byte && below_bytes path front
@@ -108,7 +108,7 @@ byte_more byte first path front false true is other at of =
 byte_more byte first path front false false is other at of =
     rw (at.2, of.2) (and_assoc (nat_eq first byte) (pointwise nat_eq of.0 at.0) (begins_with at.1 of.1))
 
-begins_with_below : (path front : List ℕ) → begins_with (parts_of path) (parts_of front) ≡ below_bytes path front
+pub begins_with_below : (path front : List ℕ) → begins_with (parts_of path) (parts_of front) ≡ below_bytes path front
 begins_with_below path [] = empty_front path
 begins_with_below [] (first ∷ front) = empty_path first front
 begins_with_below (byte ∷ path) (first ∷ front) =
