@@ -8,6 +8,7 @@ mod evaluation;
 mod laws;
 mod lexeme;
 mod lexing;
+mod line;
 mod read;
 mod reader;
 mod words;
@@ -16,6 +17,7 @@ pub use cond::Cond;
 pub use evaluation::value;
 pub use laws::{Conditions, conditions_are_lawful};
 pub use lexeme::{Lexeme, Mark, Operator, Strength};
+pub use line::{Line, LineBody};
 pub use read::read_condition;
 
 #[cfg(test)]
