@@ -1,5 +1,6 @@
 pub mod Arithmetic
 pub mod Values
+pub mod Tables
 pub mod Grammar
 pub mod Seen
 pub mod Lexemes

@@ -9,11 +9,12 @@ mod laws;
 mod lexeme;
 mod lexing;
 mod line;
+mod names;
 mod read;
 mod reader;
 mod words;
 
-pub use cond::Cond;
+pub use cond::{Cond, Step};
 pub use evaluation::value;
 pub use laws::{Conditions, conditions_are_lawful};
 pub use lexeme::{Lexeme, Mark, Operator, Strength};
