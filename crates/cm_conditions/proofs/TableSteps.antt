@@ -1,12 +1,11 @@
 -- How the tables of definitions and modules grow.
-use Rattle.std.proofs.Common.{◌≡◌, ℕ, ◌+◌, ◌<◌, Bool, true, false, ◌||◌, cond, List, [], ◌∷◌, ◌++◌, length, drop, get_or, refl, ap, ap₂, sym, ◌∙◌, append_assoc, add-one, nat_eq, arith}
+use Rattle.std.proofs.Common.{◌≡◌, ℕ, ◌+◌, ◌<◌, Bool, true, false, ◌||◌, cond, List, [], ◌∷◌, ◌++◌, length, drop, get_or, refl, ap, sym, ◌∙◌, append_assoc, add-one, arith}
 use Rattle.std.proofs.Math.Seq.{drop-cons}
-use Rattle.std.specs.List.{list_any}
 use Rattle.cm_base.specs.declared.record.ModName.{ModName}
 use Rattle.cm_base.specs.declared.record.Namespace.{Namespace}
 use Rattle.cm_base.specs.declared.record.Namespace.TheVariants as space
 use Rattle.cm_conditions.specs.Tables.{same_name}
-use Rattle.cm_conditions.specs.Values.{same_space, same_module, has_module}
+use Rattle.cm_conditions.specs.Values.{same_module, has_module}
 
 -- the last of the items that are left comes before those behind
 pub one_back : {X : Type 0} (all rest before behind : List X) (x : X) → all ≡ rest ++ behind → rest ≡ before ++ x ∷ []

@@ -3,7 +3,7 @@ use Rattle.std.proofs.Common.{◌≡◌, ℕ, ◌+◌, ◌<◌, List, [], ◌∷
 use Rattle.std.proofs.Math.Path.{fun_ext}
 use Rattle.cm_base.specs.declared.record.Def.{Def}
 use Rattle.cm_base.specs.declared.record.ModName.{ModName}
-use Rattle.cm_conditions.specs.Values.{steps_value, value_by, step_by, cond_level, step_level, condition_value, def_of, has_module}
+use Rattle.cm_conditions.specs.Values.{steps_value, value_by, step_by, cond_level, step_level, condition_value}
 use Rattle.cm_conditions.specs.Tables.{table_def, table_module, AreOf}
 use Rattle.cm_conditions.specs.declared.cond.Cond.{Cond}
 use Rattle.cm_conditions.specs.declared.cond.Cond.TheOpen.{Cond-F}

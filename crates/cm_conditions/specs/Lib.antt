@@ -5,3 +5,7 @@ pub mod Grammar
 pub mod Seen
 pub mod Lexemes
 pub mod Answers
+pub mod Nesting
+pub mod Chosen
+pub mod Taking
+pub mod Splitting

@@ -2,6 +2,7 @@
 #![tactic(auto)]
 
 mod arithmetic;
+mod choice;
 mod cond;
 mod cursor;
 mod evaluation;
@@ -12,8 +13,10 @@ mod line;
 mod names;
 mod read;
 mod reader;
+mod selection;
 mod words;
 
+pub use choice::select;
 pub use cond::{Cond, Step};
 pub use evaluation::value;
 pub use laws::{Conditions, conditions_are_lawful};
@@ -23,5 +26,7 @@ pub use read::read_condition;
 
 #[cfg(test)]
 mod read_tests;
+#[cfg(test)]
+mod select_tests;
 #[cfg(test)]
 mod tests;

@@ -1,4 +1,4 @@
-use Rattle.std.proofs.Common.{◌≡◌, ◌∙◌, ◌∷◌, ap, cond, Some, nat_eq}
+use Rattle.std.proofs.Common.{◌∙◌, ◌∷◌, ap, cond, Some, nat_eq}
 use Rattle.cm_conditions.proofs.TableSteps.{one_back}
 use Rattle.cm_conditions.proofs.names.defs_of.Goals as goal
 use lib.Pointwise.{pointwise}
