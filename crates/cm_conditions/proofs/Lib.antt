@@ -6,3 +6,4 @@ pub mod TableSteps
 pub mod Selecting
 pub mod Splits
 pub mod SelectAnswers
+pub mod NestsOnce

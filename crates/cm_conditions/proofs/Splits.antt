@@ -57,13 +57,13 @@ split_lines (x ∷ lines) = with_one x.at x.body (split_of lines) ∙ ap (λ ys.
 
 -- ---- a tree before lines is split as it is
 
-abbrev join : Part → Part → Part
+abbrev pub join : Part → Part → Part
 join Part.end q = q
 join (Part.item at n p) q = Part.item at n (join p q)
 join (Part.error at x p) q = Part.error at x (join p q)
 join (Part.block at c part bs p) q = Part.block at c part bs (join p q)
 
-join_end : (p : Part) → join p Part.end ≡ p
+pub join_end : (p : Part) → join p Part.end ≡ p
 join_end Part.end = refl
 join_end (Part.item at n p) = ap (Part.item at n) (join_end p)
 join_end (Part.error at x p) = ap (Part.error at x) (join_end p)
@@ -98,7 +98,7 @@ put_block at c part bs p (Tail.closes q b t) rest =
     ap (λ first. split (Tail.closes (Part.block at c first bs (join p q)) b t) rest) (join_end part)
 
 mutual
-  split_part : (p : Part) (xs : List Line) → split_of (lines_of p ++ xs) ≡ put p (split_of xs)
+  pub split_part : (p : Part) (xs : List Line) → split_of (lines_of p ++ xs) ≡ put p (split_of xs)
   split_part Part.end xs = put_end (split_of xs).tail (split_of xs).rest
   split_part (Part.item at n p) xs =
       ap (with_line at (l.Item n)) (split_part p xs) ∙ put_item at n p (split_of xs).tail (split_of xs).rest
@@ -156,7 +156,7 @@ ends_with at (l.Elif c) s h ends = ends_turned (Branches.elif at c) (line at (l.
 ends_with at l.Else s h ends = ends_turned (Branches.otherwise at) (line at l.Else) s.tail s.rest (λ ys. tt) ends
 ends_with at l.Endif s h ends = ends
 
-split_ends : (lines : List Line) → Ends (split_of lines).rest
+pub split_ends : (lines : List Line) → Ends (split_of lines).rest
 split_ends [] = tt
 split_ends (x ∷ lines) =
     ends_with x.at x.body (split_of lines)
@@ -170,7 +170,7 @@ pub record Answered (value : Cond → Option ℤ) (lines rest : List Line) (m : 
   pub nested : IsNested lines part behind
   pub is : selected value part behind ≡ m >>= ended rest
 
-misplaced : (b : Branches) (xs : List Line) → Ends (branch_lines b ++ xs)
+pub misplaced : (b : Branches) (xs : List Line) → Ends (branch_lines b ++ xs)
 misplaced (Branches.endif at) xs = tt
 misplaced (Branches.elif at c p b) xs = tt
 misplaced (Branches.otherwise at p b) xs = tt
@@ -239,7 +239,7 @@ front_of : {X : Type 0} (front behind : List X) → take (length front) (front +
 front_of [] behind = refl
 front_of (x ∷ front) behind = ap (λ xs. x ∷ xs) (front_of front behind)
 
-back_of : {X : Type 0} (front behind : List X) → drop (length front) (front ++ behind) ≡ behind
+pub back_of : {X : Type 0} (front behind : List X) → drop (length front) (front ++ behind) ≡ behind
 back_of [] behind = refl
 back_of (x ∷ front) behind = back_of front behind
 

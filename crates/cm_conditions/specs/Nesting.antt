@@ -69,3 +69,12 @@ Ends (line ∷ behind) = IsMisplaced line.body behind
 pub record IsNested (lines : List Line) (part : Part) (rest : List Line) : Type 0 where
   pub spelled : lines ≡ lines_of part ++ rest
   pub ends : Ends rest
+
+-- each list of lines nests ..
+abbrev pub EachNests : Type 0
+EachNests = (lines : List Line) → (part : Part) × (rest : List Line) × IsNested lines part rest
+
+-- .. and in one way
+abbrev pub NestsInOneWay : Type 0
+NestsInOneWay = (lines : List Line) (part other : Part) (rest more : List Line) → IsNested lines part rest
+    → IsNested lines other more → (part ≡ other) × (rest ≡ more)

@@ -19,7 +19,7 @@ mod words;
 pub use choice::select;
 pub use cond::{Cond, Step};
 pub use evaluation::value;
-pub use laws::{Conditions, conditions_are_lawful};
+pub use laws::{Conditions, conditions_are_lawful, lines_nest_in_one_way};
 pub use lexeme::{Lexeme, Mark, Operator, Strength};
 pub use line::{Line, LineBody};
 pub use read::read_condition;

@@ -398,3 +398,9 @@ fn many_blocks_nest(rt: HostRuntime) -> Result<(), Fail> {
     chooses(&rt, rt.alloc(), rows.as_slice(), &[1])?;
     Ok(())
 }
+
+#[test]
+fn lines_nest(_rt: HostRuntime) -> Result<(), Fail> {
+    lines_nest_in_one_way();
+    Ok(())
+}
