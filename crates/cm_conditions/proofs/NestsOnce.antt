@@ -1,4 +1,5 @@
--- Lines nest in one way: the first tree of a split is the tree that stands before lines which fit into none.
+-- Lines nest in one way: whatever tree stands before lines which fit into none, it is the first tree of their split, and
+-- what is behind follows from it.
 use Rattle.std.proofs.Common.{◌≡◌, List, [], ◌∷◌, ◌++◌, refl, ap, sym, subst, append_assoc, ◌∙◌, length, drop}
 use Rattle.cm_base.specs.declared.diag.Place.{Place}
 use Rattle.cm_conditions.specs.Nesting.{Part, Branches, line, lines_of, branch_lines, IsClosed, IsMisplaced, Ends, IsNested, NestsInOneWay, EachNests}

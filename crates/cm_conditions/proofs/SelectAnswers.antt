@@ -1,4 +1,5 @@
--- What `select` answers, from what its parts do.
+-- What `select` answers, from what its parts do: how its count from the last line on finds the lines that fit together,
+-- and what it makes of the lines before and behind.
 use Rattle.std.proofs.Common.{◌≡◌, if◌then◌else◌, ℕ, ◌+◌, ◌-◌, ◌<◌, ◌≤◌, ◌==◌, List, ◌∷◌, ◌++◌, Option, Some, None, Result, Ok, Err, refl, ap, ap₂, sym, subst, ◌∙◌, length, length-append, take, drop, ◌^◌, arith, ℤ}
 use Rattle.std.proofs.Math.Path.{fun_ext}
 use Rattle.std.specs.Result.{IsErrAnd}
@@ -11,7 +12,7 @@ use Rattle.cm_base.specs.declared.record.ModName.{ModName}
 use Rattle.cm_conditions.specs.Chosen.{◌>>=◌, selected, Selects}
 use Rattle.cm_conditions.specs.Nesting.{Part, Branches, IsNested, line, lines_of, branch_lines}
 use Rattle.cm_conditions.specs.Splitting.{Tail, tail_lines, closers_of, closers_before, Split, split, with_line, split_of, prepend, ended}
-use Rattle.cm_conditions.specs.Tables.{AreOf, table_def, table_module}
+use Rattle.cm_conditions.specs.Tables.{AreOf, table_def, table_module, by_tables}
 use Rattle.cm_conditions.specs.Taking.{after_all, items_of, start}
 use Rattle.cm_conditions.specs.Values.{value_by, condition_value, def_of, has_module}
 use Rattle.cm_conditions.specs.declared.cond.Cond.{Cond}
@@ -153,12 +154,10 @@ wants_memory defs exports lines =
     let a = whole_answered (condition_value defs exports) lines in (a.part, a.behind, a.nested, tt)
 
 -- what a call knows of the lines that it takes: the tables are those of the lists, and the lines are cut in two
-pub record Taken (names : Names) (defs : List Def) (exports : List ModName) (lines whole rest : List Line) : Type 0 where
+pub record Taken (names : Names) (defs : List Def) (exports : List ModName) (lines whole rest : List Line)
+    : Type 0 where
   pub are : AreOf names defs exports
   pub cut : (n : ℕ) × (n + length (split_of lines).rest ≡ length lines) × (whole ≡ take n lines) × (rest ≡ drop n lines)
-
-abbrev by_tables : Names → Cond → Option ℤ
-by_tables names = value_by (table_def names) (table_module names)
 
 lines_answered : (names : Names) (defs : List Def) (exports : List ModName) (lines whole rest : List Line)
     → Taken names defs exports lines whole rest
@@ -178,8 +177,8 @@ for_lists names defs exports lines r are part behind nested gives = (
 )
 
 -- the lines themselves are refused, and the refusal is passed on
-pub lines_refused : (names : Names) (defs : List Def) (exports : List ModName) (lines whole rest : List Line) (f : Fault)
-    (r : Result (List ℕ) Fault) → Taken names defs exports lines whole rest
+pub lines_refused : (names : Names) (defs : List Def) (exports : List ModName) (lines whole rest : List Line)
+    (f : Fault) (r : Result (List ℕ) Fault) → Taken names defs exports lines whole rest
     → Gives {A = List ℕ} (Err f) (items_of (after_all (by_tables names) whole start)) → IsErrAnd r (λ e. e ≡ f)
     → Selects defs exports lines r
 lines_refused names defs exports lines whole rest f (Ok items) t h passed = absurd passed

@@ -1,4 +1,5 @@
--- Lines that are taken one after another choose what the tree that they spell chooses.
+-- Lines that are taken one after another choose what the tree that they spell chooses: by induction on the tree, with
+-- any lines behind it.
 use Rattle.std.proofs.Common.{◌≡◌, ℕ, Bool, true, false, not, ◌&&◌, List, [], ◌∷◌, ◌++◌, Option, Some, None, Result, Ok, Err, refl, ap, sym, ◌∙◌, append_assoc, append-nil, ℤ}
 use Rattle.cm_base.specs.declared.diag.Diag.{Diag}
 use Rattle.cm_conditions.specs.Chosen.{◌>>=◌, is_taken, chosen, branches_chosen}

@@ -1,4 +1,5 @@
--- Each list of lines nests in one way, and what its lines choose is what that tree chooses.
+-- How far the lines of a list fit together, found from the last line on: `split_of` has the lines that were split, it finds
+-- a tree where one stands, and what is behind fits into none. And what the lines choose is what that tree chooses.
 use Rattle.std.proofs.Common.{◌≡◌, ℕ, ◌+◌, Bool, true, false, List, [], ◌∷◌, ◌++◌, Result, Ok, Err, refl, ap, ap₂, sym, subst, ◌∙◌, append_assoc, append-nil, length, length-append, take, drop, ℤ, Option, arith}
 use Rattle.cm_base.specs.declared.diag.Diag.{Diag}
 use Rattle.cm_base.specs.declared.diag.Place.{Place}

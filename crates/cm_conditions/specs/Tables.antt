@@ -1,4 +1,5 @@
--- What is kept to find definitions and modules by their names.
+-- What is kept to find definitions and modules by their names, and the values of conditions under them. It is made of
+-- the two lists of a call, once.
 use Rattle.std.specs.Prelude.{◌≡◌, ℕ, List, Option, Bool, nat_eq, ℤ}
 use Rattle.indexmap.specs.IndexMap.{get}
 use Rattle.indexmap.specs.IndexSet.{contains, IndexSet}
@@ -6,7 +7,9 @@ use Rattle.cm_base.specs.contracts.record.ModNamePartialEq.TheImpl as equality
 use Rattle.cm_base.specs.declared.record.Def.{Def}
 use Rattle.cm_base.specs.declared.record.ModName.{ModName}
 use Rattle.cm_conditions.specs.declared.names.Names.{Names}
-use Rattle.cm_conditions.specs.Values.{def_of, has_module}
+use Rattle.cm_conditions.specs.Values.{def_of, has_module, value_by, step_by}
+use Rattle.cm_conditions.specs.declared.cond.Cond.{Cond}
+use Rattle.cm_conditions.specs.declared.cond.Step.{Step}
 use lib.Pointwise.{pointwise}
 
 -- two module names of one name space and one text
@@ -24,6 +27,13 @@ table_def names name = get (pointwise nat_eq) names.defs name
 -- whether a module is in a table
 abbrev pub table_module : Names → ModName → Bool
 table_module names wanted = has_name names.modules wanted
+
+-- the value of a condition, and the value behind an operator, under the tables
+abbrev pub by_tables : Names → Cond → Option ℤ
+by_tables names = value_by (table_def names) (table_module names)
+
+abbrev pub step_by_tables : Names → Step → ℤ → Option ℤ
+step_by_tables names = step_by (table_def names) (table_module names)
 
 -- the tables find what the lists have
 pub record AreOf (names : Names) (defs : List Def) (modules : List ModName) : Type 0 where

@@ -56,10 +56,14 @@ turned_last at s =
 abbrev pub with_item : Selection → ℕ → Selection
 with_item s number = if s.here.live then state (s.items ++ number ∷ []) s.here s.around else s
 
+-- behind an `#error`
+abbrev pub refused_by : Place → List ℕ → Selection → Result Selection Diag
+refused_by at text s = if s.here.live then Err (error_line at text) else Ok s
+
 -- behind a line
 abbrev pub after : (Cond → Option ℤ) → Place → LineBody → Selection → Result Selection Diag
 after value at (l.Item number) s = Ok (with_item s number)
-after value at (l.Error text) s = if s.here.live then Err (error_line at text) else Ok s
+after value at (l.Error text) s = refused_by at text s
 after value at (l.If cond) s = is_taken s.here.live at (value cond) >>= (λ first. Ok (opened s first))
 after value at (l.Elif cond) s =
     if s.here.last then Err (bad_condition at)

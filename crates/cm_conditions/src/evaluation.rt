@@ -2,8 +2,8 @@
 
 ghost use Rattle.std.specs.Prelude.{◌≡◌, IfOk, Some, map};
 ghost use Rattle.cm_base.specs.Calls.{Gives};
-ghost use Rattle.cm_conditions.specs.Values.{condition_value, steps_value, value_by, step_by, value_at, bad_condition};
-ghost use Rattle.cm_conditions.specs.Tables.{table_def, table_module};
+ghost use Rattle.cm_conditions.specs.Values.{condition_value, steps_value, value_at, bad_condition};
+ghost use Rattle.cm_conditions.specs.Tables.{by_tables, step_by_tables};
 
 use crate::arithmetic::{difference, div, modulo, product, sum, truth};
 use crate::cond::{Cond, Step};
@@ -16,7 +16,7 @@ impl Cond {
     #[cycle(value)]
     #[tactic(auto, using(crate::proofs::ValueSteps::chain_steps), unfolding(crate::specs::Values::value_by, crate::specs::Values::step_by))]
     pub(crate) fn value_in(&self, names: &Names) -> Option<i64>
-        ensures { result ≡ value_by (table_def names.now) (table_module names.now) self.now }
+        ensures { result ≡ by_tables names.now self.now }
     {
         match self {
             Cond::Number(number) => Some(*number),
@@ -39,7 +39,7 @@ impl Cond {
 #[cycle(value)]
 #[tactic(auto, using(crate::proofs::ValueSteps::chain_steps))]
 fn value_behind(steps: &[Step], first: i64, names: &Names) -> Option<i64>
-    ensures { result ≡ steps_value (map (step_by (table_def names.now) (table_module names.now)) steps.now) (Some first) }
+    ensures { result ≡ steps_value (map (step_by_tables names.now) steps.now) (Some first) }
 {
     let mut left = first;
     for step in steps {
@@ -56,7 +56,7 @@ impl Step {
     #[cycle(value)]
     #[tactic(auto, unfolding(crate::specs::Values::value_by, crate::specs::Values::step_by))]
     fn value_in(&self, left: i64, names: &Names) -> Option<i64>
-        ensures { result ≡ step_by (table_def names.now) (table_module names.now) self.now left }
+        ensures { result ≡ step_by_tables names.now self.now left }
     {
         match self {
             Step::Multiply(right) => product(left, right.value_in(names)?),

@@ -1,5 +1,5 @@
 use super::*;
-use cm_base::{Def, Fault, List, ModName, Namespace, NoMemory, Place, Text};
+use cm_base::{Def, Diag, Fault, List, ModName, Namespace, NoMemory, Place, Text};
 use std::alloc::Global;
 use std::process::Abort;
 use std::test::*;
@@ -102,6 +102,20 @@ fn chooses(
     Ok(())
 }
 
+/// The refusal of lines.
+fn refusal(rt: &impl Abort, alloc: Global, rows: &[Row<'_>]) -> Result<Diag, NoMemory> {
+    match selection(rt, alloc, rows)? {
+        Ok(_items) => {
+            assert!(rt; false, "{rows:?} is chosen from");
+            Err(NoMemory)
+        }
+        Err(fault) => match fault {
+            Fault::Diag(diag) => Ok(diag),
+            Fault::NoMemory => Err(NoMemory),
+        },
+    }
+}
+
 fn refuses(
     rt: &impl Abort,
     alloc: Global,
@@ -109,14 +123,10 @@ fn refuses(
     number: u8,
     line: u32,
 ) -> Result<(), NoMemory> {
-    match selection(rt, alloc, rows)? {
-        Err(Fault::Diag(diag)) => {
-            assert_eq!(rt; (diag.number, diag.at.line), (number, line), "{rows:?}");
-            assert_eq!(rt; diag.at, place(alloc, line)?);
-        }
-        Err(Fault::NoMemory) => return Err(NoMemory),
-        Ok(_) => assert!(rt; false, "{rows:?} is chosen from"),
-    }
+    let diag = refusal(rt, alloc, rows)?;
+    let at = place(alloc, line)?;
+    assert_eq!(rt; diag.number, number, "{rows:?}");
+    assert_eq!(rt; diag.at, at, "{rows:?}");
     Ok(())
 }
 
@@ -311,18 +321,25 @@ fn an_error_counts_where_it_is_chosen(rt: HostRuntime) -> Result<(), Fail> {
     Ok(())
 }
 
+/// Whether a refusal has this name and no other.
+fn has_name(diag: &Diag, name: &[u8]) -> bool {
+    match diag.names.get(0) {
+        Some(found) => found.as_bytes() == name && diag.names.len() == 1,
+        None => false,
+    }
+}
+
+/// The refusal of lines shows this name.
+fn shows(rt: &impl Abort, alloc: Global, rows: &[Row<'_>], name: &[u8]) -> Result<(), NoMemory> {
+    let diag = refusal(rt, alloc, rows)?;
+    assert!(rt; has_name(&diag, name), "{rows:?}");
+    Ok(())
+}
+
 #[test]
 fn an_error_shows_its_text(rt: HostRuntime) -> Result<(), Fail> {
-    match selection(&rt, rt.alloc(), &[Row::Error(b"not yet")])? {
-        Err(Fault::Diag(diag)) => {
-            assert_eq!(rt; diag.names.len(), 1);
-            assert_eq!(rt;
-                diag.names.get(0).map(|name| name.as_bytes()),
-                Some(b"not yet".as_slice())
-            );
-        }
-        _ => assert!(rt; false, "the error is chosen"),
-    }
+    shows(&rt, rt.alloc(), &[Row::Error(b"not yet")], b"not yet")?;
+    shows(&rt, rt.alloc(), &[Row::Error(b"")], b"")?;
     Ok(())
 }
 

@@ -1,11 +1,10 @@
 //! The items that conditions choose from lines, taken one after another.
 
-ghost use Rattle.std.specs.Prelude.{◌≡◌, if◌then◌else◌, IfOk, OnOk, Ok, Err};
+ghost use Rattle.std.specs.Prelude.{◌≡◌, IfOk, OnOk};
 ghost use Rattle.cm_base.specs.Calls.{Gives};
 ghost use Rattle.cm_conditions.specs.Chosen.{is_taken, error_line};
-ghost use Rattle.cm_conditions.specs.Tables.{table_def, table_module};
-ghost use Rattle.cm_conditions.specs.Taking.{start, with_item, turned_last, closed_by, popped, after, after_all, items_of, Leaves};
-ghost use Rattle.cm_conditions.specs.Values.{value_by};
+ghost use Rattle.cm_conditions.specs.Tables.{by_tables};
+ghost use Rattle.cm_conditions.specs.Taking.{start, with_item, refused_by, turned_last, closed_by, popped, after, after_all, items_of, Leaves};
 ghost use Rattle.cm_conditions.specs.declared.line.LineBody.TheVariants.{If as if_of, Elif as elif_of};
 
 use crate::cond::Cond;
@@ -49,7 +48,7 @@ fn error_line(alloc: Global, at: &Place, text: &Text) -> Result<Diag, NoMemory>
 
 /// Whether a branch is chosen: its condition is looked at only where it may be.
 fn is_taken(alloc: Global, names: &Names, may: bool, at: &Place, cond: &Cond) -> Result<bool, Fault>
-    ensures { Gives result (is_taken may at.now (value_by (table_def names.now) (table_module names.now) cond.now)) }
+    ensures { Gives result (is_taken may at.now (by_tables names.now cond.now)) }
 {
     if !may {
         return Ok(false);
@@ -80,15 +79,16 @@ impl Selection {
     fn take_item(&mut self, number: u32) -> Result<(), NoMemory>
         ensures { OnOk result (self.new ≡ with_item self.old number) }
     {
-        if self.here.live {
-            self.items.add(number)?;
+        if !self.here.live {
+            return Ok(());
         }
+        self.items.add(number)?;
         Ok(())
     }
 
     /// Takes an `#error`.
     fn take_error(&mut self, alloc: Global, at: &Place, text: &Text) -> Result<(), Fault>
-        ensures { Leaves result (if self.old.here.live then Err (error_line at.now text.now) else Ok self.old) self.new }
+        ensures { Leaves result (refused_by at.now text.now self.old) self.new }
     {
         if self.here.live {
             return Err(Fault::Diag(error_line(alloc, at, text)?));
@@ -105,7 +105,7 @@ impl Selection {
         cond: &Cond,
     ) -> Result<(), Fault>
         ensures { Leaves result
-            (after (value_by (table_def names.now) (table_module names.now)) at.now (if_of cond.now) self.old) self.new }
+            (after (by_tables names.now) at.now (if_of cond.now) self.old) self.new }
     {
         let live = is_taken(alloc, names, self.here.live, at, cond)?;
         let waits = self.here.live && !live;
@@ -127,7 +127,7 @@ impl Selection {
         cond: &Cond,
     ) -> Result<(), Fault>
         ensures { Leaves result
-            (after (value_by (table_def names.now) (table_module names.now)) at.now (elif_of cond.now) self.old)
+            (after (by_tables names.now) at.now (elif_of cond.now) self.old)
             self.new }
     {
         if self.here.last {
@@ -172,7 +172,7 @@ impl Selection {
     /// Takes one line.
     fn take(&mut self, alloc: Global, names: &Names, line: &Line) -> Result<(), Fault>
         ensures { Leaves result
-            (after (value_by (table_def names.now) (table_module names.now)) line.now.at line.now.body self.old) self.new }
+            (after (by_tables names.now) line.now.at line.now.body self.old) self.new }
     {
         match &line.body {
             LineBody::Item(number) => Ok(self.take_item(*number)?),
@@ -188,7 +188,7 @@ impl Selection {
 /// The items that these lines choose, where each `#if` among them has its `#endif`.
 pub(crate) fn items_of(alloc: Global, names: &Names, lines: &[Line]) -> Result<List<u32>, Fault>
     ensures { Gives result
-        (items_of (after_all (value_by (table_def names.now) (table_module names.now)) lines.now start)) }
+        (items_of (after_all (by_tables names.now) lines.now start)) }
 {
     let mut selection = Selection::new(alloc);
     for line in lines {
