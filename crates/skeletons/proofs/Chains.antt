@@ -5,7 +5,7 @@ use Rattle.cm_base.specs.declared.record.ModName.{ModName}
 use Rattle.cm_base.specs.declared.record.Need.{Need}
 use Rattle.skeletons.specs.declared.walk.Walk.{Walk}
 use Rattle.skeletons.specs.declared.walk.Mark.{Mark}
-use Rattle.skeletons.specs.Scopes.{Uses, Brings, both, within, hiding, hidden, after}
+use Rattle.skeletons.specs.Scopes.{Uses, Brings, both, within, hiding, after}
 use Rattle.skeletons.specs.Counting.{hide_at}
 use Rattle.skeletons.specs.Walks.{scope_of, noted, declared, closed, shut}
 use Rattle.skeletons.proofs.Counts.{take_front, hide_middle}

@@ -1,6 +1,6 @@
 -- Each name at the first of its places, as a list grows at its end.
-use Rattle.std.proofs.Common.{◌≡◌, ◌∙◌, sym, ap, ap₂, refl, inl, inr, Bool, true, false, not, ◌&&◌, ◌||◌, cond, List, [], ◌∷◌, ◌++◌}
-use Rattle.std.specs.List.{list_any, filter}
+use Rattle.std.proofs.Common.{◌≡◌, ◌∙◌, sym, ap, ap₂, refl, inl, inr, Bool, true, false, not, ◌&&◌, ◌||◌, cond, List, [], ◌∷◌, ◌++◌, ℕ, zero, suc, ◌+◌, ◌<◌, length, get_or, drop, arith}
+use Rattle.std.specs.List.{list_any}
 use Rattle.std.proofs.lemmas.Bool.{cases_Bool}
 use Rattle.cm_base.specs.declared.record.ModName.{ModName}
 use Rattle.cm_base.specs.declared.record.Spot.{Spot}
@@ -141,3 +141,31 @@ sure_more true true rest = refl
 sure_more true false rest = refl
 sure_more false true rest = refl
 sure_more false false rest = refl
+
+-- the sure uses that are left at a place
+left_at : (uses : List Need) (i : ℕ) (need : Need) (name : ModName) → i < length uses → need ≡ get_or uses i need
+    → list_any (is_sure_use name) (drop i uses) ≡ is_sure_use name need || list_any (is_sure_use name) (drop (i + 1) uses)
+left_at [] i need name lt here = absurd (omega arith)
+left_at (first ∷ uses) zero need name lt here =
+    ap (λ u. is_sure_use name u || list_any (is_sure_use name) uses) (sym here)
+left_at (first ∷ uses) (suc i) need name lt here =
+    left_at uses i need name (omega arith) here
+    ∙ ap (λ n. is_sure_use name need || list_any (is_sure_use name) (drop n (first ∷ uses))) next
+  where
+    next : suc (i + 1) ≡ suc i + 1
+    next = omega arith
+
+-- a set of names with one name more, where its use is sure
+pub sure_step : (uses : List Need) (i : ℕ) (need : Need) (name : ModName) (old new : Bool)
+    → i < length uses → need ≡ get_or uses i need
+    → new ≡ cond need.sure (cond (has_name name need.spot) true old) old
+    → new || list_any (is_sure_use name) (drop (i + 1) uses) ≡ old || list_any (is_sure_use name) (drop i uses)
+sure_step uses i need name old new lt here is =
+    ap (λ b. b || list_any (is_sure_use name) (drop (i + 1) uses)) is
+    ∙ more need.sure (has_name name need.spot) old (list_any (is_sure_use name) (drop (i + 1) uses))
+    ∙ ap (λ b. old || b) (sym (left_at uses i need name lt here))
+  where
+    more : (sure is_it old rest : Bool) → cond sure (cond is_it true old) old || rest ≡ old || ((sure && is_it) || rest)
+    more true is_it old rest = sure_more is_it old rest
+    more false is_it true rest = refl
+    more false is_it false rest = refl

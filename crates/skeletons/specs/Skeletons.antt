@@ -1,5 +1,5 @@
 -- The skeleton of a unit: the module names that its top level defines, and those that it uses and doesn't bind.
-use Rattle.std.specs.Prelude.{ℕ, suc, not, Bool, ◌&&◌, List, [], ◌∷◌, ◌++◌, Some, map, if◌then◌else◌}
+use Rattle.std.specs.Prelude.{ℕ, suc, not, Bool, ◌&&◌, List, [], ◌∷◌, map}
 use Rattle.std.specs.List.{list_any, filter, flat_map}
 use Rattle.std.specs.Ordering.{nat_cmp, ordering_then}
 use Rattle.std.specs.declared.cmp.Ordering.{Ordering}
@@ -11,7 +11,6 @@ use Rattle.cm_base.specs.declared.record.Spot.{Spot}
 use Rattle.cm_base.specs.declared.record.Need.{Need}
 use Rattle.cm_base.specs.declared.record.Skeleton.{Skeleton}
 use Rattle.sml_syntax.specs.declared.name.Name.{Name}
-use Rattle.sml_syntax.specs.declared.exp.StrBind.{StrBind}
 use Rattle.sml_syntax.specs.declared.sig_exp.SigBind.{SigBind}
 use Rattle.sml_syntax.specs.declared.unit.TopDec.{TopDec}
 use Rattle.sml_syntax.specs.declared.unit.TopDec.TheVariants as top
@@ -19,7 +18,7 @@ use Rattle.sml_syntax.specs.declared.unit.FunBind.{FunBind}
 use Rattle.sml_syntax.specs.declared.unit.FunsigBind.{FunsigBind}
 use Rattle.sml_syntax.specs.declared.unit.BareUnit.{BareUnit}
 use Rattle.skeletons.specs.declared.places.Position.{Position}
-use Rattle.skeletons.specs.Scopes.{same_name, Uses, both, under, Brings, sequence, sequence_uses, Binding, joined, module_name, no_scope}
+use Rattle.skeletons.specs.Scopes.{same_name, both, under, Brings, sequence_uses, Binding, joined, module_name, no_scope}
 use Rattle.skeletons.specs.Uses.{sig_uses, str_uses, str_binding}
 
 -- ---- the top level

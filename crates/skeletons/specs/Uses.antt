@@ -1,8 +1,7 @@
 -- The uses of each form of a bare tree, form by form, with what is in scope at them.
 -- (The Definition of Standard ML (Revised), figures 5 to 8 for the forms.)
-use Rattle.std.specs.Prelude.{List, [], ◌∷◌, ◌++◌, Option, Some, None, map}
+use Rattle.std.specs.Prelude.{Option, Some, None, map}
 use Rattle.cm_base.specs.declared.record.Namespace.TheVariants as space
-use Rattle.sml_syntax.specs.declared.name.LongName.{LongName}
 use Rattle.sml_syntax.specs.declared.ty.Ty.{Ty}
 use Rattle.sml_syntax.specs.declared.ty.Ty.TheOpen.{Ty-F, TyField-F}
 use Rattle.sml_syntax.specs.declared.ty.Ty.TheFolds.{fold-Ty, fold-TyField}

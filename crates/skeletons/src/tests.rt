@@ -6,11 +6,11 @@ mod scopes;
 mod sizes;
 
 use crate::skeleton;
-use std::process::Abort;
-use std::test::*;
 use cm_base::{List, Namespace, Skeleton, Spot, Text};
 use sml_syntax::{BareUnit, TopDec};
 use std::alloc::Global;
+use std::process::Abort;
+use std::test::*;
 
 /// The word of a name space.
 fn word(space: Namespace) -> &'static [u8] {
@@ -25,14 +25,17 @@ fn word(space: Namespace) -> &'static [u8] {
 /// A number of at most two digits, as every place in these tests is.
 fn push_number(rt: &impl Abort, out: &mut Vec<u8>, number: u32) {
     if number > 9 {
-        out.push(b'0' + (number / 10 % 10) as u8).expect(rt, "memory");
+        out.push(b'0' + (number / 10 % 10) as u8)
+            .expect(rt, "memory");
     }
     out.push(b'0' + (number % 10) as u8).expect(rt, "memory");
 }
 
 fn push_spot(rt: &impl Abort, out: &mut Vec<u8>, spot: &Spot) {
-    out.extend_from_slice(word(spot.name.space)).expect(rt, "memory");
-    out.extend_from_slice(spot.name.name.as_bytes()).expect(rt, "memory");
+    out.extend_from_slice(word(spot.name.space))
+        .expect(rt, "memory");
+    out.extend_from_slice(spot.name.name.as_bytes())
+        .expect(rt, "memory");
     out.push(b' ').expect(rt, "memory");
     push_number(rt, out, spot.line);
     out.push(b':').expect(rt, "memory");
@@ -50,7 +53,8 @@ fn shown(rt: &impl Abort, alloc: Global, skeleton: &Skeleton) -> Vec<u8> {
     for need in skeleton.free.as_slice() {
         out.push(b' ').expect(rt, "memory");
         push_spot(rt, &mut out, &need.spot);
-        out.push(if need.sure { b';' } else { b'?' }).expect(rt, "memory");
+        out.push(if need.sure { b';' } else { b'?' })
+            .expect(rt, "memory");
     }
     out
 }

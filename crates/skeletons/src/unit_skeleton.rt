@@ -68,7 +68,11 @@ impl Bound for FunsigBind {
 }
 
 /// Adds the names of some bindings, each at its place.
-fn add_spots<T: Bound>(found: &mut List<Spot>, space: Namespace, binds: &[T]) -> Result<(), NoMemory>
+fn add_spots<T: Bound>(
+    found: &mut List<Spot>,
+    space: Namespace,
+    binds: &[T],
+) -> Result<(), NoMemory>
     ensures { OnOk result (found.new ≡ found.old ++ map (λ bind. spot space (T.bound bind)) binds.now) }
 {
     for bind in binds {
@@ -134,7 +138,11 @@ fn spots(alloc: Global, uses: List<Need>) -> Result<List<Spot>, NoMemory>
 }
 
 /// The names at these places, sure where one of their uses is.
-fn needs(alloc: Global, names: &IndexSet<ModName>, spots: List<Spot>) -> Result<List<Need>, NoMemory>
+fn needs(
+    alloc: Global,
+    names: &IndexSet<ModName>,
+    spots: List<Spot>,
+) -> Result<List<Need>, NoMemory>
     ensures { (uses : List Need) → AreSure uses names.now → IfOk result (λ list. list ≡ map (need_of uses) spots) }
 {
     let mut list = List::new(alloc);

@@ -69,7 +69,14 @@ pub fn empty(rt: &impl Abort, alloc: Global) -> StrExp {
     structure(rt, alloc, Dec::Sequence(List::new(alloc), AT))
 }
 
-pub fn bind(rt: &impl Abort, alloc: Global, part: &[u8], line: u32, col: u32, body: StrExp) -> StrBind {
+pub fn bind(
+    rt: &impl Abort,
+    alloc: Global,
+    part: &[u8],
+    line: u32,
+    col: u32,
+    body: StrExp,
+) -> StrBind {
     StrBind {
         name: name(rt, alloc, part, line, col),
         body,
@@ -82,7 +89,14 @@ pub fn dec(rt: &impl Abort, alloc: Global, part: &[u8], line: u32, col: u32, bod
 }
 
 /// `structure part = body`, at the top level.
-pub fn top(rt: &impl Abort, alloc: Global, part: &[u8], line: u32, col: u32, body: StrExp) -> TopDec {
+pub fn top(
+    rt: &impl Abort,
+    alloc: Global,
+    part: &[u8],
+    line: u32,
+    col: u32,
+    body: StrExp,
+) -> TopDec {
     TopDec::Structures(one(rt, alloc, bind(rt, alloc, part, line, col, body)), AT)
 }
 
@@ -117,7 +131,10 @@ pub fn ty(rt: &impl Abort, alloc: Global, part: &[u8], line: u32, col: u32) -> T
 
 /// `sig first second end`
 pub fn sig_of(rt: &impl Abort, alloc: Global, first: Spec, second: Spec) -> SigExp {
-    SigExp::Sig(boxed(rt, alloc, Spec::Sequence(two(rt, alloc, first, second), AT)), AT)
+    SigExp::Sig(
+        boxed(rt, alloc, Spec::Sequence(two(rt, alloc, first, second), AT)),
+        AT,
+    )
 }
 
 /// `exception E of ty`, in a signature.

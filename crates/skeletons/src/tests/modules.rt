@@ -55,7 +55,13 @@ fn a_where_type_uses_its_type_and_not_its_subject(rt: HostRuntime) {
     let alloc = rt.alloc();
     let inner = boxed(&rt, alloc, sig(&rt, alloc, b"T", 1, 15));
     let subject = long(&rt, alloc, b"Q", 1, 28);
-    let refined = SigExp::Where(inner, List::new(alloc), subject, ty(&rt, alloc, b"M", 1, 34), AT);
+    let refined = SigExp::Where(
+        inner,
+        List::new(alloc),
+        subject,
+        ty(&rt, alloc, b"M", 1, 34),
+        AT,
+    );
     let s = signature(&rt, alloc, b"S", 1, refined);
     let want = b"signature S 1:11; | signature T 1:15; structure M 1:34;";
     has(&rt, alloc, one(&rt, alloc, s), want);
@@ -89,7 +95,13 @@ fn a_parameter_is_not_in_scope_in_its_own_signature(rt: HostRuntime) {
     let alloc = rt.alloc();
     let inner = boxed(&rt, alloc, sig(&rt, alloc, b"S", 1, 16));
     let typed = ty(&rt, alloc, b"X", 1, 40);
-    let refined = SigExp::Where(inner, List::new(alloc), short(&rt, alloc, b"t", 1, 30), typed, AT);
+    let refined = SigExp::Where(
+        inner,
+        List::new(alloc),
+        short(&rt, alloc, b"t", 1, 30),
+        typed,
+        AT,
+    );
     let f = functor(&rt, alloc, refined, empty(&rt, alloc));
     let want = b"functor F 1:9; | signature S 1:16; structure X 1:40;";
     has(&rt, alloc, one(&rt, alloc, f), want);
@@ -111,7 +123,13 @@ fn a_signature_of_functors_is_defined_and_its_parameter_is_in_scope_in_the_resul
     let alloc = rt.alloc();
     let inner = boxed(&rt, alloc, sig(&rt, alloc, b"T", 1, 30));
     let typed = ty(&rt, alloc, b"X", 1, 50);
-    let result_sig = SigExp::Where(inner, List::new(alloc), short(&rt, alloc, b"t", 1, 40), typed, AT);
+    let result_sig = SigExp::Where(
+        inner,
+        List::new(alloc),
+        short(&rt, alloc, b"t", 1, 40),
+        typed,
+        AT,
+    );
     let bind = FunsigBind {
         name: name(&rt, alloc, b"F", 1, 8),
         param: name(&rt, alloc, b"X", 1, 11),

@@ -13,7 +13,9 @@ use std::test::*;
 fn numbered(rt: &impl Abort, alloc: Global, number: u32) -> Text {
     let mut bytes = Vec::new(alloc);
     bytes.push(b'N').expect(rt, "memory");
-    bytes.extend_from_slice(&number.to_be_bytes()).expect(rt, "memory");
+    bytes
+        .extend_from_slice(&number.to_be_bytes())
+        .expect(rt, "memory");
     text(rt, alloc, &bytes)
 }
 
@@ -34,7 +36,14 @@ fn many(rt: &impl Abort, alloc: Global, count: u32) -> Dec {
 #[test]
 fn a_hundred_thousand_names(rt: HostRuntime) {
     let alloc = rt.alloc();
-    let a = top(&rt, alloc, b"A", 1, 1, structure(&rt, alloc, many(&rt, alloc, 100_000)));
+    let a = top(
+        &rt,
+        alloc,
+        b"A",
+        1,
+        1,
+        structure(&rt, alloc, many(&rt, alloc, 100_000)),
+    );
     let unit = unit(&rt, alloc, one(&rt, alloc, a));
     let skeleton = skeleton(alloc, &unit).expect(&rt, "memory");
     assert_eq!(&rt; skeleton.free.len(), 100_000);
@@ -60,7 +69,12 @@ fn nest(rt: &impl Abort, alloc: Global, depth: u32) -> Dec {
 #[test]
 fn locals_inside_one_another(rt: HostRuntime) {
     let alloc = rt.alloc();
-    let uses = then(&rt, alloc, value(&rt, alloc, b"G", 3, 1), value(&rt, alloc, b"H", 4, 1));
+    let uses = then(
+        &rt,
+        alloc,
+        value(&rt, alloc, b"G", 3, 1),
+        value(&rt, alloc, b"H", 4, 1),
+    );
     let body = then(&rt, alloc, nest(&rt, alloc, 300), uses);
     let a: TopDec = top(&rt, alloc, b"A", 1, 1, structure(&rt, alloc, body));
     let unit = unit(&rt, alloc, one(&rt, alloc, a));

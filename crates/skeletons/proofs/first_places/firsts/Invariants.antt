@@ -9,6 +9,6 @@ use Rattle.skeletons.proofs.first_places.firsts.Given as goal
 -- the first places so far, whose names were seen
 abbrev pub invariant-loop-spot : goal.invariant-loop-spot
 invariant-loop-spot l = record {
-      found : l.found ≡ firsts l.yielded;
-      seen : (name : ModName) → contains same_name l.seen name ≡ among l.found name;
-    }
+  found : l.found ≡ firsts l.yielded;
+  seen : (name : ModName) → contains same_name l.seen name ≡ among l.found name;
+}

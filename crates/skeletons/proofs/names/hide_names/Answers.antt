@@ -26,7 +26,7 @@ loop-at-preserved c =
     let place : at ≡ from + count = omega arith in
     let next : suc count ≡ at + 1 - from = omega arith in
     let old = ap (λ gone. get_or items at gone) c.take-name.ensures.value ∙ sym c.index_mut.ensures.value
-        ∙ sym c.take-name.ensures.value in
+    ∙ sym c.take-name.ensures.value in
     record {
       counted = λ name.
           counted_hidden (count_in c.loop-at.counts) (count_in c.uncount.new.counts) items at c.take-name.result

@@ -1,6 +1,6 @@
 use Rattle.std.proofs.Common.{ap, sym, ◌∙◌, ◌+◌, ◌≡◌, arith, length, length-append, [], ◌∷◌}
-use Rattle.std.specs.FinMap.{empty, insert, from_entries}
-use Rattle.skeletons.specs.Skeletons.{position_cmp, placed}
+use Rattle.std.specs.FinMap.{empty, insert}
+use Rattle.skeletons.specs.Skeletons.{placed}
 use Rattle.skeletons.proofs.Placing.{position, put_position, placed_more}
 use Rattle.skeletons.proofs.places.by_place.Goals as goal
 

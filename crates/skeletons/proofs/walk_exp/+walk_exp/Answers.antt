@@ -1,7 +1,5 @@
 use Rattle.std.proofs.Common.{ap, ap₂, sym, ◌∙◌, ◌≡◌, ℕ, Bool}
 use Rattle.cm_base.specs.declared.record.Namespace.TheVariants as space
-use Rattle.skeletons.specs.declared.walk.Walk.{Walk}
-use Rattle.skeletons.specs.declared.walk.Mark.{Mark}
 use Rattle.skeletons.specs.Scopes.{name_use}
 use Rattle.skeletons.specs.Uses.{dec_brings, str_uses}
 use Rattle.skeletons.specs.Walks.{noted, declared, closed, shut}

@@ -19,11 +19,11 @@ invariant-walk_rules-loop-rule l =
 -- what is declared, and what is left
 abbrev pub invariant-walk_decs-loop-dec : goal.invariant-walk_decs-loop-dec
 invariant-walk_decs-loop-dec l = record {
-      walked : declared l.walk (sequence (map dec_brings (drop l.dec-index l.decs)))
-          ≡ declared l.fn.walk (sequence (map dec_brings l.fn.decs));
-      opens : (sequence (map dec_brings (drop l.dec-index l.decs))).opens || l.opens
-          ≡ (sequence (map dec_brings l.fn.decs)).opens;
-    }
+  walked : declared l.walk (sequence (map dec_brings (drop l.dec-index l.decs)))
+      ≡ declared l.fn.walk (sequence (map dec_brings l.fn.decs));
+  opens : (sequence (map dec_brings (drop l.dec-index l.decs))).opens || l.opens
+      ≡ (sequence (map dec_brings l.fn.decs)).opens;
+}
 
 -- what is noted, and the bindings that are left
 abbrev pub invariant-walk_strs-loop-bind : goal.invariant-walk_strs-loop-bind
