@@ -28,7 +28,8 @@ condition_some text cond p = ap whole_of (phrase_whole (condition 128) (lexemes_
 
 -- What was read whole is a condition.
 is_whole : (o : Out Lexeme Cond) (cond : Cond) → whole_of o ≡ Some cond → o ≡ Out.out (End.whole cond) []
-is_whole (Out.out (End.whole c) []) cond h = let same : c ≡ cond = cc in ap (λ (x : Cond). Out.out (End.whole x) []) same
+is_whole (Out.out (End.whole c) []) cond h =
+    let same : c ≡ cond = cc in ap (λ (x : Cond). Out.out (End.whole x) []) same
 is_whole (Out.out (End.whole c) (x ∷ xs)) cond h = absurd (cc)
 is_whole (Out.out End.refused rest) cond h = absurd (cc)
 is_whole (Out.out End.deep rest) cond h = absurd (cc)

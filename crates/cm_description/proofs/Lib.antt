@@ -5,3 +5,4 @@ pub mod TextLaws
 pub mod Deep
 pub mod LastTwo
 pub mod OneAnswer
+pub mod Asking

@@ -33,7 +33,8 @@ deep_reads g xs n d =
 deep_no_phrase : {L A : Type 0} (g : Grammar L A) (xs : List L) (n : ℕ) (a : A) → IsTooDeep g xs n
     → Phrase g xs None a → ⊥
 deep_no_phrase {L} {A} g xs n a d p =
-    let never : ◌≡◌ {A = End A} End.deep (End.whole a) = ap end_of (sym (deep_reads g xs n d) ∙ phrase_whole g xs a p) in cc
+    let never : ◌≡◌ {A = End A} End.deep (End.whole a) =
+    ap end_of (sym (deep_reads g xs n d) ∙ phrase_whole g xs a p) in cc
 
 deep_once : {L A : Type 0} (g : Grammar L A) (xs : List L) (n m : ℕ) → IsTooDeep g xs n → IsTooDeep g xs m → n ≡ m
 deep_once g xs n m d e =

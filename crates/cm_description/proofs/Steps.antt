@@ -33,7 +33,8 @@ failed t y true e h = absurd (cc)
 failed t y false e h = e
 
 -- where no token passes, none begins what follows
-none_begins : (t : Token → Bool) (xs : List Token) → that t (head_or xs None) ≡ None → begins t (head_or xs None) ≡ false
+none_begins : (t : Token → Bool) (xs : List Token) → that t (head_or xs None) ≡ None
+    → begins t (head_or xs None) ≡ false
 none_begins t [] h = refl
 none_begins t (y ∷ xs) h = failed t y (t y) refl h
 
@@ -110,7 +111,8 @@ mark_stop kind xs h = on_none (has_kind kind) (λ x. Grammar.pure x) Grammar.ref
 pub exports_go : (file text : List ℕ) (found : Exports) (x : Token) (xs : List Token)
     → that (begins_export text) (head_or xs None) ≡ Some x
     → read (exports file text found) xs
-    ≡ chain (read (export_step file text found x (space_at text x)) (drop 1 xs)) (λ b rest. read (exports file text b) rest)
+    ≡ chain (read (export_step file text found x (space_at text x)) (drop 1 xs))
+    (λ b rest. read (exports file text b) rest)
 unfolding exports
 exports_go file text found x xs h =
     many_that (begins_export text) (λ found x. export_step file text found x (space_at text x)) found x xs h
@@ -174,7 +176,8 @@ pub maybe_options_none : (text : List ℕ) (xs : List Token)
     → read (maybe_options text) xs ≡ Out.out (End.whole []) xs
 unfolding maybe_options
 maybe_options_none text xs h =
-    on_none (has_kind kind.Open) (λ _. some_options text) (Grammar.pure []) xs (none_that (that (has_kind kind.Open) (head_or xs None)) h)
+    on_none (has_kind kind.Open) (λ _. some_options text) (Grammar.pure []) xs
+    (none_that (that (has_kind kind.Open) (head_or xs None)) h)
 
 pub maybe_class_go : (text : List ℕ) (xs : List Token) → is_some (that (has_kind kind.Colon) (head_or xs None)) ≡ true
     → read (maybe_class text) xs ≡ read (class text) (drop 1 xs)
@@ -188,7 +191,8 @@ pub maybe_class_none : (text : List ℕ) (xs : List Token)
     → read (maybe_class text) xs ≡ Out.out (End.whole unclassed) xs
 unfolding maybe_class
 maybe_class_none text xs h =
-    on_none (has_kind kind.Colon) (λ _. class text) (Grammar.pure unclassed) xs (none_that (that (has_kind kind.Colon) (head_or xs None)) h)
+    on_none (has_kind kind.Colon) (λ _. class text) (Grammar.pure unclassed) xs
+    (none_that (that (has_kind kind.Colon) (head_or xs None)) h)
 
 pub ruleset word_steps = (word_go, word_stop)
 

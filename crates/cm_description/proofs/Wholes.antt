@@ -56,11 +56,13 @@ module _ (file text : List ℕ) where
   refused n rest diag left is e = inl (n, is, e ∙ ap (λ (l : List Token). stopped l) (sym left))
 
   -- what is left stands behind what was taken
-  left_is : (e : End Description) (rest : List Token) → found ≡ Out.out e rest → drop (length xs - length rest) xs ≡ rest
+  left_is : (e : End Description) (rest : List Token) → found ≡ Out.out e rest
+      → drop (length xs - length rest) xs ≡ rest
   left_is e rest h =
       let one = sound (description file text) xs e rest h in dropped xs one.0 rest one.1
 
-  pub is_more : (d : Description) (rest : List Token) (wrong : Option Point) (diag : Diag) → (scan_of text).wrong ≡ wrong
+  pub is_more : (d : Description) (rest : List Token) (wrong : Option Point) (diag : Diag)
+      → (scan_of text).wrong ≡ wrong
       → found ≡ Out.out (End.whole d) rest → is_end rest wrong ≡ false → diag ≡ stopped rest
       → IsNoDescription file text diag
   is_more d [] None diag w h e is = absurd (cc)
@@ -137,7 +139,10 @@ module _ (file text : List ℕ) where
       → IsDescription file text d → Gives r (checked file (scan_of text).tokens d) → ReadsDescription file text r
   checked_answer d (Ok e) small is gives =
       let same : d ≡ e = passed (passes_limits d) (lacks_exports d) (whole_file 12 file)
-      (refusal_at 19 (first_place file (scan_of text).tokens)) d e gives in
-      (small, subst (IsDescription file text) same is, subst (λ (x : Description). checked file (scan_of text).tokens x ≡ Ok e) same gives)
+      (refusal_at 19 (first_place file (scan_of text).tokens)) d e gives in (
+        small,
+        subst (IsDescription file text) same is,
+        subst (λ (x : Description). checked file (scan_of text).tokens x ≡ Ok e) same gives,
+      )
   checked_answer d (Err (fault.Diag diag)) small is gives = inr (inr (small, d, is, gives))
   checked_answer d (Err fault.NoMemory) small is gives = tt

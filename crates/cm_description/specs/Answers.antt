@@ -128,7 +128,8 @@ IsRefusal file text diag =
     ⊎ ((length text ≤ 65536) × (d : Description) × IsDescription file text d
     × (checked file (scan_of text).tokens d ≡ Err diag)))
 
--- The text is within its size and a description within its limits; or it is refused. Nothing is said for want of memory.
+-- The text is within its size and a description within its limits; or it is refused. Nothing is said for want of
+-- memory.
 abbrev pub ReadsDescription : List ℕ → List ℕ → Result Description Fault → Type 0
 ReadsDescription file text (Ok d) =
     (length text ≤ 65536) × IsDescription file text d × (checked file (scan_of text).tokens d ≡ Ok d)

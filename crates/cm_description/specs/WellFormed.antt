@@ -26,7 +26,7 @@ pub record IsGroupWithin (groups units : ℕ) (group : Group) : Type 0 where
   pub items : All (λ line. IsItemBelow (length group.entries) line.body) group.export_lines
   pub thawed : AreBelow units group.thawed
 
--- how often a number stands in a list
+-- what stands at a place of a list
 abbrev pub StandsAt : {A : Type 0} → List A → ℕ → A → Type 0
 StandsAt xs at x = slice_get xs at ≡ Some x
 

@@ -26,7 +26,8 @@ place file x = record { file = file; line = x.line; col = x.col }
 -- the word that begins a library, as it is, with a capital or in capitals
 unfoldable pub is_library_word : List ℕ → Bool
 is_library_word word =
-    pointwise nat_eq word (codes "library") || (pointwise nat_eq word (codes "Library") || pointwise nat_eq word (codes "LIBRARY"))
+    pointwise nat_eq word (codes "library") || (pointwise nat_eq word (codes "Library")
+    || pointwise nat_eq word (codes "LIBRARY"))
 
 -- an alphanumeric identifier: a letter, and then letters, digits, `_` and primes
 abbrev pub is_identifier : List ℕ → Bool

@@ -18,7 +18,8 @@ returns-in_err-found c =
     let broken = rw c.take.ensures at c.in_err-found.ensures in
     passed_on (exports file text no_exports) c.args.cursor.now.rest.now c.from_residual.result
     c.in_err-found.field-0.0 c.export_step.new.cursor.rest.now c.from_residual.ensures.1
-    (round_broken _ _ _ c.in_err-found.field-0.0 c.export_step.new.cursor.rest.now (sym c.loop-token.invariant ∙ step) broken)
+    (round_broken _ _ _ c.in_err-found.field-0.0 c.export_step.new.cursor.rest.now
+    (sym c.loop-token.invariant ∙ step) broken)
 
 pub loop-token-preserved : goal.loop-token-preserved
 loop-token-preserved c =

@@ -12,7 +12,8 @@ returns-then-as_bytes-gt65536 c =
 pub returns-in-Ok : goal.returns-in-Ok
 returns-in-Ok c =
     let small : length c.args.text.now ≤ 65536 = grind (arith, common_steps) in
-    let is = subst (λ (t : List ℕ). IsWhole c.args.file.now t (Ok c.in-Ok.description)) c.as_bytes-2.ensures c.in-Ok.ensures in
+    let is =
+    subst (λ (t : List ℕ). IsWhole c.args.file.now t (Ok c.in-Ok.description)) c.as_bytes-2.ensures c.in-Ok.ensures in
     let gives = rw (c.as_slice.ensures, c.in_ok-scan.ensures.exact) at c.checked.ensures in
     checked_answer c.args.file.now c.args.text.now c.in-Ok.description c.checked.result small is gives
 
