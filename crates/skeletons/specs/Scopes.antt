@@ -33,7 +33,7 @@ binds_it name (Some other) = same_name other name
 abbrev pub is_bound : List (Option ModName) → ModName → Bool
 is_bound bound name = list_any (binds_it name) bound
 
--- a structure in the scope of an `open` or an `include` may come from there; signatures and functors can't
+-- what is opened or included before may hold a structure of that name; it holds no signature and no functor
 abbrev pub is_sure : Namespace → Bool → Bool
 is_sure space.Structure opened = not opened
 is_sure space.Signature opened = true
