@@ -9,6 +9,9 @@ fn build_again(alloc: Global, files: &mut MemFolder) -> Result<usize, Fail> {
     files.fail(List::new(alloc));
     let mut out = MemSink::new(alloc);
     let status = build(alloc, "main.cm", files, &mut out)?;
+    if status == Status::NoMemory {
+        return Err("the next build wants memory")?;
+    }
     if status != Status::Ok || out.bytes() != REPORT {
         return Err("the next build")?;
     }
