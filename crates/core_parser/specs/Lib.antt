@@ -1,0 +1,6 @@
+pub mod Words
+pub mod Fixities
+pub mod Sized
+pub mod Reads
+pub mod Types
+pub mod Answers

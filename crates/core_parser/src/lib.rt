@@ -1,0 +1,14 @@
+//! The core of Standard ML, read from its lexemes: types, patterns, expressions and declarations, as they are written.
+#![tactic(auto)]
+
+mod constructors;
+mod fixity;
+mod lexeme;
+mod lexemes;
+mod starts;
+mod stop;
+mod tall;
+mod types;
+mod words;
+
+pub use words::Word;
