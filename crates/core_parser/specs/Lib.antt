@@ -4,3 +4,6 @@ pub mod Sized
 pub mod Reads
 pub mod Types
 pub mod Answers
+pub mod Level
+pub mod Bindings
+pub mod ReadsDec

@@ -42,7 +42,7 @@ pub fn at(lexeme: &Lexeme) -> At
 
 /// Whether a name is `*`.
 #[tactic(auto, unfolding(crate::specs::Words::is_star_text))]
-fn is_star_text(text: &Text) -> bool
+pub fn is_star_text(text: &Text) -> bool
     ensures { result ≡ is_star_text text.now }
 {
     text.as_bytes() == b"*".as_slice()

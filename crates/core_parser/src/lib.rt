@@ -1,8 +1,10 @@
 //! The core of Standard ML, read from its lexemes: types, patterns, expressions and declarations, as they are written.
 #![tactic(auto)]
 
+mod binders;
 mod constructors;
 mod fixity;
+mod infix_decs;
 mod lexeme;
 mod lexemes;
 mod starts;
