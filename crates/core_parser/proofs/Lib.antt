@@ -1,2 +1,3 @@
 pub mod Steps
 pub mod TypeSteps
+pub mod PatSteps

@@ -1,10 +1,17 @@
 //! The core of Standard ML, read from its lexemes: types, patterns, expressions and declarations, as they are written.
 #![tactic(auto)]
 
+mod atpats;
+mod constraints;
 mod constructors;
 mod fixity;
+mod layers;
 mod lexeme;
 mod lexemes;
+mod operand;
+mod pat_fields;
+mod pat_starts;
+mod patterns;
 mod starts;
 mod stop;
 mod tall;
