@@ -1,3 +1,4 @@
 pub mod Steps
 pub mod TypeSteps
 pub mod BindingSteps
+pub mod PatSteps

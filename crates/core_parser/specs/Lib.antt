@@ -3,6 +3,7 @@ pub mod Fixities
 pub mod Sized
 pub mod Reads
 pub mod Types
+pub mod Patterns
 pub mod Answers
 pub mod Level
 pub mod Bindings
