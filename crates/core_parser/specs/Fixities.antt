@@ -1,6 +1,6 @@
 -- Infix status as a value: which names are infix at a place, and which operators may stand together in a run (The
 -- Definition of Standard ML, section 2.6).
-use Rattle.std.specs.Prelude.{ℕ, ◌==◌, ◌&&◌, ◌++◌, Bool, true, false, not, Option, None, Some, is_some, List, [], ◌∷◌, take, drop, nat_eq, nat_lt, codes, if◌then◌else◌, filter}
+use Rattle.std.specs.Prelude.{ℕ, ◌==◌, ◌&&◌, ◌++◌, ◌-◌, Bool, true, false, not, Option, None, Some, is_some, List, [], ◌∷◌, take, drop, nat_eq, nat_lt, codes, if◌then◌else◌, filter}
 use Rattle.std.specs.List.{list_any}
 use lib.Pointwise.{pointwise}
 use Rattle.sml_lexer.specs.declared.lexeme.Lexeme.{Lexeme}
@@ -34,9 +34,10 @@ initial =
     ∷ entry false 4 (codes "<") ∷ entry false 4 (codes "<=")
     ∷ entry false 3 (codes ":=") ∷ entry false 3 (codes "o") ∷ entry false 0 (codes "before") ∷ []
 
--- What holds after a scope: what held before it, and of what was declared in it the part after so many entries.
+-- What holds after a scope that began behind `start` entries: what held before it, and of what was declared in it the
+-- part behind `kept` entries.
 abbrev pub left_over : ℕ → ℕ → Fixities → Fixities
-left_over start kept fs = take start fs ++ drop kept fs
+left_over start kept fs = take start fs ++ drop (kept - start) (drop start fs)
 
 -- ---- operators of a run
 

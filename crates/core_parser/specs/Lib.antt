@@ -8,3 +8,4 @@ pub mod Answers
 pub mod Level
 pub mod Bindings
 pub mod ReadsDec
+pub mod Cursors

@@ -1,7 +1,7 @@
 //! Infix status: which names are infix at a place, and which operators may stand together.
 
-ghost use Rattle.std.specs.Prelude.{◌≡◌, ◌++◌, ◌∷◌, [], ◌≤◌, length, take, IfOk, OnOk};
-ghost use Rattle.core_parser.specs.Fixities.{fixity_of, operator, joining, clashes, clash, open_after, differ};
+ghost use Rattle.std.specs.Prelude.{◌≡◌, ◌++◌, ◌∷◌, ◌-◌, [], ◌≤◌, length, take, drop, IfOk, OnOk};
+ghost use Rattle.core_parser.specs.Fixities.{fixity_of, entry, initial, left_over, operator, joining, clashes, clash, open_after, differ};
 
 use cm_base::{List, NoMemory, Text};
 use sml_lexer::{Lexeme, LexemeKind};
@@ -19,7 +19,7 @@ pub struct Status {
 /// What was declared of names up to a place, in the order of the text.
 #[derive(Drop)]
 pub struct Fixities {
-    entries: List<Status>,
+    entries: Vec<Status>,
 }
 
 impl Model for Fixities {
@@ -28,7 +28,7 @@ impl Model for Fixities {
 
     ghost Value = { List Status };
 
-    ghost view = { λ f. f.entries };
+    ghost view = { λ f. f.entries.items };
 }
 
 impl Fixities {
@@ -37,7 +37,7 @@ impl Fixities {
         ensures { result ≡ [] }
     {
         Fixities {
-            entries: List::new(alloc),
+            entries: Vec::new(alloc),
         }
     }
 
@@ -66,8 +66,93 @@ impl Fixities {
     pub fn add(&mut self, status: Status) -> Result<(), NoMemory>
         ensures { OnOk result (self.new ≡ self.old ++ status ∷ []) }
     {
-        self.entries.add(status)
+        self.entries.push(status)?;
+        Ok(())
     }
+
+    /// Lets what was declared behind so many entries end.
+    pub fn truncate(&mut self, len: usize)
+        ensures { self.new ≡ take len self.old }
+    {
+        self.entries.truncate(len);
+    }
+
+    /// Ends a scope that began behind `start` entries: of what was declared in it the part behind `kept` entries holds
+    /// on.
+    #[tactic(auto, using(crate::proofs::FixitySteps::keep_steps))]
+    pub fn keep(&mut self, start: usize, kept: usize)
+        ensures { self.new ≡ left_over start kept self.old }
+    {
+        let len = self.entries.len();
+        if kept <= start {
+            return;
+        }
+        if len <= start {
+            return;
+        }
+        if len <= kept {
+            self.entries.truncate(start);
+            return;
+        }
+        move_back(self.entries.as_mut_slice(), start, kept - start);
+        self.entries.truncate(len - (kept - start));
+    }
+
+    /// What holds at the beginning of a source: the directives of the initial basis.
+    #[tactic(auto, unfolding(crate::specs::Fixities::initial))]
+    pub fn initial(alloc: Global) -> Result<Fixities, NoMemory>
+        ensures { IfOk result (λ fixities. fixities ≡ initial) }
+    {
+        let mut fixities = Fixities {
+            entries: Vec::new(alloc),
+        };
+        fixities.declare(alloc, false, 7, b"/")?;
+        fixities.declare(alloc, false, 7, b"*")?;
+        fixities.declare(alloc, false, 7, b"div")?;
+        fixities.declare(alloc, false, 7, b"mod")?;
+        fixities.declare(alloc, false, 6, b"+")?;
+        fixities.declare(alloc, false, 6, b"-")?;
+        fixities.declare(alloc, false, 6, b"^")?;
+        fixities.declare(alloc, true, 5, b"::")?;
+        fixities.declare(alloc, true, 5, b"@")?;
+        fixities.declare(alloc, false, 4, b"=")?;
+        fixities.declare(alloc, false, 4, b"<>")?;
+        fixities.declare(alloc, false, 4, b">")?;
+        fixities.declare(alloc, false, 4, b">=")?;
+        fixities.declare(alloc, false, 4, b"<")?;
+        fixities.declare(alloc, false, 4, b"<=")?;
+        fixities.declare(alloc, false, 3, b":=")?;
+        fixities.declare(alloc, false, 3, b"o")?;
+        fixities.declare(alloc, false, 0, b"before")?;
+        Ok(fixities)
+    }
+
+    /// Adds an infix name.
+    fn declare(
+        &mut self,
+        alloc: Global,
+        right: bool,
+        strength: u8,
+        name: &[u8],
+    ) -> Result<(), NoMemory>
+        ensures { OnOk result (self.new ≡ self.old ++ entry right strength name.now ∷ []) }
+    {
+        self.add(Status {
+            name: Text::from_bytes(alloc, name)?,
+            fixity: Some(Fixity { strength, right }),
+        })
+    }
+}
+
+/// Moves so many of the entries from a place on behind all others.
+fn move_back(entries: &mut [Status], start: usize, ending: usize)
+    requires within { start ≤ length entries.old }
+    requires some { ending ≤ length entries.old - start }
+    ensures { entries.new
+        ≡ take start entries.old ++ (drop ending (drop start entries.old) ++ take ending (drop start entries.old)) }
+{
+    let (_, declared) = entries.split_at_mut(start);
+    declared.rotate_left(ending);
 }
 
 /// Whether one is so and the other isn't.
