@@ -1,0 +1,6 @@
+pub mod Steps
+pub mod TypeSteps
+pub mod BindingSteps
+pub mod PatSteps
+pub mod CursorSteps
+pub mod FixitySteps

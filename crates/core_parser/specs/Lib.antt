@@ -1,0 +1,11 @@
+pub mod Words
+pub mod Fixities
+pub mod Sized
+pub mod Reads
+pub mod Types
+pub mod Patterns
+pub mod Answers
+pub mod Level
+pub mod Bindings
+pub mod ReadsDec
+pub mod Cursors

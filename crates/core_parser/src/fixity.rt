@@ -1,0 +1,215 @@
+//! Infix status: which names are infix at a place, and which operators may stand together.
+
+ghost use Rattle.std.specs.Prelude.{◌≡◌, ◌++◌, ◌∷◌, ◌-◌, [], ◌≤◌, length, take, drop, IfOk, OnOk};
+ghost use Rattle.core_parser.specs.Fixities.{fixity_of, entry, initial, left_over, operator, joining, clashes, clash, open_after, differ};
+
+use cm_base::{List, NoMemory, Text};
+use sml_lexer::{Lexeme, LexemeKind};
+use sml_syntax::Fixity;
+use std::alloc::Global;
+use std::marker::Model;
+
+/// The infix status of a name: how it binds as an operator, or that it isn't one.
+#[derive(Drop)]
+pub struct Status {
+    pub name: Text,
+    pub fixity: Option<Fixity>,
+}
+
+/// What was declared of names up to a place, in the order of the text.
+#[derive(Drop)]
+pub struct Fixities {
+    entries: Vec<Status>,
+}
+
+impl Model for Fixities {
+    ghost use Rattle.std.specs.Prelude.{List};
+    ghost use Rattle.core_parser.specs.declared.fixity.Status.{Status};
+
+    ghost Value = { List Status };
+
+    ghost view = { λ f. f.entries.items };
+}
+
+impl Fixities {
+    /// No entry. It takes no memory.
+    pub fn new(alloc: Global) -> Fixities
+        ensures { result ≡ [] }
+    {
+        Fixities {
+            entries: Vec::new(alloc),
+        }
+    }
+
+    /// How the name binds as an infix operator, if it is one: its last entry says so.
+    #[tactic(auto, unfolding(crate::specs::Fixities::fixity_of))]
+    pub fn find(&self, name: &Text) -> Option<Fixity>
+        ensures { result ≡ fixity_of self.now name.now }
+    {
+        let mut held = None;
+        for status in self.entries.as_slice() {
+            if status.name.as_bytes() == name.as_bytes() {
+                held = status.fixity;
+            }
+        }
+        held
+    }
+
+    /// How many entries there are.
+    pub fn len(&self) -> usize
+        ensures { result ≡ length self.now }
+    {
+        self.entries.len()
+    }
+
+    /// Adds an entry, and leaves all as it was for want of memory.
+    pub fn add(&mut self, status: Status) -> Result<(), NoMemory>
+        ensures { OnOk result (self.new ≡ self.old ++ status ∷ []) }
+    {
+        self.entries.push(status)?;
+        Ok(())
+    }
+
+    /// Lets what was declared behind so many entries end.
+    pub fn truncate(&mut self, len: usize)
+        ensures { self.new ≡ take len self.old }
+    {
+        self.entries.truncate(len);
+    }
+
+    /// Ends a scope that began behind `start` entries: of what was declared in it the part behind `kept` entries holds
+    /// on.
+    #[tactic(auto, using(crate::proofs::FixitySteps::keep_steps))]
+    pub fn keep(&mut self, start: usize, kept: usize)
+        ensures { self.new ≡ left_over start kept self.old }
+    {
+        let len = self.entries.len();
+        if kept <= start {
+            return;
+        }
+        if len <= start {
+            return;
+        }
+        if len <= kept {
+            self.entries.truncate(start);
+            return;
+        }
+        move_back(self.entries.as_mut_slice(), start, kept - start);
+        self.entries.truncate(len - (kept - start));
+    }
+
+    /// What holds at the beginning of a source: the directives of the initial basis.
+    #[tactic(auto, unfolding(crate::specs::Fixities::initial))]
+    pub fn initial(alloc: Global) -> Result<Fixities, NoMemory>
+        ensures { IfOk result (λ fixities. fixities ≡ initial) }
+    {
+        let mut fixities = Fixities {
+            entries: Vec::new(alloc),
+        };
+        fixities.declare(alloc, false, 7, b"/")?;
+        fixities.declare(alloc, false, 7, b"*")?;
+        fixities.declare(alloc, false, 7, b"div")?;
+        fixities.declare(alloc, false, 7, b"mod")?;
+        fixities.declare(alloc, false, 6, b"+")?;
+        fixities.declare(alloc, false, 6, b"-")?;
+        fixities.declare(alloc, false, 6, b"^")?;
+        fixities.declare(alloc, true, 5, b"::")?;
+        fixities.declare(alloc, true, 5, b"@")?;
+        fixities.declare(alloc, false, 4, b"=")?;
+        fixities.declare(alloc, false, 4, b"<>")?;
+        fixities.declare(alloc, false, 4, b">")?;
+        fixities.declare(alloc, false, 4, b">=")?;
+        fixities.declare(alloc, false, 4, b"<")?;
+        fixities.declare(alloc, false, 4, b"<=")?;
+        fixities.declare(alloc, false, 3, b":=")?;
+        fixities.declare(alloc, false, 3, b"o")?;
+        fixities.declare(alloc, false, 0, b"before")?;
+        Ok(fixities)
+    }
+
+    /// Adds an infix name.
+    fn declare(
+        &mut self,
+        alloc: Global,
+        right: bool,
+        strength: u8,
+        name: &[u8],
+    ) -> Result<(), NoMemory>
+        ensures { OnOk result (self.new ≡ self.old ++ entry right strength name.now ∷ []) }
+    {
+        self.add(Status {
+            name: Text::from_bytes(alloc, name)?,
+            fixity: Some(Fixity { strength, right }),
+        })
+    }
+}
+
+/// Moves so many of the entries from a place on behind all others.
+fn move_back(entries: &mut [Status], start: usize, ending: usize)
+    requires within { start ≤ length entries.old }
+    requires some { ending ≤ length entries.old - start }
+    ensures { entries.new
+        ≡ take start entries.old ++ (drop ending (drop start entries.old) ++ take ending (drop start entries.old)) }
+{
+    let (_, declared) = entries.split_at_mut(start);
+    declared.rotate_left(ending);
+}
+
+/// Whether one is so and the other isn't.
+fn differ(one: bool, other: bool) -> bool
+    ensures { result ≡ differ one other }
+{
+    if one { !other } else { other }
+}
+
+/// Whether two operators bind equally strongly, from different sides.
+fn clashes(f: Fixity, op: Fixity) -> bool
+    ensures { result ≡ clashes f op }
+{
+    op.strength == f.strength && differ(op.right, f.right)
+}
+
+/// Whether an operator may not stand behind those of a run, of which the open ones are given.
+#[tactic(auto, unfolding(crate::specs::Fixities::clash))]
+pub fn clash(f: Fixity, ops: &[Fixity]) -> bool
+    ensures { result ≡ clash f ops.now }
+{
+    ops.iter().any(|op| clashes(f, *op))
+}
+
+/// Of the operators those behind which only stronger ones stand, and one more.
+pub fn open_after(alloc: Global, ops: &List<Fixity>, f: Fixity) -> Result<List<Fixity>, NoMemory>
+    ensures { IfOk result (λ all. all ≡ open_after ops.now f) }
+{
+    let mut all = List::new(alloc);
+    for op in ops.as_slice() {
+        if op.strength < f.strength {
+            all.add(*op)?;
+        }
+    }
+    all.add(f)?;
+    Ok(all)
+}
+
+/// How a lexeme binds as an infix operator, if it is one.
+pub fn operator(fixities: &Fixities, lexeme: &Lexeme) -> Option<Fixity>
+    ensures { result ≡ operator fixities.now lexeme.now }
+{
+    match &lexeme.kind {
+        LexemeKind::Name(parts) => match parts.as_slice() {
+            [name] => fixities.find(name),
+            _ => None,
+        },
+        _ => None,
+    }
+}
+
+/// The operator that a run goes on with, if it is one and doesn't clash with those before it.
+pub fn joining(fixity: Option<Fixity>, ops: &[Fixity]) -> Option<Fixity>
+    ensures { result ≡ joining fixity ops.now }
+{
+    match fixity {
+        Some(f) => { if clash(f, ops) { None } else { Some(f) } }
+        None => None,
+    }
+}
