@@ -1,0 +1,4 @@
+//! Units as they are written become bare ones: the derived forms of Standard ML go.
+#![tactic(auto)]
+
+mod ty;

@@ -1,0 +1,102 @@
+//! Types, and the bindings that are made of names and types alone.
+
+ghost use Rattle.std.specs.Prelude.{◌≡◌, IfOk, map};
+ghost use Rattle.std.specs.Option.{option_map};
+ghost use Rattle.derived_forms.specs.Types.{label_of, ty_fields_from, bare_ty, bare_ty_field};
+
+use cm_base::{Boxed, List, NoMemory, Text};
+use sml_syntax::{At, FullTy, FullTyField, Name, Ty, TyField};
+use std::alloc::Global;
+
+/// The label of a tuple's part, which is its number from 1.
+pub fn label(alloc: Global, at: At, number: usize) -> Result<Name, NoMemory>
+    ensures { IfOk result (λ name. name ≡ label_of at number) }
+{
+    let digits = number.to_string(alloc)?;
+    Ok(Name {
+        text: Text::from_bytes(alloc, digits.as_bytes())?,
+        line: at.line,
+        col: at.col,
+    })
+}
+
+/// A type without derived forms.
+#[cycle(to_ty)]
+#[tactic(auto, using(crate::proofs::Levels::ty_levels))]
+pub fn to_ty(alloc: Global, ty: &FullTy) -> Result<Ty, NoMemory>
+    ensures { IfOk result (λ bare. bare ≡ bare_ty ty.now) }
+{
+    match ty {
+        FullTy::Var(name, at) => Ok(Ty::Var(name.clone()?, *at)),
+        FullTy::Record(fields, at) => Ok(Ty::Record(to_ty_fields(alloc, fields.as_slice())?, *at)),
+        FullTy::Con(long, at) => Ok(Ty::Named(List::new(alloc), long.clone()?, *at)),
+        FullTy::Applied(arg, long, at) => {
+            let mut args = List::new(alloc);
+            args.add(to_ty(alloc, arg.get())?)?;
+            Ok(Ty::Named(args, long.clone()?, *at))
+        }
+        FullTy::AppliedAll(args, long, at) => {
+            Ok(Ty::Named(to_tys(alloc, args.as_slice())?, long.clone()?, *at))
+        }
+        FullTy::Tuple(parts, at) => Ok(Ty::Record(to_ty_tuple(alloc, *at, parts.as_slice())?, *at)),
+        FullTy::Arrow(from, to, at) => {
+            let from = Boxed::new(alloc, to_ty(alloc, from.get())?)?;
+            let to = Boxed::new(alloc, to_ty(alloc, to.get())?)?;
+            Ok(Ty::Arrow(from, to, *at))
+        }
+        FullTy::Paren(inner, _) => to_ty(alloc, inner.get()),
+    }
+}
+
+#[cycle(to_ty)]
+fn to_tys(alloc: Global, tys: &[FullTy]) -> Result<List<Ty>, NoMemory>
+    ensures { IfOk result (λ bare. bare ≡ map bare_ty tys.now) }
+{
+    let mut made = List::new(alloc);
+    for ty in tys {
+        made.add(to_ty(alloc, ty)?)?;
+    }
+    Ok(made)
+}
+
+#[cycle(to_ty)]
+#[tactic(auto, using(crate::proofs::Levels::ty_levels))]
+fn to_ty_fields(alloc: Global, fields: &[FullTyField]) -> Result<List<TyField>, NoMemory>
+    ensures { IfOk result (λ bare. bare ≡ map bare_ty_field fields.now) }
+{
+    let mut made = List::new(alloc);
+    for field in fields {
+        made.add(TyField {
+            label: field.label.clone()?,
+            ty: to_ty(alloc, &field.ty)?,
+        })?;
+    }
+    Ok(made)
+}
+
+/// The fields of a tuple type.
+#[cycle(to_ty)]
+fn to_ty_tuple(alloc: Global, at: At, parts: &[FullTy]) -> Result<List<TyField>, NoMemory>
+    ensures { IfOk result (λ bare. bare ≡ ty_fields_from at 1 (map bare_ty parts.now)) }
+{
+    let mut made = List::new(alloc);
+    let mut number = 1;
+    for part in parts {
+        made.add(TyField {
+            label: label(alloc, at, number)?,
+            ty: to_ty(alloc, part)?,
+        })?;
+        number += 1;
+    }
+    Ok(made)
+}
+
+/// The type of what may have one.
+pub fn to_optional_ty(alloc: Global, ty: &Option<FullTy>) -> Result<Option<Ty>, NoMemory>
+    ensures { IfOk result (λ bare. bare ≡ option_map bare_ty ty.now) }
+{
+    match ty {
+        None => Ok(None),
+        Some(ty) => Ok(Some(to_ty(alloc, ty)?)),
+    }
+}
