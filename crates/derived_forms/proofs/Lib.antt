@@ -1,1 +1,4 @@
+pub mod Bound
 pub mod Levels
+pub mod Lists
+pub mod PatLevels

@@ -16,6 +16,7 @@ use Rattle.sml_syntax.specs.declared.full_ty.FullExBody.{FullExBody}
 use Rattle.sml_syntax.specs.declared.full_ty.FullExBody.TheVariants as full
 use Rattle.sml_syntax.specs.declared.full_ty.FullExBind.{FullExBind}
 use Rattle.sml_syntax.specs.declared.full_ty.FullValDesc.{FullValDesc}
+use Rattle.sml_syntax.specs.declared.full_ty.FullTypDesc.{FullTypDesc}
 use Rattle.sml_syntax.specs.declared.ty.Ty.{Ty}
 use Rattle.sml_syntax.specs.declared.ty.Ty.TheVariants as ty
 use Rattle.sml_syntax.specs.declared.ty.TyField.{TyField, roll-TyField}
@@ -26,6 +27,7 @@ use Rattle.sml_syntax.specs.declared.ty.ExBody.{ExBody}
 use Rattle.sml_syntax.specs.declared.ty.ExBody.TheVariants as bare
 use Rattle.sml_syntax.specs.declared.ty.ExBind.{ExBind}
 use Rattle.sml_syntax.specs.declared.ty.ValDesc.{ValDesc}
+use Rattle.sml_syntax.specs.declared.ty.TypDesc.{TypDesc}
 
 -- the label of a tuple's part, which is its number from 1, and stands where the tuple stands
 abbrev pub label_of : At → ℕ → Name
@@ -80,3 +82,7 @@ bare_ex_bind bind = record { name = bind.name.name; body = bare_ex_body bind.bod
 
 abbrev pub bare_val_desc : FullValDesc → ValDesc
 bare_val_desc desc = record { name = desc.name; ty = bare_ty desc.ty }
+
+-- a type of a specification, without what it stands for
+abbrev pub plain_desc : FullTypDesc → TypDesc
+plain_desc desc = record { tyvars = desc.tyvars; name = desc.name }

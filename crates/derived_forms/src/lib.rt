@@ -1,4 +1,9 @@
 //! Units as they are written become bare ones: the derived forms of Standard ML go.
 #![tactic(auto)]
 
+mod bare;
+mod bind;
+mod name;
+mod pat;
+mod run;
 mod ty;

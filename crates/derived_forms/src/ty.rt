@@ -2,23 +2,12 @@
 
 ghost use Rattle.std.specs.Prelude.{◌≡◌, IfOk, map};
 ghost use Rattle.std.specs.Option.{option_map};
-ghost use Rattle.derived_forms.specs.Types.{label_of, ty_fields_from, bare_ty, bare_ty_field};
+ghost use Rattle.derived_forms.specs.Types.{ty_fields_from, bare_ty, bare_ty_field};
 
-use cm_base::{Boxed, List, NoMemory, Text};
-use sml_syntax::{At, FullTy, FullTyField, Name, Ty, TyField};
+use crate::name::{copy_long, copy_name, label};
+use cm_base::{Boxed, List, NoMemory};
+use sml_syntax::{At, FullTy, FullTyField, Ty, TyField};
 use std::alloc::Global;
-
-/// The label of a tuple's part, which is its number from 1.
-pub fn label(alloc: Global, at: At, number: usize) -> Result<Name, NoMemory>
-    ensures { IfOk result (λ name. name ≡ label_of at number) }
-{
-    let digits = number.to_string(alloc)?;
-    Ok(Name {
-        text: Text::from_bytes(alloc, digits.as_bytes())?,
-        line: at.line,
-        col: at.col,
-    })
-}
 
 /// A type without derived forms.
 #[cycle(to_ty)]
@@ -27,16 +16,20 @@ pub fn to_ty(alloc: Global, ty: &FullTy) -> Result<Ty, NoMemory>
     ensures { IfOk result (λ bare. bare ≡ bare_ty ty.now) }
 {
     match ty {
-        FullTy::Var(name, at) => Ok(Ty::Var(name.clone()?, *at)),
+        FullTy::Var(name, at) => Ok(Ty::Var(copy_name(name)?, *at)),
         FullTy::Record(fields, at) => Ok(Ty::Record(to_ty_fields(alloc, fields.as_slice())?, *at)),
-        FullTy::Con(long, at) => Ok(Ty::Named(List::new(alloc), long.clone()?, *at)),
+        FullTy::Con(long, at) => Ok(Ty::Named(List::new(alloc), copy_long(alloc, long)?, *at)),
         FullTy::Applied(arg, long, at) => {
             let mut args = List::new(alloc);
             args.add(to_ty(alloc, arg.get())?)?;
-            Ok(Ty::Named(args, long.clone()?, *at))
+            Ok(Ty::Named(args, copy_long(alloc, long)?, *at))
         }
         FullTy::AppliedAll(args, long, at) => {
-            Ok(Ty::Named(to_tys(alloc, args.as_slice())?, long.clone()?, *at))
+            Ok(Ty::Named(
+                to_tys(alloc, args.as_slice())?,
+                copy_long(alloc, long)?,
+                *at,
+            ))
         }
         FullTy::Tuple(parts, at) => Ok(Ty::Record(to_ty_tuple(alloc, *at, parts.as_slice())?, *at)),
         FullTy::Arrow(from, to, at) => {
@@ -67,7 +60,7 @@ fn to_ty_fields(alloc: Global, fields: &[FullTyField]) -> Result<List<TyField>, 
     let mut made = List::new(alloc);
     for field in fields {
         made.add(TyField {
-            label: field.label.clone()?,
+            label: copy_name(&field.label)?,
             ty: to_ty(alloc, &field.ty)?,
         })?;
     }
