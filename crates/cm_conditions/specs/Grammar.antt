@@ -9,14 +9,17 @@
 --     atom       = number | name | "defined" "(" name ")" | "defined" "(" space module ")" | "(" condition ")"
 --
 -- Chains associate to the left. What stands in parentheses is one level down; those of `defined` are no level.
-use Rattle.std.specs.Prelude.{ℕ, zero, suc, if◌then◌else◌, ◌==◌, ◌&&◌, ◌||◌, Bool, true, false, not, Option, None, Some, is_some, List, nat_eq, codes}
+use Rattle.std.specs.Prelude.{ℕ, zero, suc, if◌then◌else◌, ◌==◌, ◌&&◌, ◌||◌, Bool, true, false, not, Option, None, Some, is_some, List, [], ◌∷◌, ◌++◌, nat_eq, codes}
 use Rattle.std.specs.List.{list_any}
 use Rattle.cm_base.specs.declared.record.Namespace.{Namespace}
 use Rattle.cm_base.specs.declared.record.Namespace.TheVariants as space
 use Rattle.grammars.specs.Grammar.{Grammar, expect, ◌>>=◌, ◌>>◌}
 use Rattle.grammars.specs.Grammar.Grammar.{pure, refuse, on, many, within}
-use Rattle.cm_conditions.specs.declared.cond.Cond.{Cond}
+use Rattle.cm_conditions.specs.declared.cond.Cond.{Cond, out-Cond}
+use Rattle.cm_conditions.specs.declared.cond.Cond.TheOpen.{Cond-F}
 use Rattle.cm_conditions.specs.declared.cond.Cond.TheVariants as c
+use Rattle.cm_conditions.specs.declared.cond.Step.{Step}
+use Rattle.cm_conditions.specs.declared.cond.Step.TheVariants as t
 use Rattle.cm_conditions.specs.declared.lexeme.Mark.{Mark}
 use Rattle.cm_conditions.specs.declared.lexeme.Mark.TheVariants as m
 use Rattle.cm_conditions.specs.declared.lexeme.Lexeme.{Lexeme}
@@ -105,21 +108,31 @@ comparison_of (x.Word word) = None
 comparison_of (x.Mark mark) = comparison_mark mark
 comparison_of x.Wrong = None
 
--- two sides with this operator between them
-abbrev pub joined : Operator → Cond → Cond → Cond
-joined o.Multiply left right = c.Multiply left right
-joined o.Div left right = c.Div left right
-joined o.Mod left right = c.Mod left right
-joined o.Add left right = c.Add left right
-joined o.Subtract left right = c.Subtract left right
-joined o.Equal left right = c.Equal left right
-joined o.Unequal left right = c.Unequal left right
-joined o.Less left right = c.Less left right
-joined o.LessEqual left right = c.LessEqual left right
-joined o.Greater left right = c.Greater left right
-joined o.GreaterEqual left right = c.GreaterEqual left right
-joined o.Andalso left right = c.Andalso left right
-joined o.Orelse left right = c.Orelse left right
+-- an operator with its right side
+abbrev pub step_of : Operator → Cond → Step
+step_of o.Multiply right = t.Multiply right
+step_of o.Div right = t.Div right
+step_of o.Mod right = t.Mod right
+step_of o.Add right = t.Add right
+step_of o.Subtract right = t.Subtract right
+step_of o.Equal right = t.Equal right
+step_of o.Unequal right = t.Unequal right
+step_of o.Less right = t.Less right
+step_of o.LessEqual right = t.LessEqual right
+step_of o.Greater right = t.Greater right
+step_of o.GreaterEqual right = t.GreaterEqual right
+step_of o.Andalso right = t.Andalso right
+step_of o.Orelse right = t.Orelse right
+
+-- one operator more behind a chain, or the first behind another condition
+abbrev pub extended : Cond-F Cond Step → Cond → Step → Cond
+extended (Cond-F.Chain first steps) left step = c.Chain first (steps ++ step ∷ [])
+extended _ left step = c.Chain left (step ∷ [])
+
+-- Two sides with this operator between them. The left side is all that the chain has so far, so that operators of one
+-- strength associate to the left; one that binds tighter has taken its part of the right side before.
+unfoldable pub joined : Operator → Cond → Cond → Cond
+joined op left right = extended (out-Cond left) left (step_of op right)
 
 abbrev pub joined_by : Option Operator → Cond → Cond → Cond
 joined_by None left right = left

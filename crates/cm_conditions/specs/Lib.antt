@@ -1,6 +1,11 @@
 pub mod Arithmetic
 pub mod Values
+pub mod Tables
 pub mod Grammar
 pub mod Seen
 pub mod Lexemes
 pub mod Answers
+pub mod Nesting
+pub mod Chosen
+pub mod Taking
+pub mod Splitting

@@ -10,7 +10,10 @@ use Rattle.cm_base.specs.declared.record.ModName.{ModName}
 use Rattle.cm_base.specs.declared.record.Namespace.{Namespace}
 use Rattle.cm_base.specs.declared.record.Namespace.TheVariants as space
 use Rattle.cm_conditions.specs.Arithmetic.{in_range, truth, div_of, mod_of}
-use Rattle.cm_conditions.specs.declared.cond.Cond.{Cond, Cond-F, fold-Cond}
+use Rattle.cm_conditions.specs.declared.cond.Cond.{Cond}
+use Rattle.cm_conditions.specs.declared.cond.Cond.TheOpen.{Cond-F, Step-F}
+use Rattle.cm_conditions.specs.declared.cond.Cond.TheFolds.{fold-Cond, fold-Step}
+use Rattle.cm_conditions.specs.declared.cond.Step.{Step}
 use lib.Pointwise.{pointwise}
 
 -- the value of the first definition of a name, if there is one
@@ -39,50 +42,55 @@ abbrev pub with : {A B : Type 0} → Option A → (A → Option B) → Option B
 with None f = None
 with (Some a) f = f a
 
--- both values, from the left to the right
-abbrev pub both : {A : Type 0} → (ℤ → ℤ → Option A) → Option ℤ → Option ℤ → Option A
-both f left right = with left (λ x. with right (λ y. f x y))
-
--- 1 or 0, by a test of both values
-abbrev pub compared : (ℤ → ℤ → Bool) → Option ℤ → Option ℤ → Option ℤ
-compared test left right = both (λ x y. Some (truth (test x y))) left right
-
 -- 0 alone is false
 abbrev pub holds : ℤ → Bool
 holds x = not (int_eq x (pos 0))
 
--- `andalso` and `orelse` leave the right side where the left decides
-abbrev pub andalso : Option ℤ → Option ℤ → Option ℤ
-andalso left right = with left (λ x. if holds x then with right (λ y. Some (truth (holds y))) else Some (truth false))
+-- one operator after the other, from a first value on
+abbrev pub steps_value : List (ℤ → Option ℤ) → Option ℤ → Option ℤ
+steps_value [] left = left
+steps_value (step ∷ steps) left = steps_value steps (with left step)
 
-abbrev pub orelse : Option ℤ → Option ℤ → Option ℤ
-orelse left right = with left (λ x. if holds x then Some (truth true) else with right (λ y. Some (truth (holds y))))
+-- A condition of which the parts have these values, where names have definitions and modules are there as given.
+abbrev pub cond_level : (List ℕ → Option ℤ) → (ModName → Bool) → Cond-F (Option ℤ) (ℤ → Option ℤ) → Option ℤ
+cond_level defs there (Cond-F.Number n) = Some n
+cond_level defs there (Cond-F.Name name) = Some (unwrap_or (defs name) (pos 0))
+cond_level defs there (Cond-F.Defined name) = Some (truth (is_some (defs name)))
+cond_level defs there (Cond-F.Provided wanted) = Some (truth (there wanted))
+cond_level defs there (Cond-F.Parens inner) = inner
+cond_level defs there (Cond-F.Not inner) = with inner (λ x. Some (truth (not (holds x))))
+cond_level defs there (Cond-F.Chain first steps) = steps_value steps first
 
--- a condition of which the parts have these values
-abbrev pub level_value : List Def → List ModName → Cond-F (Option ℤ) → Option ℤ
-level_value defs exports (Cond-F.Number n) = Some n
-level_value defs exports (Cond-F.Name name) = Some (unwrap_or (def_of defs name) (pos 0))
-level_value defs exports (Cond-F.Defined name) = Some (truth (is_some (def_of defs name)))
-level_value defs exports (Cond-F.Provided wanted) = Some (truth (has_module exports wanted))
-level_value defs exports (Cond-F.Parens inner) = inner
-level_value defs exports (Cond-F.Not inner) = with inner (λ x. Some (truth (not (holds x))))
-level_value defs exports (Cond-F.Multiply left right) = both (λ x y. in_range (x *ℤ y)) left right
-level_value defs exports (Cond-F.Div left right) = both div_of left right
-level_value defs exports (Cond-F.Mod left right) = both mod_of left right
-level_value defs exports (Cond-F.Add left right) = both (λ x y. in_range (x +ℤ y)) left right
-level_value defs exports (Cond-F.Subtract left right) = both (λ x y. in_range (x -ℤ y)) left right
-level_value defs exports (Cond-F.Equal left right) = compared (λ x y. int_eq x y) left right
-level_value defs exports (Cond-F.Unequal left right) = compared (λ x y. not (int_eq x y)) left right
-level_value defs exports (Cond-F.Less left right) = compared (λ x y. int_lt x y) left right
-level_value defs exports (Cond-F.LessEqual left right) = compared (λ x y. not (int_lt y x)) left right
-level_value defs exports (Cond-F.Greater left right) = compared (λ x y. int_lt y x) left right
-level_value defs exports (Cond-F.GreaterEqual left right) = compared (λ x y. not (int_lt x y)) left right
-level_value defs exports (Cond-F.Andalso left right) = andalso left right
-level_value defs exports (Cond-F.Orelse left right) = orelse left right
+-- An operator whose right side has this value, behind a left side of that one. `andalso` and `orelse` leave the right
+-- side where the left decides.
+abbrev pub step_level : Step-F (Option ℤ) (ℤ → Option ℤ) → ℤ → Option ℤ
+step_level (Step-F.Multiply right) x = with right (λ y. in_range (x *ℤ y))
+step_level (Step-F.Div right) x = with right (λ y. div_of x y)
+step_level (Step-F.Mod right) x = with right (λ y. mod_of x y)
+step_level (Step-F.Add right) x = with right (λ y. in_range (x +ℤ y))
+step_level (Step-F.Subtract right) x = with right (λ y. in_range (x -ℤ y))
+step_level (Step-F.Equal right) x = with right (λ y. Some (truth (int_eq x y)))
+step_level (Step-F.Unequal right) x = with right (λ y. Some (truth (not (int_eq x y))))
+step_level (Step-F.Less right) x = with right (λ y. Some (truth (int_lt x y)))
+step_level (Step-F.LessEqual right) x = with right (λ y. Some (truth (not (int_lt y x))))
+step_level (Step-F.Greater right) x = with right (λ y. Some (truth (int_lt y x)))
+step_level (Step-F.GreaterEqual right) x = with right (λ y. Some (truth (not (int_lt x y))))
+step_level (Step-F.Andalso right) x =
+    if holds x then with right (λ y. Some (truth (holds y))) else Some (truth false)
+step_level (Step-F.Orelse right) x =
+    if holds x then Some (truth true) else with right (λ y. Some (truth (holds y)))
+
+-- the value of a condition, where names have definitions and modules are there as given
+unfoldable pub value_by : (List ℕ → Option ℤ) → (ModName → Bool) → Cond → Option ℤ
+value_by defs there cond = fold-Cond (Option ℤ) (ℤ → Option ℤ) (cond_level defs there) step_level cond
+
+-- the value behind an operator, from that of its left side
+unfoldable pub step_by : (List ℕ → Option ℤ) → (ModName → Bool) → Step → ℤ → Option ℤ
+step_by defs there step = fold-Step (Option ℤ) (ℤ → Option ℤ) (cond_level defs there) step_level step
 
 -- the value of a condition, under these definitions, where these modules are there
-unfoldable pub condition_value : List Def → List ModName → Cond → Option ℤ
-condition_value defs exports cond = fold-Cond (Option ℤ) (level_value defs exports) cond
+abbrev pub condition_value : List Def → List ModName → Cond → Option ℤ
+condition_value defs exports cond = value_by (def_of defs) (has_module exports) cond
 
 abbrev pub bad_condition : Place → Diag
 bad_condition at = record { number = 3; at = at; names = [] }

@@ -1,8 +1,9 @@
 //! Conditions as trees.
 
-use cm_base::{Boxed, ModName, Text};
+use cm_base::{Boxed, List, ModName, Text};
 
-/// A condition: one variant for each kind of atom and each operator.
+/// A condition: one variant for each kind of atom, `not`, and chains of operators. However many operators stand in a
+/// chain, the tree is no deeper for it.
 #[derive(Debug, Drop)]
 #[cycle(tree)]
 pub enum Cond {
@@ -17,17 +18,26 @@ pub enum Cond {
     /// A condition in parentheses.
     Parens(Boxed<Cond>),
     Not(Boxed<Cond>),
-    Multiply(Boxed<Cond>, Boxed<Cond>),
-    Div(Boxed<Cond>, Boxed<Cond>),
-    Mod(Boxed<Cond>, Boxed<Cond>),
-    Add(Boxed<Cond>, Boxed<Cond>),
-    Subtract(Boxed<Cond>, Boxed<Cond>),
-    Equal(Boxed<Cond>, Boxed<Cond>),
-    Unequal(Boxed<Cond>, Boxed<Cond>),
-    Less(Boxed<Cond>, Boxed<Cond>),
-    LessEqual(Boxed<Cond>, Boxed<Cond>),
-    Greater(Boxed<Cond>, Boxed<Cond>),
-    GreaterEqual(Boxed<Cond>, Boxed<Cond>),
-    Andalso(Boxed<Cond>, Boxed<Cond>),
-    Orelse(Boxed<Cond>, Boxed<Cond>),
+    /// A first side, and the operators behind it from the left to the right. The left side of each of them is all that
+    /// stands before it in the chain.
+    Chain(Boxed<Cond>, List<Step>),
+}
+
+/// An operator with its right side: one variant for each operator between two sides.
+#[derive(Debug, Drop)]
+#[cycle(tree)]
+pub enum Step {
+    Multiply(Cond),
+    Div(Cond),
+    Mod(Cond),
+    Add(Cond),
+    Subtract(Cond),
+    Equal(Cond),
+    Unequal(Cond),
+    Less(Cond),
+    LessEqual(Cond),
+    Greater(Cond),
+    GreaterEqual(Cond),
+    Andalso(Cond),
+    Orelse(Cond),
 }

@@ -1,79 +1,77 @@
 //! The value of a condition.
 
-ghost use Rattle.std.specs.Prelude.{◌≡◌, IfOk};
+ghost use Rattle.std.specs.Prelude.{◌≡◌, IfOk, Some, map};
 ghost use Rattle.cm_base.specs.Calls.{Gives};
-ghost use Rattle.cm_conditions.specs.Values.{condition_value, def_of, same_module, has_module, value_at, bad_condition};
+ghost use Rattle.cm_conditions.specs.Values.{condition_value, steps_value, value_at, bad_condition};
+ghost use Rattle.cm_conditions.specs.Tables.{by_tables, step_by_tables};
 
 use crate::arithmetic::{difference, div, modulo, product, sum, truth};
-use crate::cond::Cond;
-use cm_base::{Def, Diag, Fault, List, ModName, NoMemory, Place, Text};
+use crate::cond::{Cond, Step};
+use crate::names::Names;
+use cm_base::{Def, Diag, Fault, List, ModName, NoMemory, Place};
 use std::alloc::Global;
-
-/// The value of the first definition of a name.
-fn def_of(defs: &[Def], name: &Text) -> Option<i64>
-    ensures { result ≡ def_of defs.now name.now }
-{
-    for def in defs {
-        if def.name == *name {
-            return Some(def.value);
-        }
-    }
-    None
-}
-
-/// Whether two names are of one module.
-fn same_module(a: &ModName, b: &ModName) -> bool
-    ensures { result ≡ same_module a.now b.now }
-{
-    a.space == b.space && a.name == b.name
-}
-
-/// Whether a module is among these.
-fn has_module(modules: &[ModName], wanted: &ModName) -> bool
-    ensures { result ≡ has_module modules.now wanted.now }
-{
-    modules.iter().any(|other| same_module(other, wanted))
-}
-
-/// What values depend on: the definitions, and the modules that are there.
-#[derive(Clone, Copy)]
-pub(crate) struct Scope<'a> {
-    pub defs: &'a [Def],
-    pub exports: &'a [ModName],
-}
 
 impl Cond {
     /// The value of a condition, or none where it is undefined.
-    #[tactic(auto, unfolding(crate::specs::Values::condition_value))]
-    pub(crate) fn value_in(&self, s: &Scope<'_>) -> Option<i64>
-        ensures { result ≡ condition_value s.now.defs.now s.now.exports.now self.now }
+    #[cycle(value)]
+    #[tactic(auto, using(crate::proofs::ValueSteps::chain_steps), unfolding(crate::specs::Values::value_by, crate::specs::Values::step_by))]
+    pub(crate) fn value_in(&self, names: &Names) -> Option<i64>
+        ensures { result ≡ by_tables names.now self.now }
     {
         match self {
             Cond::Number(number) => Some(*number),
-            Cond::Name(name) => Some(def_of(s.defs, name).unwrap_or(0)),
-            Cond::Defined(name) => Some(truth(def_of(s.defs, name).is_some())),
-            Cond::Provided(name) => Some(truth(has_module(s.exports, name))),
-            Cond::Parens(inner) => inner.get().value_in(s),
-            Cond::Not(inner) => Some(truth(inner.get().value_in(s)? == 0)),
-            Cond::Multiply(l, r) => product(l.get().value_in(s)?, r.get().value_in(s)?),
-            Cond::Div(l, r) => div(l.get().value_in(s)?, r.get().value_in(s)?),
-            Cond::Mod(l, r) => modulo(l.get().value_in(s)?, r.get().value_in(s)?),
-            Cond::Add(l, r) => sum(l.get().value_in(s)?, r.get().value_in(s)?),
-            Cond::Subtract(l, r) => difference(l.get().value_in(s)?, r.get().value_in(s)?),
-            Cond::Equal(l, r) => Some(truth(l.get().value_in(s)? == r.get().value_in(s)?)),
-            Cond::Unequal(l, r) => Some(truth(l.get().value_in(s)? != r.get().value_in(s)?)),
-            Cond::Less(l, r) => Some(truth(l.get().value_in(s)? < r.get().value_in(s)?)),
-            Cond::LessEqual(l, r) => Some(truth(l.get().value_in(s)? <= r.get().value_in(s)?)),
-            Cond::Greater(l, r) => Some(truth(l.get().value_in(s)? > r.get().value_in(s)?)),
-            Cond::GreaterEqual(l, r) => Some(truth(l.get().value_in(s)? >= r.get().value_in(s)?)),
-            Cond::Andalso(l, r) => {
-                let holds = l.get().value_in(s)? != 0;
-                Some(truth(holds && r.get().value_in(s)? != 0))
+            Cond::Name(name) => Some(names.def(name).unwrap_or(0)),
+            Cond::Defined(name) => Some(truth(names.def(name).is_some())),
+            Cond::Provided(wanted) => Some(truth(names.has(wanted))),
+            Cond::Parens(inner) => inner.get().value_in(names),
+            Cond::Not(inner) => Some(truth(inner.get().value_in(names)? == 0)),
+            Cond::Chain(first, steps) => {
+                let Some(left) = first.get().value_in(names) else {
+                    return None;
+                };
+                value_behind(steps.as_slice(), left, names)
             }
-            Cond::Orelse(l, r) => {
-                let holds = l.get().value_in(s)? != 0;
-                Some(truth(holds || r.get().value_in(s)? != 0))
-            }
+        }
+    }
+}
+
+/// The value behind these operators, from the value before them.
+#[cycle(value)]
+#[tactic(auto, using(crate::proofs::ValueSteps::chain_steps))]
+fn value_behind(steps: &[Step], first: i64, names: &Names) -> Option<i64>
+    ensures { result ≡ steps_value (map (step_by_tables names.now) steps.now) (Some first) }
+{
+    let mut left = first;
+    for step in steps {
+        let Some(value) = step.value_in(left, names) else {
+            return None;
+        };
+        left = value;
+    }
+    Some(left)
+}
+
+impl Step {
+    /// The value of an operator, from that of its left side.
+    #[cycle(value)]
+    #[tactic(auto, unfolding(crate::specs::Values::value_by, crate::specs::Values::step_by))]
+    fn value_in(&self, left: i64, names: &Names) -> Option<i64>
+        ensures { result ≡ step_by_tables names.now self.now left }
+    {
+        match self {
+            Step::Multiply(right) => product(left, right.value_in(names)?),
+            Step::Div(right) => div(left, right.value_in(names)?),
+            Step::Mod(right) => modulo(left, right.value_in(names)?),
+            Step::Add(right) => sum(left, right.value_in(names)?),
+            Step::Subtract(right) => difference(left, right.value_in(names)?),
+            Step::Equal(right) => Some(truth(left == right.value_in(names)?)),
+            Step::Unequal(right) => Some(truth(left != right.value_in(names)?)),
+            Step::Less(right) => Some(truth(left < right.value_in(names)?)),
+            Step::LessEqual(right) => Some(truth(left <= right.value_in(names)?)),
+            Step::Greater(right) => Some(truth(left > right.value_in(names)?)),
+            Step::GreaterEqual(right) => Some(truth(left >= right.value_in(names)?)),
+            Step::Andalso(right) => Some(truth(left != 0 && right.value_in(names)? != 0)),
+            Step::Orelse(right) => Some(truth(left != 0 || right.value_in(names)? != 0)),
         }
     }
 }
@@ -96,6 +94,7 @@ pub(crate) fn bad_condition(alloc: Global, at: &Place) -> Result<Diag, NoMemory>
 /// The value of a condition under these definitions, where these modules are there: a number of 64 bits, and 0
 /// alone is false. 3 at the place where it is undefined: a sum, difference, product or quotient of more bits, or
 /// a divisor 0 of `div` or `mod`.
+#[tactic(auto, using(crate::proofs::ValueSteps::value_of_tables))]
 pub fn value(
     alloc: Global,
     at: &Place,
@@ -105,11 +104,8 @@ pub fn value(
 ) -> Result<i64, Fault>
     ensures { Gives result (value_at at.now (condition_value defs.now exports.now cond.now)) }
 {
-    let scope = Scope {
-        defs: defs.as_slice(),
-        exports: exports.as_slice(),
-    };
-    match cond.value_in(&scope) {
+    let names = Names::of(alloc, defs.as_slice(), exports.as_slice())?;
+    match cond.value_in(&names) {
         Some(value) => Ok(value),
         None => Err(Fault::Diag(bad_condition(alloc, at)?)),
     }

@@ -2,6 +2,7 @@
 
 ghost use Rattle.grammars.specs.Laws.{IsLawful};
 ghost use Rattle.cm_conditions.specs.Grammar.{condition};
+ghost use Rattle.cm_conditions.specs.Nesting.{EachNests, NestsInOneWay};
 
 use grammars::{Described, grammars_are_lawful};
 
@@ -26,3 +27,10 @@ pub fn conditions_are_lawful<const LIMIT: u32>()
 {
     grammars_are_lawful::<Conditions<LIMIT>>()
 }
+
+/// Each list of lines nests, and in one way. So what it chooses is one answer.
+#[tactic(auto, using(crate::proofs::NestsOnce::each_nests))]
+pub fn lines_nest_in_one_way()
+    ensures each { EachNests }
+    ensures one { NestsInOneWay }
+{}

@@ -2,23 +2,31 @@
 #![tactic(auto)]
 
 mod arithmetic;
+mod choice;
 mod cond;
 mod cursor;
 mod evaluation;
 mod laws;
 mod lexeme;
 mod lexing;
+mod line;
+mod names;
 mod read;
 mod reader;
+mod selection;
 mod words;
 
-pub use cond::Cond;
+pub use choice::select;
+pub use cond::{Cond, Step};
 pub use evaluation::value;
-pub use laws::{Conditions, conditions_are_lawful};
+pub use laws::{Conditions, conditions_are_lawful, lines_nest_in_one_way};
 pub use lexeme::{Lexeme, Mark, Operator, Strength};
+pub use line::{Line, LineBody};
 pub use read::read_condition;
 
 #[cfg(test)]
 mod read_tests;
+#[cfg(test)]
+mod select_tests;
 #[cfg(test)]
 mod tests;

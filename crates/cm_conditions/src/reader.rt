@@ -1,15 +1,15 @@
 //! The reader of conditions, by recursive descent.
 
-ghost use Rattle.std.specs.Prelude.{◌≡◌, ◌+◌, Some, IfOk, MatchResult};
-ghost use Rattle.cm_conditions.specs.Grammar.{part, chain, rounds, compared, comparison, factor, atom, atom_after, in_parens, closed, defined, defined_of, module_of, word_then, below, condition, joined, is_name};
+ghost use Rattle.std.specs.Prelude.{◌≡◌, ◌+◌, ◌∷◌, [], Some, IfOk, MatchResult};
+ghost use Rattle.cm_conditions.specs.Grammar.{part, chain, rounds, compared, comparison, factor, atom, atom_after, in_parens, closed, defined, defined_of, module_of, word_then, below, condition, joined, step_of, is_name};
 ghost use Rattle.cm_conditions.specs.Seen.{Reads};
-ghost use Rattle.cm_conditions.specs.declared.cond.Cond.TheVariants.{Parens as parens_of};
+ghost use Rattle.cm_conditions.specs.declared.cond.Cond.TheVariants.{Parens as parens_of, Chain as chain_of};
 
-use crate::cond::Cond;
+use crate::cond::{Cond, Step};
 use crate::cursor::Cursor;
 use crate::lexeme::{Lexeme, Mark, Operator, Strength};
 use crate::words::{is_defined, space_of};
-use cm_base::{Boxed, ModName, Namespace, NoMemory, Text};
+use cm_base::{Boxed, List, ModName, Namespace, NoMemory, Text};
 use std::alloc::Global;
 
 /// Why a reading ends before its condition is whole.
@@ -31,27 +31,49 @@ impl From<NoMemory> for Stop {
     }
 }
 
-/// Two sides with an operator between them.
+/// An operator with its right side.
+fn step_of(op: Operator, right: Cond) -> Step
+    ensures { result ≡ step_of op right }
+{
+    match op {
+        Operator::Multiply => Step::Multiply(right),
+        Operator::Div => Step::Div(right),
+        Operator::Mod => Step::Mod(right),
+        Operator::Add => Step::Add(right),
+        Operator::Subtract => Step::Subtract(right),
+        Operator::Equal => Step::Equal(right),
+        Operator::Unequal => Step::Unequal(right),
+        Operator::Less => Step::Less(right),
+        Operator::LessEqual => Step::LessEqual(right),
+        Operator::Greater => Step::Greater(right),
+        Operator::GreaterEqual => Step::GreaterEqual(right),
+        Operator::Andalso => Step::Andalso(right),
+        Operator::Orelse => Step::Orelse(right),
+    }
+}
+
+/// A chain of one operator.
+fn chain_of(alloc: Global, first: Cond, step: Step) -> Result<Cond, NoMemory>
+    ensures { IfOk result (λ cond. cond ≡ chain_of first (step ∷ [])) }
+{
+    let mut steps = List::new(alloc);
+    steps.add(step)?;
+    Ok(Cond::Chain(Boxed::new(alloc, first)?, steps))
+}
+
+/// Two sides with an operator between them: one operator more behind a chain, or the first behind another condition.
+#[tactic(auto, unfolding(crate::specs::Grammar::joined))]
 fn joined(alloc: Global, op: Operator, left: Cond, right: Cond) -> Result<Cond, NoMemory>
     ensures { IfOk result (λ cond. cond ≡ joined op left right) }
 {
-    let l = Boxed::new(alloc, left)?;
-    let r = Boxed::new(alloc, right)?;
-    Ok(match op {
-        Operator::Multiply => Cond::Multiply(l, r),
-        Operator::Div => Cond::Div(l, r),
-        Operator::Mod => Cond::Mod(l, r),
-        Operator::Add => Cond::Add(l, r),
-        Operator::Subtract => Cond::Subtract(l, r),
-        Operator::Equal => Cond::Equal(l, r),
-        Operator::Unequal => Cond::Unequal(l, r),
-        Operator::Less => Cond::Less(l, r),
-        Operator::LessEqual => Cond::LessEqual(l, r),
-        Operator::Greater => Cond::Greater(l, r),
-        Operator::GreaterEqual => Cond::GreaterEqual(l, r),
-        Operator::Andalso => Cond::Andalso(l, r),
-        Operator::Orelse => Cond::Orelse(l, r),
-    })
+    let step = step_of(op, right);
+    match left {
+        Cond::Chain(first, mut steps) => {
+            steps.add(step)?;
+            Ok(Cond::Chain(first, steps))
+        }
+        first => chain_of(alloc, first, step),
+    }
 }
 
 /// One level less, or too deep.

@@ -26,24 +26,28 @@ enum Op {
     Orelse,
 }
 
+fn step_of(op: Op, right: Cond) -> Step {
+    match op {
+        Op::Multiply => Step::Multiply(right),
+        Op::Div => Step::Div(right),
+        Op::Mod => Step::Mod(right),
+        Op::Add => Step::Add(right),
+        Op::Subtract => Step::Subtract(right),
+        Op::Equal => Step::Equal(right),
+        Op::Unequal => Step::Unequal(right),
+        Op::Less => Step::Less(right),
+        Op::LessEqual => Step::LessEqual(right),
+        Op::Greater => Step::Greater(right),
+        Op::GreaterEqual => Step::GreaterEqual(right),
+        Op::Andalso => Step::Andalso(right),
+        Op::Orelse => Step::Orelse(right),
+    }
+}
+
 fn joined(alloc: Global, op: Op, left: Cond, right: Cond) -> Result<Cond, NoMemory> {
-    let l = Boxed::new(alloc, left)?;
-    let r = Boxed::new(alloc, right)?;
-    Ok(match op {
-        Op::Multiply => Cond::Multiply(l, r),
-        Op::Div => Cond::Div(l, r),
-        Op::Mod => Cond::Mod(l, r),
-        Op::Add => Cond::Add(l, r),
-        Op::Subtract => Cond::Subtract(l, r),
-        Op::Equal => Cond::Equal(l, r),
-        Op::Unequal => Cond::Unequal(l, r),
-        Op::Less => Cond::Less(l, r),
-        Op::LessEqual => Cond::LessEqual(l, r),
-        Op::Greater => Cond::Greater(l, r),
-        Op::GreaterEqual => Cond::GreaterEqual(l, r),
-        Op::Andalso => Cond::Andalso(l, r),
-        Op::Orelse => Cond::Orelse(l, r),
-    })
+    let mut steps = List::new(alloc);
+    steps.add(step_of(op, right))?;
+    Ok(Cond::Chain(Boxed::new(alloc, left)?, steps))
 }
 
 /// The value of a condition where `BIG` is 7 and the structure `A` is there; `None` where it is refused with 3 at its

@@ -36,7 +36,7 @@ fn is_source_name(name: &[u8]) -> bool
 
 /// Whether a word is `group`, as it is, with a capital or in capitals.
 #[tactic(auto, unfolding(crate::specs::FirstForm::is_group_word))]
-fn is_group_word(word: &[u8]) -> bool
+pub(crate) fn is_group_word(word: &[u8]) -> bool
     ensures { result ≡ is_group_word word.now }
 {
     word == b"group".as_slice() || word == b"Group".as_slice() || word == b"GROUP".as_slice()
@@ -44,7 +44,7 @@ fn is_group_word(word: &[u8]) -> bool
 
 /// Whether a word is `is`, as it is or in capitals.
 #[tactic(auto, unfolding(crate::specs::FirstForm::is_is_word))]
-fn is_is_word(word: &[u8]) -> bool
+pub(crate) fn is_is_word(word: &[u8]) -> bool
     ensures { result ≡ is_is_word word.now }
 {
     word == b"is".as_slice() || word == b"IS".as_slice()

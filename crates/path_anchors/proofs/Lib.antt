@@ -1,7 +1,9 @@
 pub mod Clean
 pub mod ConfigLaws
+pub mod Fronts
 pub mod LineLemmas
 pub mod NameLaws
 pub mod PartLemmas
 pub mod Runs
 pub mod Spelling
+pub mod TableLemmas

@@ -1,9 +1,9 @@
 -- Components: what stands above a place, and what a path begins with.
 use Rattle.std.proofs.Common.{◌≡◌, ℕ, ◌+◌, ◌==◌, ◌&&◌, Bool, true, false, cond, List, [], ◌∷◌, ◌++◌, length, take, drop, Some, refl, ap, sym, get_or, append-nil, ◌<◌, ◌≤◌, ◌-◌, take_all, ◌∙◌, arith}
 use Rattle.std.specs.Prelude.{nat_eq, flat_map, Option, Result, Ok, Err, IsErrAnd}
-use Rattle.std.specs.List.{onto_first, starts_with, position_or_len}
+use Rattle.std.specs.List.{onto_first, position_or_len}
 use Rattle.std.specs.Option.{option_and_then}
-use Rattle.std.proofs.lemmas.List.{drop_more, take_rest}
+use Rattle.std.proofs.lemmas.List.{drop_more}
 use Rattle.std.proofs.lemmas.Bool.{eq-eqb, eqb-true}
 use Rattle.std.proofs.lemmas.Bool.Decides.{nat_tests}
 use Rattle.path_anchors.specs.declared.fault.PathFault.{PathFault}
@@ -54,7 +54,7 @@ abbrev is_slash : ℕ → Bool
 is_slash byte = byte == 47
 
 -- whether a path begins with another and a slash, or is it, byte by byte
-abbrev below_bytes : List ℕ → List ℕ → Bool
+abbrev pub below_bytes : List ℕ → List ℕ → Bool
 below_bytes path [] = is_end path
 below_bytes [] (first ∷ front) = false
 below_bytes (byte ∷ path) (first ∷ front) = nat_eq first byte && below_bytes path front
@@ -108,25 +108,12 @@ byte_more byte first path front false true is other at of =
 byte_more byte first path front false false is other at of =
     rw (at.2, of.2) (and_assoc (nat_eq first byte) (pointwise nat_eq of.0 at.0) (begins_with at.1 of.1))
 
-begins_with_below : (path front : List ℕ) → begins_with (parts_of path) (parts_of front) ≡ below_bytes path front
+pub begins_with_below : (path front : List ℕ) → begins_with (parts_of path) (parts_of front) ≡ below_bytes path front
 begins_with_below path [] = empty_front path
 begins_with_below [] (first ∷ front) = empty_path first front
 begins_with_below (byte ∷ path) (first ∷ front) =
     byte_more byte first path front (is_slash byte) (is_slash first) refl refl (splits path) (splits front)
     ∙ ap (λ b. nat_eq first byte && b) (begins_with_below path front)
-
-below_starts : (path front : List ℕ)
-    → below_bytes path front ≡ (starts_with nat_eq path front && is_end (drop (length front) path))
-below_starts [] [] = refl
-below_starts (byte ∷ path) [] = refl
-below_starts [] (first ∷ front) = refl
-below_starts (byte ∷ path) (first ∷ front) =
-    ap (λ b. nat_eq first byte && b) (below_starts path front)
-    ∙ sym (and_assoc (nat_eq first byte) (starts_with nat_eq path front) (is_end (drop (length front) path)))
-
-pub begins_with_bytes : (path front : List ℕ)
-    → begins_with (parts_of path) (parts_of front) ≡ (starts_with nat_eq path front && is_end (drop (length front) path))
-begins_with_bytes path front = begins_with_below path front ∙ below_starts path front
 
 -- ---- a walk that stops
 
@@ -145,19 +132,3 @@ walk_stops r (fault.Number number) parts at part here now all is lt item gives s
           ∙ ap (option_and_then (λ there. walked there (drop (at + 1) parts))) gives.1,
     )
 walk_stops r fault.NoMemory parts at part here now all is lt item gives so = rw is tt
-
--- ---- a directory
-
-pub lies : (path directory : List ℕ) (starts ends : Bool) → starts ≡ true → starts ≡ starts_with nat_eq path directory
-    → ends ≡ is_end (take (length path - length directory) (drop (length directory) path))
-    → ends ≡ begins_with (parts_of path) (parts_of directory)
-lies path directory starts ends so is end =
-    end ∙ ap is_end (take_rest path (length directory))
-    ∙ sym (begins_with_bytes path directory
-    ∙ ap (λ b. b && is_end (drop (length directory) path)) (sym is ∙ so))
-
-pub lies_not : (path directory : List ℕ) (starts : Bool) → starts ≡ false → starts ≡ starts_with nat_eq path directory
-    → starts ≡ begins_with (parts_of path) (parts_of directory)
-lies_not path directory starts so is =
-    so ∙ sym (begins_with_bytes path directory
-    ∙ ap (λ b. b && is_end (drop (length directory) path)) (sym is ∙ so))

@@ -1,49 +1,40 @@
 //! The anchors that are bound, with their directories.
 
-ghost use Rattle.std.specs.Prelude.{◌≡◌, [], ◌∷◌, ◌++◌, IfOk, OnOk, OnErr, None, is_some, length, slice_get};
-ghost use Rattle.std.specs.List.{list_any};
+ghost use Rattle.std.specs.Prelude.{◌≡◌, [], ◌∷◌, ◌++◌, IfOk, OnOk, None};
 ghost use Rattle.std.specs.Option.{option_copied};
-ghost use Rattle.path_anchors.specs.Names.{begins_with, bound_to, is_bound, is_claimed, parts_of, is_end};
-ghost use Rattle.path_anchors.specs.Pathconfig.{is_nested, touches};
+ghost use Rattle.path_anchors.specs.Names.{bound_to, is_claimed};
+ghost use Rattle.path_anchors.specs.Pathconfig.{is_nested};
 
+use crate::table::PathTable;
 use cm_base::{NoMemory, Text};
 use indexmap::IndexMap;
 use std::alloc::Global;
 use std::marker::Model;
+use std::mem;
 
 /// The anchors that a pathconfig binds, in the order of its lines. Contracts see the pairs of an anchor and its
-/// directory.
+/// directory. Beside them stand a table of the directories and one of all fronts of them, so that a path is asked for
+/// its own fronts and not compared with each directory.
 #[derive(Drop)]
 pub struct Anchors {
     table: IndexMap<Text, Text>,
+    directories: PathTable,
+    fronts: PathTable,
+    alloc: Global,
 }
 
 impl Model for Anchors {
     ghost use Rattle.std.specs.Coded.{coded_ℕ, coded_list, coded×};
     ghost use Rattle.path_anchors.specs.Names.{Bindings};
+    ghost use Rattle.path_anchors.specs.Tables.{AreTables};
 
     ghost Value = { Bindings };
 
     ghost coded = { coded_list (coded× (coded_list coded_ℕ) (coded_list coded_ℕ)) };
 
     ghost view = { λ a. a.table.entries };
-}
 
-/// Whether what follows a directory's components in a path is nothing, or more components.
-fn is_end(rest: &[u8]) -> bool
-    ensures { result ≡ is_end rest.now }
-{
-    match rest {
-        [byte, ..] => *byte == b'/',
-        [] => true,
-    }
-}
-
-/// Whether a path is a directory's, or that of a file in it.
-fn lies_in(path: &[u8], directory: &[u8]) -> bool
-    ensures { result ≡ begins_with (parts_of path.now) (parts_of directory.now) }
-{
-    path.starts_with(directory) && is_end(&path[directory.len()..])
+    ghost invariant = { λ a. AreTables a.table.entries a.directories a.fronts };
 }
 
 impl Anchors {
@@ -53,6 +44,9 @@ impl Anchors {
     {
         Anchors {
             table: IndexMap::new(alloc),
+            directories: PathTable::new(alloc),
+            fronts: PathTable::new(alloc),
+            alloc,
         }
     }
 
@@ -67,25 +61,46 @@ impl Anchors {
     pub(crate) fn claims(&self, path: &Text) -> bool
         ensures { result ≡ is_claimed self.now path.now }
     {
-        self.table.iter().any(|(_, directory)| lies_in(path.as_bytes(), directory.as_bytes()))
+        self.directories.has_front(path.as_bytes())
     }
 
     /// Whether a directory is that of an anchor, or one of them lies inside the other.
     pub(crate) fn touches(&self, path: &Text) -> bool
         ensures { result ≡ is_nested self.now path.now }
     {
-        self.table.iter().any(|(_, directory)| {
-            lies_in(path.as_bytes(), directory.as_bytes())
-                || lies_in(directory.as_bytes(), path.as_bytes())
+        self.claims(path) || self.fronts.has(path.as_bytes())
+    }
+
+    /// These anchors, and one more.
+    fn with_bound(self, anchor: Text, directory: Text) -> Result<Anchors, NoMemory>
+        requires { bound_to self anchor ≡ None }
+        ensures { IfOk result (λ now. now ≡ self ++ (anchor, directory) ∷ []) }
+    {
+        let Anchors {
+            mut table,
+            mut directories,
+            mut fronts,
+            alloc,
+        } = self;
+        directories.add(directory.as_bytes())?;
+        fronts.add_fronts(directory.as_bytes())?;
+        table.insert(anchor, directory)?;
+        Ok(Anchors {
+            table,
+            directories,
+            fronts,
+            alloc,
         })
     }
 
-    /// Binds one anchor more.
+    /// Binds one anchor more. Want of memory leaves none.
     pub(crate) fn bind(&mut self, anchor: Text, directory: Text) -> Result<(), NoMemory>
         requires { bound_to self.old anchor ≡ None }
         ensures { OnOk result (self.new ≡ self.old ++ (anchor, directory) ∷ []) }
     {
-        self.table.insert(anchor, directory)?;
+        let none = Anchors::new(self.alloc);
+        let anchors = mem::replace(self, none);
+        *self = anchors.with_bound(anchor, directory)?;
         Ok(())
     }
 }

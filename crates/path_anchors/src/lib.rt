@@ -10,6 +10,7 @@ mod naming;
 mod parts;
 mod pathconfig;
 mod route;
+mod table;
 
 pub use anchors::Anchors;
 pub use fault::PathFault;

@@ -213,6 +213,57 @@ fn a_directory_has_the_limits_of_a_path(rt: HostRuntime) -> Result<(), Fail> {
 }
 
 #[test]
+fn a_directory_is_a_front_by_components(rt: HostRuntime) -> Result<(), Fail> {
+    let alloc = rt.alloc();
+    let rows =
+        "|lib|error~7 |lib/x|error~7 |lib/x/y|error~7 |li|li |li/b|li/b |libr|libr |library/x|library/x \
+        |lib.cm|lib.cm |x/lib|x/lib |a/b/c|error~7 |a/b/c/d/e|error~7 |a/b|a/b |a|a |a/b/cc|a/b/cc |a/b/d|a/b/d \
+        |a/bb/c|a/bb/c |b/c|b/c a/g.cm|b/c/d|error~7 a/b/g.cm|c|error~7 a/b/g.cm|d|a/b/d";
+    resolves(&rt, alloc, "u~lib;v~a/b/c", rows)?;
+    let good = "p~lib;q~library/x;r~li;s~lib.cm;t~libr/lib;u~a/b/c;v~a/b/cc;w~a/c;x~b";
+    lie(
+        &rt,
+        alloc,
+        good,
+        "$p/f|lib/f $q/f|library/x/f $t/f|libr/lib/f $v/f|a/b/cc/f $x/c|b/c",
+    )?;
+    Ok(())
+}
+
+#[test]
+fn nested_directories_are_refused_both_ways(rt: HostRuntime) -> Result<(), Fail> {
+    let rows =
+        "p~a/b/c;q~a|17:2:3~q p~a/b/c;q~a/b|17:2:3~q p~a/b/c;q~a/b/c|17:2:3~q p~a/b/c;q~a/b/c/d|17:2:3~q \
+        p~a/b/c;q~a/b/c/d/e|17:2:3~q p~a;q~a/b/c|17:2:3~q p~a/b/c;q~a/b/cc;r~a/b|17:3:3~r \
+        p~a/b/cc;q~a/b/c;r~a/b/c/x|17:3:3~r p~z;q~y;r~x/w;s~x|17:4:3~s p~z;q~y;r~x;s~x/w|17:4:3~s";
+    are_bad(&rt, rt.alloc(), rows)?;
+    Ok(())
+}
+
+// A line for each number below a count: the anchor `aN` at `dN/x`.
+fn many_lines(alloc: Global, count: u32) -> Result<String, NoMemory> {
+    let mut config = String::new(alloc);
+    for number in 0..count {
+        config.push_str(&format!(in alloc; "a{number}~d{number}/x;")?)?;
+    }
+    Ok(config)
+}
+
+#[test]
+fn thousands_of_lines_are_read(rt: HostRuntime) -> Result<(), Fail> {
+    let alloc = rt.alloc();
+    let config = many_lines(alloc, 3000)?;
+    let rows =
+        "|d0/x/f|error~7 |d1500/x|error~7 |d2999/x/f|error~7 |d3000/x|d3000/x |d1500/y|d1500/y |d15/xx|d15/xx";
+    resolves(&rt, alloc, &config, rows)?;
+    let rows = format!(in alloc;
+        "{config}b~d1500|17:3001:3~b {config}b~d2999/x/y|17:3001:3~b {config}a7~e|16:3001:1~a7"
+    )?;
+    are_bad(&rt, alloc, &rows)?;
+    Ok(())
+}
+
+#[test]
 fn laws_can_be_called() {
     a_file_has_one_name();
     names_lie_in_the_project();

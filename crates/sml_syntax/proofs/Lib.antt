@@ -1,8 +1,14 @@
 mod Exact
+mod Integers
 mod Level
+mod Marks
+mod Places
+mod PlacesSig
+mod PlacesUnit
 mod ReadBinds
 mod ReadExp
 mod ReadPat
 mod ReadSig
+mod ReadSteps
 mod ReadTy
 mod ReadUnit

@@ -19,37 +19,42 @@ use Rattle.sml_syntax.specs.declared.ty.TypDesc.{TypDesc}
 use Rattle.sml_syntax.specs.declared.ty.ExBody.TheVariants as exn
 
 pub typ_bind_exact : (n : ℕ) → IsExact typ_bind_of (typ_bind_at n) (IsTypBind n)
+unfolding typ_bind_at
 typ_bind_exact n =
     made_exact typ_bind_of (IsTypBind n) (λ (p : ((List Name) × (Name × Ty))). record { tyvars = p.0; name = p.1.0; ty = p.1.1 })
     (λ (bind : TypBind). (bind.tyvars, (bind.name, bind.ty))) (both_exact (list_exact name_exact) (both_exact name_exact (ty_exact n)))
     (λ p fits. refl) (λ p fits. fits) (λ bind is. (refl, is))
 
 pub con_bind_exact : (n : ℕ) → IsExact con_bind_of (con_bind_at n) (IsConBind n)
+unfolding con_bind_at
 con_bind_exact n =
     made_exact con_bind_of (IsConBind n) (λ (p : (Name × (Option Ty))). record { name = p.0; arg = p.1 })
     (λ (bind : ConBind). (bind.name, bind.arg)) (both_exact name_exact (option_exact (ty_exact n)))
     (λ p fits. refl) (λ p fits. fits) (λ bind is. (refl, is))
 
 pub dat_bind_exact : (n : ℕ) → IsExact dat_bind_of (dat_bind_at n) (IsDatBind n)
+unfolding dat_bind_at
 dat_bind_exact n =
     made_exact dat_bind_of (IsDatBind n) (λ (p : ((List Name) × (Name × (List ConBind)))). record { tyvars = p.0; name = p.1.0; cons = p.1.1 })
     (λ (bind : DatBind). (bind.tyvars, (bind.name, bind.cons))) (both_exact (list_exact name_exact) (both_exact name_exact (list_exact (con_bind_exact n))))
     (λ p fits. refl) (λ p fits. fits) (λ bind is. (refl, is))
 
 pub val_desc_exact : (n : ℕ) → IsExact val_desc_of (val_desc_at n) (IsValDesc n)
+unfolding val_desc_at
 val_desc_exact n =
     made_exact val_desc_of (IsValDesc n) (λ (p : (Name × Ty)). record { name = p.0; ty = p.1 })
     (λ (bind : ValDesc). (bind.name, bind.ty)) (both_exact name_exact (ty_exact n))
     (λ p fits. refl) (λ p fits. fits) (λ bind is. (refl, is))
 
 pub typ_desc_exact : (n : ℕ) → IsExact typ_desc_of (typ_desc_at n) (IsTypDesc n)
+unfolding typ_desc_at
 typ_desc_exact n =
     made_exact typ_desc_of (IsTypDesc n) (λ (p : ((List Name) × Name)). record { tyvars = p.0; name = p.1 })
     (λ (bind : TypDesc). (bind.tyvars, bind.name)) (both_exact (list_exact name_exact) name_exact)
     (λ p fits. refl) (λ p fits. fits) (λ bind is. (refl, is))
 
 pub ex_body_exact : (n : ℕ) → IsExact ex_body_of (ex_body_at n) (IsExBody n)
-unfolding or_tag
+unfolding ex_body_at or_tag
 ex_body_exact n = record {
   again = again;
   spelled = tagged_spelled (
@@ -68,6 +73,7 @@ ex_body_exact n = record {
     again (exn.Copy long) fits = tagged_again ex_body_of table 2 exn.Copy long_exact long fits refl refl
 
 pub ex_bind_exact : (n : ℕ) → IsExact ex_bind_of (ex_bind_at n) (IsExBind n)
+unfolding ex_bind_at
 ex_bind_exact n =
     made_exact ex_bind_of (IsExBind n) (λ (p : (Name × ExBody)). record { name = p.0; body = p.1 })
     (λ (bind : ExBind). (bind.name, bind.body)) (both_exact name_exact (ex_body_exact n))

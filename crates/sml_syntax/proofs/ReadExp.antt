@@ -176,6 +176,7 @@ pub record ExpExact (n : ℕ) : Type 0 where
   pub dec_body : IsExact dec_of (exp_steps n).dec_body (exp_is n).dec_body
 
 exp_field_exact : (n : ℕ) → ExpExact n → IsExact exp_field_of (exp_field_at n (exp_steps n)) (IsExpField n (exp_is n))
+unfolding exp_field_at
 exp_field_exact n x =
     made_exact exp_field_of (IsExpField n (exp_is n)) (λ (p : (Name × Exp)). roll-ExpField (record { label = p.0; exp = p.1 }))
     (λ (bind : ExpField). ((out-ExpField bind).label, (out-ExpField bind).exp)) (both_exact name_exact x.exp)
@@ -184,6 +185,7 @@ exp_field_exact n x =
     (λ bind is. (roll-out-ExpField bind, is))
 
 rule_exact : (n : ℕ) → ExpExact n → IsExact rule_of (rule_at n (exp_steps n)) (IsRule n (exp_is n))
+unfolding rule_at
 rule_exact n x =
     made_exact rule_of (IsRule n (exp_is n)) (λ (p : (Pat × Exp)). roll-Rule (record { pat = p.0; exp = p.1 }))
     (λ (bind : Rule). ((out-Rule bind).pat, (out-Rule bind).exp)) (both_exact (pat_exact n).pat x.exp)
@@ -192,6 +194,7 @@ rule_exact n x =
     (λ bind is. (roll-out-Rule bind, is))
 
 pub str_bind_exact : (n : ℕ) → ExpExact n → IsExact str_bind_of (str_bind_at n (exp_steps n)) (IsStrBind n (exp_is n))
+unfolding str_bind_at
 str_bind_exact n x =
     made_exact str_bind_of (IsStrBind n (exp_is n)) (λ (p : (Name × StrExp)). roll-StrBind (record { name = p.0; body = p.1 }))
     (λ (bind : StrBind). ((out-StrBind bind).name, (out-StrBind bind).body)) (both_exact name_exact x.str)

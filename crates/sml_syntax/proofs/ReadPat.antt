@@ -68,6 +68,7 @@ pub record PatExact (n : ℕ) : Type 0 where
   pub pat : IsExact pat_of (pat_steps n).pat (pat_is n).pat
 
 pat_field_exact : (n : ℕ) → PatExact n → IsExact pat_field_of (pat_field_at n (pat_steps n)) (IsPatField n (pat_is n))
+unfolding pat_field_at
 pat_field_exact n x =
     made_exact pat_field_of (IsPatField n (pat_is n)) (λ (p : (Name × Pat)). roll-PatField (record { label = p.0; pat = p.1 }))
     (λ (bind : PatField). ((out-PatField bind).label, (out-PatField bind).pat)) (both_exact name_exact x.pat)

@@ -93,6 +93,7 @@ pub record SigExact (n : ℕ) : Type 0 where
   pub spec_body : IsExact spec_of (sig_steps n).spec_body (sig_is n).spec_body
 
 pub sig_bind_exact : (n : ℕ) → SigExact n → IsExact sig_bind_of (sig_bind_at n (sig_steps n)) (IsSigBind n (sig_is n))
+unfolding sig_bind_at
 sig_bind_exact n x =
     made_exact sig_bind_of (IsSigBind n (sig_is n)) (λ (p : (Name × SigExp)). roll-SigBind (record { name = p.0; sig = p.1 }))
     (λ (bind : SigBind). ((out-SigBind bind).name, (out-SigBind bind).sig)) (both_exact name_exact x.sig)

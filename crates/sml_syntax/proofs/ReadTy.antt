@@ -28,6 +28,7 @@ long_exact = made_exact long_of IsLong long_nowhere (λ (long : LongName). long.
 
 pub ty_field_exact : (part_at : Step Ty) (Is : Ty → Type 0) → IsExact ty_of part_at Is
     → IsExact ty_field_of (ty_field_at part_at) (IsTyField Is)
+unfolding ty_field_at
 ty_field_exact part_at Is part =
     made_exact ty_field_of (IsTyField Is) (λ (p : Name × Ty). roll-TyField (record { label = p.0; ty = p.1 }))
     (λ (field : TyField). ((out-TyField field).label, (out-TyField field).ty)) (both_exact name_exact part)

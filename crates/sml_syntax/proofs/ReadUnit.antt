@@ -1,5 +1,5 @@
 -- Codes of units are read exactly.
-use Rattle.std.proofs.Common.{◌≡◌, ℕ, zero, suc, List, [], ◌∷◌, ◌++◌, Option, Some, refl, sym, ap, subst, ◌∙◌}
+use Rattle.std.proofs.Common.{◌≡◌, ℕ, zero, suc, List, [], ◌∷◌, ◌++◌, Option, Some, None, Result, Ok, Err, refl, sym, ap, subst, ◌∙◌}
 use Rattle.cm_bytes.specs.Fields.{◌>>=◌, IsBytes, IsReadAgain, list_of}
 use Rattle.sml_syntax.specs.Steps.{or_tag, IsExact}
 use Rattle.sml_syntax.proofs.Exact.{made_exact, both_exact, list_exact, marked_exact, tagged_spelled, tagged_again, no_tag_spells, or_tag_spells}
@@ -11,6 +11,9 @@ use Rattle.sml_syntax.proofs.ReadExp.{exp_exact, str_bind_exact}
 use Rattle.sml_syntax.specs.Code.{code_of, fun_bind_of, funsig_bind_of, topdec_of}
 use Rattle.sml_syntax.specs.Reading.{nowhere, AreAll}
 use Rattle.sml_syntax.specs.ReadingUnit.{fun_bind_at, IsFunBind, funsig_bind_at, IsFunsigBind, topdec_table, topdec_at, IsTopDec, most_tags, code_at, whole_unit, unit_of, IsRead}
+use Rattle.sml_syntax.specs.Took.{IsUnitOf, ReadsCode}
+use Rattle.sml_syntax.specs.declared.fault.CodeFault.{CodeFault}
+use Rattle.sml_syntax.specs.declared.fault.CodeFault.TheVariants as fault
 use Rattle.sml_syntax.specs.declared.name.At.{At}
 use Rattle.sml_syntax.specs.declared.name.Name.{Name}
 use Rattle.sml_syntax.specs.declared.sig_exp.SigExp.{SigExp}
@@ -24,12 +27,14 @@ use Rattle.sml_syntax.specs.declared.unit.FunsigBind.{FunsigBind}
 use Rattle.sml_syntax.specs.declared.unit.BareUnit.{BareUnit}
 
 pub fun_bind_exact : (n : ℕ) → IsExact fun_bind_of (fun_bind_at n) (IsFunBind n)
+unfolding fun_bind_at
 fun_bind_exact n =
     made_exact fun_bind_of (IsFunBind n) (λ (p : (Name × (Name × (SigExp × StrExp)))). record { name = p.0; param = p.1.0; param_sig = p.1.1.0; body = p.1.1.1 })
     (λ (bind : FunBind). (bind.name, (bind.param, (bind.param_sig, bind.body)))) (both_exact name_exact (both_exact name_exact (both_exact (sig_exact n).sig (exp_exact n).str)))
     (λ p fits. refl) (λ p fits. fits) (λ bind is. (refl, is))
 
 pub funsig_bind_exact : (n : ℕ) → IsExact funsig_bind_of (funsig_bind_at n) (IsFunsigBind n)
+unfolding funsig_bind_at
 funsig_bind_exact n =
     made_exact funsig_bind_of (IsFunsigBind n) (λ (p : (Name × (Name × (SigExp × SigExp)))). record { name = p.0; param = p.1.0; param_sig = p.1.1.0; result_sig = p.1.1.1 })
     (λ (bind : FunsigBind). (bind.name, (bind.param, (bind.param_sig, bind.result_sig)))) (both_exact name_exact (both_exact name_exact (both_exact (sig_exact n).sig (sig_exact n).sig)))
@@ -110,3 +115,12 @@ unit_front a b more is_a is_b e =
     ap (λ (file : List ℕ). record { file = file; topdecs = a.topdecs }) (is_a.file ∙ sym is_b.file)
     ∙ ap (λ (topdecs : List TopDec). record { file = b.file; topdecs = topdecs }) both.0 in
     (same, both.1)
+
+-- what is read from the bytes has them as its code, and where nothing is they are no code
+pub reads_code : (bytes : List ℕ) (r : Result BareUnit CodeFault) → IsBytes bytes → IsUnitOf bytes r → ReadsCode bytes r
+reads_code bytes (Ok unit) h is = unit_spelled bytes unit h is
+reads_code bytes (Err fault.BadCode) h is = λ unit read spelled.
+    let found : unit_of bytes ≡ Some unit = subst (λ (code : List ℕ). unit_of code ≡ Some unit) spelled (unit_again unit read) in
+    let none : None ≡ Some unit = sym is ∙ found in
+    absurd cc
+reads_code bytes (Err fault.NoMemory) h is = tt

@@ -1,4 +1,6 @@
 pub mod Code
+pub mod Places
+pub mod PlacesUnit
 pub mod Reading
 pub mod ReadingBinds
 pub mod ReadingExp
@@ -6,3 +8,4 @@ pub mod ReadingPat
 pub mod ReadingSig
 pub mod ReadingUnit
 pub mod Steps
+pub mod Took

@@ -70,7 +70,7 @@ IfThere Is (Some x) = Is x
 
 -- ---- types
 
-abbrev pub ty_field_at : Step Ty → Step TyField
+unfoldable pub ty_field_at : Step Ty → Step TyField
 ty_field_at ty_at = made (λ p. roll-TyField (record { label = p.0; ty = p.1 })) (both name_at ty_at)
 
 -- what is read after each tag of a type, where a type within it is read so

@@ -31,19 +31,19 @@ pub record ExpIs : Type 1 where
   pub str : StrExp → Type 0
   pub dec_body : Dec → Type 0
 
-abbrev pub exp_field_at : ℕ → ExpSteps → Step ExpField
+unfoldable pub exp_field_at : ℕ → ExpSteps → Step ExpField
 exp_field_at n s = made (λ p. roll-ExpField (record { label = p.0; exp = p.1 })) (both name_at s.exp)
 
 abbrev pub IsExpField : ℕ → ExpIs → ExpField → Type 0
 IsExpField n i bind = (IsName (out-ExpField bind).label × i.exp (out-ExpField bind).exp)
 
-abbrev pub rule_at : ℕ → ExpSteps → Step Rule
+unfoldable pub rule_at : ℕ → ExpSteps → Step Rule
 rule_at n s = made (λ p. roll-Rule (record { pat = p.0; exp = p.1 })) (both (pat_steps n).pat s.exp)
 
 abbrev pub IsRule : ℕ → ExpIs → Rule → Type 0
 IsRule n i bind = ((pat_is n).pat (out-Rule bind).pat × i.exp (out-Rule bind).exp)
 
-abbrev pub str_bind_at : ℕ → ExpSteps → Step StrBind
+unfoldable pub str_bind_at : ℕ → ExpSteps → Step StrBind
 str_bind_at n s = made (λ p. roll-StrBind (record { name = p.0; body = p.1 })) (both name_at s.str)
 
 abbrev pub IsStrBind : ℕ → ExpIs → StrBind → Type 0
@@ -119,6 +119,10 @@ str_level_is n i (StrExp-F.Opaque a0 a1 at) = (i.str a0 × (sig_is n).sig a1) ×
 str_level_is n i (StrExp-F.Functor a0 a1 at) = (IsName a0 × i.str a1) × (at ≡ nowhere)
 str_level_is n i (StrExp-F.Within a0 a1 at) = (i.dec_body a0 × i.str a1) × (at ≡ nowhere)
 
+-- what is read after the tag of a body, which is a sequence
+abbrev pub dec_body_table : ExpSteps → Table Dec
+dec_body_table s = or_tag 71 (made (λ p. decv.Sequence p nowhere) (list_at s.dec)) no_tag
+
 -- the steps that read nodes of at most so many tags in one another
 abbrev pub exp_steps : ℕ → ExpSteps
 exp_steps zero = record { exp = λ bytes. None; dec = λ bytes. None; str = λ bytes. None; dec_body = λ bytes. None }
@@ -126,7 +130,7 @@ exp_steps (suc n) = record {
   exp = tagged (exp_table n (exp_steps n));
   dec = tagged (dec_table n (exp_steps n));
   str = tagged (str_table n (exp_steps n));
-  dec_body = tagged (or_tag 71 (made (λ p. decv.Sequence p nowhere) (list_at (exp_steps n).dec)) no_tag);
+  dec_body = tagged (dec_body_table (exp_steps n));
 }
 
 -- which nodes have a spelling of at most so many tags in one another, and stand nowhere

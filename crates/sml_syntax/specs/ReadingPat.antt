@@ -16,7 +16,7 @@ pub record PatSteps : Type 0 where
 pub record PatIs : Type 1 where
   pub pat : Pat → Type 0
 
-abbrev pub pat_field_at : ℕ → PatSteps → Step PatField
+unfoldable pub pat_field_at : ℕ → PatSteps → Step PatField
 pat_field_at n s = made (λ p. roll-PatField (record { label = p.0; pat = p.1 })) (both name_at s.pat)
 
 abbrev pub IsPatField : ℕ → PatIs → PatField → Type 0

@@ -23,7 +23,7 @@ pub record SigIs : Type 1 where
   pub spec : Spec → Type 0
   pub spec_body : Spec → Type 0
 
-abbrev pub sig_bind_at : ℕ → SigSteps → Step SigBind
+unfoldable pub sig_bind_at : ℕ → SigSteps → Step SigBind
 sig_bind_at n s = made (λ p. roll-SigBind (record { name = p.0; sig = p.1 })) (both name_at s.sig)
 
 abbrev pub IsSigBind : ℕ → SigIs → SigBind → Type 0
@@ -65,13 +65,17 @@ spec_level_is n i (Spec-F.Structures a0 at) = (AreAll (IsSigBind n i)) a0 × (at
 spec_level_is n i (Spec-F.Include a0 at) = i.sig a0 × (at ≡ nowhere)
 spec_level_is n i (Spec-F.Sequence a0 at) = (AreAll i.spec) a0 × (at ≡ nowhere)
 
+-- what is read after the tag of a body, which is a sequence
+abbrev pub spec_body_table : SigSteps → Table Spec
+spec_body_table s = or_tag 120 (made (λ p. specv.Sequence p nowhere) (list_at s.spec)) no_tag
+
 -- the steps that read nodes of at most so many tags in one another
 abbrev pub sig_steps : ℕ → SigSteps
 sig_steps zero = record { sig = λ bytes. None; spec = λ bytes. None; spec_body = λ bytes. None }
 sig_steps (suc n) = record {
   sig = tagged (sig_table n (sig_steps n));
   spec = tagged (spec_table n (sig_steps n));
-  spec_body = tagged (or_tag 120 (made (λ p. specv.Sequence p nowhere) (list_at (sig_steps n).spec)) no_tag);
+  spec_body = tagged (spec_body_table (sig_steps n));
 }
 
 -- which nodes have a spelling of at most so many tags in one another, and stand nowhere

@@ -11,13 +11,13 @@ use Rattle.sml_syntax.specs.declared.unit.FunBind.{FunBind}
 use Rattle.sml_syntax.specs.declared.unit.FunsigBind.{FunsigBind}
 use Rattle.sml_syntax.specs.declared.unit.BareUnit.{BareUnit}
 
-abbrev pub fun_bind_at : ℕ → Step FunBind
+unfoldable pub fun_bind_at : ℕ → Step FunBind
 fun_bind_at n = made (λ p. record { name = p.0; param = p.1.0; param_sig = p.1.1.0; body = p.1.1.1 }) (both name_at (both name_at (both (sig_steps n).sig (exp_steps n).str)))
 
 abbrev pub IsFunBind : ℕ → FunBind → Type 0
 IsFunBind n bind = (IsName bind.name × (IsName bind.param × ((sig_is n).sig bind.param_sig × (exp_is n).str bind.body)))
 
-abbrev pub funsig_bind_at : ℕ → Step FunsigBind
+unfoldable pub funsig_bind_at : ℕ → Step FunsigBind
 funsig_bind_at n = made (λ p. record { name = p.0; param = p.1.0; param_sig = p.1.1.0; result_sig = p.1.1.1 }) (both name_at (both name_at (both (sig_steps n).sig (sig_steps n).sig)))
 
 abbrev pub IsFunsigBind : ℕ → FunsigBind → Type 0

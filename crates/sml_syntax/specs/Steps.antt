@@ -38,9 +38,13 @@ tagged table bytes = byte_at bytes >>= λ tag. table tag.0 tag.1
 abbrev pub nothing_at : Step (Unit {0})
 nothing_at bytes = Some (tt, bytes)
 
+-- what is read after the byte that says whether something is there
+abbrev pub option_table : {A : Type 0} → Step A → Table (Option A)
+option_table item_at = or_tag 0 (made (λ x. None) nothing_at) (or_tag 1 (made Some item_at) no_tag)
+
 -- the step that reads what may be absent
 unfoldable pub option_at : {A : Type 0} → Step A → Step (Option A)
-option_at item_at = tagged (or_tag 0 (made (λ x. None) nothing_at) (or_tag 1 (made Some item_at) no_tag))
+option_at item_at = tagged (option_table item_at)
 
 -- a step reads exactly what is spelled so: what fits is read again, and what is read is spelled so and fits
 pub record IsExact {A : Type 0} (item_of : A → List ℕ) (item_at : Step A) (Fits : A → Type 0) : Type 0 where

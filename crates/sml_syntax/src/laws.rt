@@ -1,9 +1,10 @@
-//! The laws of codes, as calls that do nothing: what is written is read again, what is read is written so, and no code
-//! is a front of another.
+//! The laws of codes, as calls that do nothing: what is written is read again, what is read is written so, no code is a
+//! front of another, and places aren't written.
 
 ghost use Rattle.std.specs.Prelude.{◌≡◌, ℕ, List, [], ◌++◌, Some};
 ghost use Rattle.cm_bytes.specs.Fields.{IsBytes};
 ghost use Rattle.sml_syntax.specs.Code.{code_of};
+ghost use Rattle.sml_syntax.specs.PlacesUnit.{unplaced};
 ghost use Rattle.sml_syntax.specs.ReadingUnit.{unit_of, IsRead};
 ghost use Rattle.sml_syntax.specs.declared.unit.BareUnit.{BareUnit};
 
@@ -24,4 +25,11 @@ pub fn code_is_spelled_so()
 pub fn no_front_is_code()
     ensures { (a b : BareUnit) (more : List ℕ) → IsRead a → IsRead b → code_of a ++ more ≡ code_of b
         → (a ≡ b) × (more ≡ []) }
+{}
+
+/// A unit has the code that it has without its places, and units that differ in places alone have one code.
+#[tactic(auto, using(crate::proofs::PlacesUnit::code_same, crate::proofs::PlacesUnit::code_alike))]
+pub fn places_are_not_written()
+    ensures same { (unit : BareUnit) → code_of (unplaced unit) ≡ code_of unit }
+    ensures alike { (a b : BareUnit) → unplaced a ≡ unplaced b → code_of a ≡ code_of b }
 {}

@@ -2,6 +2,7 @@
 #![tactic(auto)]
 
 mod exp;
+mod fault;
 mod full_exp;
 mod full_pat;
 mod full_sig;
@@ -11,6 +12,13 @@ pub mod laws;
 mod name;
 mod parts;
 mod pat;
+mod read;
+mod read_binds;
+mod read_exp;
+mod read_parts;
+mod read_pat;
+mod read_sig;
+mod read_ty;
 mod sig_exp;
 mod ty;
 mod unit;
@@ -21,6 +29,7 @@ mod write_sig;
 mod write_ty;
 
 pub use exp::{Dec, Exp, ExpField, Rule, StrBind, StrExp};
+pub use fault::CodeFault;
 pub use full_exp::{
     FullClause, FullDec, FullExp, FullExpField, FullExpItem, FullFunBind, FullHead, FullRule,
     FullStrBind, FullStrExp, FullValBind,
@@ -34,6 +43,7 @@ pub use full_ty::{
 pub use full_unit::{FullFunctorBind, FullFunsigBind, FullParam, FullTopDec, FullUnit};
 pub use name::{At, LongName, Name};
 pub use pat::{Pat, PatField};
+pub use read::read_code;
 pub use sig_exp::{SigBind, SigExp, Spec};
 pub use ty::{ConBind, DatBind, ExBind, ExBody, Ty, TyField, TypBind, TypDesc, ValDesc};
 pub use unit::{BareUnit, FunBind, FunsigBind, TopDec};

@@ -6,6 +6,8 @@ use std::test::*;
 
 mod decs;
 mod exps;
+mod nesting;
+mod reading;
 mod sigs;
 mod units;
 
@@ -72,7 +74,43 @@ fn sig_s(rt: &impl Abort, alloc: Global) -> SigExp {
     SigExp::Named(name(rt, alloc, b"S"), AT)
 }
 
+/// A declaration as the one of a body.
+fn body(rt: &impl Abort, alloc: Global, dec: Dec) -> Boxed<Dec> {
+    boxed(rt, alloc, Dec::Sequence(one(rt, alloc, dec), AT))
+}
+
+/// The code of a unit of one declaration. What is read of it is written as the same bytes.
 fn code(rt: &impl Abort, alloc: Global, topdec: TopDec) -> Text {
+    let code = written(rt, alloc, topdec);
+    is_read_again(rt, alloc, code.as_bytes());
+    code
+}
+
+/// Bytes are a code, and the unit that is read of them has it.
+fn is_read_again(rt: &impl Abort, alloc: Global, bytes: &[u8]) {
+    match read_code(alloc, bytes) {
+        Ok(unit) => {
+            assert_eq!(rt; unit.file.as_bytes(), b"".as_slice());
+            let again = write_code(alloc, &unit).expect(rt, "memory");
+            assert_eq!(rt; again.as_bytes(), bytes);
+        }
+        Err(_) => assert!(rt; false, "refused"),
+    }
+}
+
+/// Whether the bytes are a code.
+fn is_code(rt: &impl Abort, alloc: Global, bytes: &[u8]) -> bool {
+    match read_code(alloc, bytes) {
+        Ok(_) => true,
+        Err(CodeFault::BadCode) => false,
+        Err(CodeFault::NoMemory) => {
+            assert!(rt; false, "memory");
+            false
+        }
+    }
+}
+
+fn written(rt: &impl Abort, alloc: Global, topdec: TopDec) -> Text {
     let unit = BareUnit {
         file: text(rt, alloc, b"a.sml"),
         topdecs: one(rt, alloc, topdec),

@@ -6,10 +6,10 @@ use super::*;
 fn is_dec(rt: &impl Abort, alloc: Global, dec: Dec, want: &[u8]) {
     let bind = StrBind {
         name: name(rt, alloc, b"A"),
-        body: StrExp::Struct(boxed(rt, alloc, dec), AT),
+        body: StrExp::Struct(body(rt, alloc, dec), AT),
     };
     let code = code(rt, alloc, TopDec::Structures(one(rt, alloc, bind), AT));
-    let head = b"CMC1\0\0\0\x01\x80\0\0\0\x01\0\0\0\x01A\x50".as_slice();
+    let head = b"CMC1\0\0\0\x01\x80\0\0\0\x01\0\0\0\x01A\x50\x47\0\0\0\x01".as_slice();
     assert_eq!(rt; code.as_bytes().strip_prefix(head), Some(want));
 }
 

@@ -24,11 +24,11 @@ fn is_rule(rt: &impl Abort, alloc: Global, pat: Pat, exp: Exp, pat_bytes: &[u8],
     let dec = Dec::Val(List::new(alloc), rules, List::new(alloc), AT);
     let bind = StrBind {
         name: name(rt, alloc, b"A"),
-        body: StrExp::Struct(boxed(rt, alloc, dec), AT),
+        body: StrExp::Struct(body(rt, alloc, dec), AT),
     };
     let code = code(rt, alloc, TopDec::Structures(one(rt, alloc, bind), AT));
     let head =
-        b"CMC1\0\0\0\x01\x80\0\0\0\x01\0\0\0\x01A\x50\x40\0\0\0\0\0\0\0\x01\x20\x1a\0\0\0\x01";
+        b"CMC1\0\0\0\x01\x80\0\0\0\x01\0\0\0\x01A\x50\x47\0\0\0\x01\x40\0\0\0\0\0\0\0\x01\x20\x1a\0\0\0\x01";
     let rest = code.as_bytes().strip_prefix(head.as_slice());
     let rest = rest.and_then(|rest| rest.strip_prefix(pat_bytes));
     let rest = rest.and_then(|rest| rest.strip_prefix(exp_bytes));

@@ -6,10 +6,13 @@ use super::*;
 fn is_spec(rt: &impl Abort, alloc: Global, spec: Spec, want: &[u8]) {
     let bind = SigBind {
         name: name(rt, alloc, b"T"),
-        sig: SigExp::Sig(boxed(rt, alloc, spec), AT),
+        sig: SigExp::Sig(
+            boxed(rt, alloc, Spec::Sequence(one(rt, alloc, spec), AT)),
+            AT,
+        ),
     };
     let code = code(rt, alloc, TopDec::Signatures(one(rt, alloc, bind), AT));
-    let head = b"CMC1\0\0\0\x01\x81\0\0\0\x01\0\0\0\x01T\x60".as_slice();
+    let head = b"CMC1\0\0\0\x01\x81\0\0\0\x01\0\0\0\x01T\x60\x78\0\0\0\x01".as_slice();
     assert_eq!(rt; code.as_bytes().strip_prefix(head), Some(want));
 }
 

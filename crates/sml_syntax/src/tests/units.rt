@@ -73,4 +73,5 @@ fn the_laws_hold(_rt: HostRuntime) {
     laws::code_is_read_again();
     laws::code_is_spelled_so();
     laws::no_front_is_code();
+    laws::places_are_not_written();
 }
