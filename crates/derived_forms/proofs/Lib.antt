@@ -2,3 +2,4 @@ pub mod Bound
 pub mod Levels
 pub mod Lists
 pub mod PatLevels
+pub mod SigLevels

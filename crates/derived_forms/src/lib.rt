@@ -4,6 +4,8 @@
 mod bare;
 mod bind;
 mod name;
+mod node;
 mod pat;
 mod run;
+mod sig;
 mod ty;
