@@ -1,4 +1,6 @@
+pub mod Args
 pub mod Bound
+pub mod ExpLevels
 pub mod Levels
 pub mod Lists
 pub mod PatLevels

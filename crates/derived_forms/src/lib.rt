@@ -3,8 +3,10 @@
 
 mod bare;
 mod bind;
+mod fun;
 mod name;
 mod node;
+mod part;
 mod pat;
 mod run;
 mod sig;

@@ -5,11 +5,14 @@ ghost use Rattle.std.specs.Option.{unwrap_or};
 ghost use Rattle.derived_forms.specs.Nodes as spec;
 ghost use Rattle.derived_forms.specs.Nodes.{joined_exp};
 ghost use Rattle.derived_forms.specs.Runs.{applied_to};
+ghost use Rattle.derived_forms.specs.Types.{bare_ty};
+ghost use Rattle.sml_syntax.specs.declared.exp.Exp.TheVariants as bare;
 
-use crate::name::{label, long_of_name, long_of_text, place};
+use crate::name::{copy_long, label, long_of_name, long_of_text, place};
 use crate::run::Operand;
+use crate::ty::to_ty;
 use cm_base::{Boxed, List, NoMemory};
-use sml_syntax::{At, Constant, Dec, Exp, ExpField, Name, Pat, Rule, StrExp};
+use sml_syntax::{At, Constant, Dec, Exp, ExpField, FullTy, LongName, Name, Pat, Rule, StrExp};
 use std::alloc::Global;
 
 /// An expression, and the place where it is written with the parentheses around it.
@@ -288,4 +291,41 @@ pub fn operand(alloc: Global, at: At, begun: Option<PlacedExp>) -> PlacedExp
         },
         Some(operand) => operand,
     }
+}
+
+/// An identifier.
+pub fn named_exp(alloc: Global, at: At, long: &LongName) -> Result<Exp, NoMemory>
+    ensures { IfOk result (λ made. made ≡ bare.Long long.now at) }
+{
+    Ok(Exp::Long(copy_long(alloc, long)?, at))
+}
+
+/// `let dec in body end`
+pub fn let_exp(alloc: Global, at: At, dec: Dec, body: Exp) -> Result<Exp, NoMemory>
+    ensures { IfOk result (λ made. made ≡ bare.Let dec body at) }
+{
+    let dec = Boxed::new(alloc, dec)?;
+    Ok(Exp::Let(dec, Boxed::new(alloc, body)?, at))
+}
+
+/// `inner : ty`
+pub fn typed_exp(alloc: Global, at: At, inner: Exp, ty: &FullTy) -> Result<Exp, NoMemory>
+    ensures { IfOk result (λ made. made ≡ bare.Typed inner (bare_ty ty.now) at) }
+{
+    let inner = Boxed::new(alloc, inner)?;
+    Ok(Exp::Typed(inner, to_ty(alloc, ty)?, at))
+}
+
+/// `inner handle rules`
+pub fn handle_exp(alloc: Global, at: At, inner: Exp, rules: List<Rule>) -> Result<Exp, NoMemory>
+    ensures { IfOk result (λ made. made ≡ bare.Handle inner rules at) }
+{
+    Ok(Exp::Handle(Boxed::new(alloc, inner)?, rules, at))
+}
+
+/// `raise inner`
+pub fn raise_exp(alloc: Global, at: At, inner: Exp) -> Result<Exp, NoMemory>
+    ensures { IfOk result (λ made. made ≡ bare.Raise inner at) }
+{
+    Ok(Exp::Raise(Boxed::new(alloc, inner)?, at))
 }

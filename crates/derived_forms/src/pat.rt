@@ -48,7 +48,7 @@ fn constant_pat(constant: &Constant, at: At) -> Result<Pat, NoMemory>
     }
 }
 
-fn pair_pat(alloc: Global, at: At, first: Pat, second: Pat) -> Result<Pat, NoMemory>
+pub fn pair_pat(alloc: Global, at: At, first: Pat, second: Pat) -> Result<Pat, NoMemory>
     ensures { IfOk result (λ made. made ≡ spec.pair_pat at first second) }
 {
     let mut fields = List::new(alloc);
