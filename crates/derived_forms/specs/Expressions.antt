@@ -48,14 +48,20 @@ pub record PlacedDec : Type 0 where
 
 -- ---- parts of expressions
 
-abbrev pub exp_field_level : FullExpField-F PlacedDec PlacedExp (Part PlacedExp) PlacedStr BareClause ExpField Rule Rule StrBind CountedRule → ExpField
+abbrev pub exp_field_level :
+    FullExpField-F PlacedDec PlacedExp (Part PlacedExp) PlacedStr BareClause ExpField Rule Rule StrBind CountedRule
+    → ExpField
 exp_field_level part = field part.label part.exp.exp
 
-abbrev pub exp_item_level : FullExpItem-F PlacedDec PlacedExp (Part PlacedExp) PlacedStr BareClause ExpField Rule Rule StrBind CountedRule → Part PlacedExp
+abbrev pub exp_item_level :
+    FullExpItem-F PlacedDec PlacedExp (Part PlacedExp) PlacedStr BareClause ExpField Rule Rule StrBind CountedRule
+    → Part PlacedExp
 exp_item_level (FullExpItem-F.Atom e) = Part.Atom e
 exp_item_level (FullExpItem-F.Operator name fixity) = Part.Operator (record { name = name; fixity = fixity })
 
-abbrev pub rule_level : FullRule-F PlacedDec PlacedExp (Part PlacedExp) PlacedStr BareClause ExpField Rule Rule StrBind CountedRule → Rule
+abbrev pub rule_level :
+    FullRule-F PlacedDec PlacedExp (Part PlacedExp) PlacedStr BareClause ExpField Rule Rule StrBind CountedRule
+    → Rule
 rule_level each = rule (bare_pat each.pat).pat each.exp.exp
 
 -- ---- clauses of `fun`
@@ -81,7 +87,9 @@ abbrev pub result_exp : Option FullTy → PlacedExp → Exp
 result_exp None body = body.exp
 result_exp (Some ty) body = exp.Typed body.exp (bare_ty ty) body.at
 
-abbrev pub clause_level : FullClause-F PlacedDec PlacedExp (Part PlacedExp) PlacedStr BareClause ExpField Rule Rule StrBind CountedRule → BareClause
+abbrev pub clause_level :
+    FullClause-F PlacedDec PlacedExp (Part PlacedExp) PlacedStr BareClause ExpField Rule Rule StrBind CountedRule
+    → BareClause
 clause_level clause = record {
   name = head_name clause.head;
   args = head_args clause.head;
@@ -89,12 +97,16 @@ clause_level clause = record {
   at = clause.at;
 }
 
-abbrev pub fun_bind_level : FullFunBind-F PlacedDec PlacedExp (Part PlacedExp) PlacedStr BareClause ExpField Rule Rule StrBind CountedRule → Rule
+abbrev pub fun_bind_level :
+    FullFunBind-F PlacedDec PlacedExp (Part PlacedExp) PlacedStr BareClause ExpField Rule Rule StrBind CountedRule
+    → Rule
 fun_bind_level bind = fun_rule bind.at bind.clauses
 
 -- ---- bindings
 
-abbrev pub val_bind_level : FullValBind-F PlacedDec PlacedExp (Part PlacedExp) PlacedStr BareClause ExpField Rule Rule StrBind CountedRule → CountedRule
+abbrev pub val_bind_level :
+    FullValBind-F PlacedDec PlacedExp (Part PlacedExp) PlacedStr BareClause ExpField Rule Rule StrBind CountedRule
+    → CountedRule
 val_bind_level bind = record { recs = bind.recs; rule = rule (bare_pat bind.pat).pat bind.exp.exp }
 
 -- the bindings before the first `rec`, and those from it on
@@ -120,7 +132,9 @@ sealed (Some seal) body =
     if seal.opaque then str.Opaque body.str (bare_sig seal.sig) body.at
     else str.Transparent body.str (bare_sig seal.sig) body.at
 
-abbrev pub str_bind_level : FullStrBind-F PlacedDec PlacedExp (Part PlacedExp) PlacedStr BareClause ExpField Rule Rule StrBind CountedRule → StrBind
+abbrev pub str_bind_level :
+    FullStrBind-F PlacedDec PlacedExp (Part PlacedExp) PlacedStr BareClause ExpField Rule Rule StrBind CountedRule
+    → StrBind
 str_bind_level bind = roll-StrBind (record { name = bind.name; body = sealed bind.seal bind.body })
 
 -- ---- declarations
@@ -142,7 +156,9 @@ placed_dec at decs = record { at = at; decs = decs }
 
 -- The Definition, Appendix A, declarations: `fun tyvarseq fvalbind` is `val tyvarseq rec ..`. What only says how
 -- operators bind becomes nothing.
-abbrev pub dec_level : FullDec-F PlacedDec PlacedExp (Part PlacedExp) PlacedStr BareClause ExpField Rule Rule StrBind CountedRule → PlacedDec
+abbrev pub dec_level :
+    FullDec-F PlacedDec PlacedExp (Part PlacedExp) PlacedStr BareClause ExpField Rule Rule StrBind CountedRule
+    → PlacedDec
 dec_level (FullDec-F.Val tyvars binds at) =
     placed_dec at (dec.Val tyvars (plain_rules binds) (rec_rules binds) at ∷ [])
 dec_level (FullDec-F.Fun tyvars binds at) = placed_dec at (dec.Val tyvars [] binds at ∷ [])
@@ -162,7 +178,9 @@ dec_level (FullDec-F.Structures binds at) = placed_dec at (dec.Structures binds 
 
 -- The Definition, Appendix A, expressions: `()` is `{ }`, and `(exp1, .., expn)` is `{1 = exp1, .., n = expn}`.
 -- Parentheses and `op` vanish.
-abbrev pub exp_level : FullExp-F PlacedDec PlacedExp (Part PlacedExp) PlacedStr BareClause ExpField Rule Rule StrBind CountedRule → PlacedExp
+abbrev pub exp_level :
+    FullExp-F PlacedDec PlacedExp (Part PlacedExp) PlacedStr BareClause ExpField Rule Rule StrBind CountedRule
+    → PlacedExp
 exp_level (FullExp-F.Constant c at) = placed_exp at (constant_exp c at)
 exp_level (FullExp-F.Long long at) = placed_exp at (exp.Long long.long at)
 exp_level (FullExp-F.Record fields at) = placed_exp at (exp.Record fields at)
@@ -190,7 +208,9 @@ placed_str at str = record { at = at; str = str }
 
 -- The Definition, Appendix A, structure expressions: `funid (strdec)` is `funid (struct strdec end)`, which begins
 -- where its first declaration begins
-abbrev pub str_level : FullStrExp-F PlacedDec PlacedExp (Part PlacedExp) PlacedStr BareClause ExpField Rule Rule StrBind CountedRule → PlacedStr
+abbrev pub str_level :
+    FullStrExp-F PlacedDec PlacedExp (Part PlacedExp) PlacedStr BareClause ExpField Rule Rule StrBind CountedRule
+    → PlacedStr
 str_level (FullStrExp-F.Struct decs at) = placed_str at (str.Struct (sequence_dec at decs) at)
 str_level (FullStrExp-F.Named long at) = placed_str at (str.Named long at)
 str_level (FullStrExp-F.Transparent inner sig at) = placed_str at (str.Transparent inner.str (bare_sig sig) at)
@@ -205,49 +225,67 @@ str_level (FullStrExp-F.Within decs inner at) = placed_str at (str.Within (seque
 -- a declaration
 abbrev pub bare_dec : FullDec → PlacedDec
 bare_dec = fold-FullDec PlacedDec PlacedExp (Part PlacedExp) PlacedStr BareClause ExpField Rule Rule StrBind CountedRule
-    dec_level exp_level exp_item_level str_level clause_level exp_field_level fun_bind_level rule_level str_bind_level val_bind_level
+    dec_level exp_level exp_item_level str_level clause_level exp_field_level
+    fun_bind_level rule_level str_bind_level val_bind_level
 
 -- an expression
 abbrev pub bare_exp : FullExp → PlacedExp
 bare_exp = fold-FullExp PlacedDec PlacedExp (Part PlacedExp) PlacedStr BareClause ExpField Rule Rule StrBind CountedRule
-    dec_level exp_level exp_item_level str_level clause_level exp_field_level fun_bind_level rule_level str_bind_level val_bind_level
+    dec_level exp_level exp_item_level str_level clause_level exp_field_level
+    fun_bind_level rule_level str_bind_level val_bind_level
 
 -- a part of a run
 abbrev pub bare_item : FullExpItem → Part PlacedExp
-bare_item = fold-FullExpItem PlacedDec PlacedExp (Part PlacedExp) PlacedStr BareClause ExpField Rule Rule StrBind CountedRule
-    dec_level exp_level exp_item_level str_level clause_level exp_field_level fun_bind_level rule_level str_bind_level val_bind_level
+bare_item = fold-FullExpItem PlacedDec PlacedExp (Part PlacedExp) PlacedStr BareClause ExpField Rule Rule StrBind
+    CountedRule
+    dec_level exp_level exp_item_level str_level clause_level exp_field_level
+    fun_bind_level rule_level str_bind_level val_bind_level
 
 -- a structure expression
 abbrev pub bare_str : FullStrExp → PlacedStr
-bare_str = fold-FullStrExp PlacedDec PlacedExp (Part PlacedExp) PlacedStr BareClause ExpField Rule Rule StrBind CountedRule
-    dec_level exp_level exp_item_level str_level clause_level exp_field_level fun_bind_level rule_level str_bind_level val_bind_level
+bare_str = fold-FullStrExp PlacedDec PlacedExp (Part PlacedExp) PlacedStr BareClause ExpField Rule Rule StrBind
+    CountedRule
+    dec_level exp_level exp_item_level str_level clause_level exp_field_level
+    fun_bind_level rule_level str_bind_level val_bind_level
 
 -- a clause
 abbrev pub bare_clause : FullClause → BareClause
-bare_clause = fold-FullClause PlacedDec PlacedExp (Part PlacedExp) PlacedStr BareClause ExpField Rule Rule StrBind CountedRule
-    dec_level exp_level exp_item_level str_level clause_level exp_field_level fun_bind_level rule_level str_bind_level val_bind_level
+bare_clause = fold-FullClause PlacedDec PlacedExp (Part PlacedExp) PlacedStr BareClause ExpField Rule Rule StrBind
+    CountedRule
+    dec_level exp_level exp_item_level str_level clause_level exp_field_level
+    fun_bind_level rule_level str_bind_level val_bind_level
 
 -- a field of a record
 abbrev pub bare_field : FullExpField → ExpField
-bare_field = fold-FullExpField PlacedDec PlacedExp (Part PlacedExp) PlacedStr BareClause ExpField Rule Rule StrBind CountedRule
-    dec_level exp_level exp_item_level str_level clause_level exp_field_level fun_bind_level rule_level str_bind_level val_bind_level
+bare_field = fold-FullExpField PlacedDec PlacedExp (Part PlacedExp) PlacedStr BareClause ExpField Rule Rule StrBind
+    CountedRule
+    dec_level exp_level exp_item_level str_level clause_level exp_field_level
+    fun_bind_level rule_level str_bind_level val_bind_level
 
 -- a function of a `fun`
 abbrev pub bare_fun_bind : FullFunBind → Rule
-bare_fun_bind = fold-FullFunBind PlacedDec PlacedExp (Part PlacedExp) PlacedStr BareClause ExpField Rule Rule StrBind CountedRule
-    dec_level exp_level exp_item_level str_level clause_level exp_field_level fun_bind_level rule_level str_bind_level val_bind_level
+bare_fun_bind = fold-FullFunBind PlacedDec PlacedExp (Part PlacedExp) PlacedStr BareClause ExpField Rule Rule StrBind
+    CountedRule
+    dec_level exp_level exp_item_level str_level clause_level exp_field_level
+    fun_bind_level rule_level str_bind_level val_bind_level
 
 -- a rule
 abbrev pub bare_rule : FullRule → Rule
-bare_rule = fold-FullRule PlacedDec PlacedExp (Part PlacedExp) PlacedStr BareClause ExpField Rule Rule StrBind CountedRule
-    dec_level exp_level exp_item_level str_level clause_level exp_field_level fun_bind_level rule_level str_bind_level val_bind_level
+bare_rule = fold-FullRule PlacedDec PlacedExp (Part PlacedExp) PlacedStr BareClause ExpField Rule Rule StrBind
+    CountedRule
+    dec_level exp_level exp_item_level str_level clause_level exp_field_level
+    fun_bind_level rule_level str_bind_level val_bind_level
 
 -- a structure that is bound
 abbrev pub bare_str_bind : FullStrBind → StrBind
-bare_str_bind = fold-FullStrBind PlacedDec PlacedExp (Part PlacedExp) PlacedStr BareClause ExpField Rule Rule StrBind CountedRule
-    dec_level exp_level exp_item_level str_level clause_level exp_field_level fun_bind_level rule_level str_bind_level val_bind_level
+bare_str_bind = fold-FullStrBind PlacedDec PlacedExp (Part PlacedExp) PlacedStr BareClause ExpField Rule Rule StrBind
+    CountedRule
+    dec_level exp_level exp_item_level str_level clause_level exp_field_level
+    fun_bind_level rule_level str_bind_level val_bind_level
 
 -- a binding of a `val`
 abbrev pub bare_val_bind : FullValBind → CountedRule
-bare_val_bind = fold-FullValBind PlacedDec PlacedExp (Part PlacedExp) PlacedStr BareClause ExpField Rule Rule StrBind CountedRule
-    dec_level exp_level exp_item_level str_level clause_level exp_field_level fun_bind_level rule_level str_bind_level val_bind_level
+bare_val_bind = fold-FullValBind PlacedDec PlacedExp (Part PlacedExp) PlacedStr BareClause ExpField Rule Rule StrBind
+    CountedRule
+    dec_level exp_level exp_item_level str_level clause_level exp_field_level
+    fun_bind_level rule_level str_bind_level val_bind_level
