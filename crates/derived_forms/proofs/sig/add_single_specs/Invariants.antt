@@ -1,0 +1,8 @@
+use Rattle.std.proofs.Common.{◌≡◌, ◌++◌, drop, map}
+use Rattle.derived_forms.specs.Signatures.{single_of}
+use Rattle.derived_forms.proofs.sig.add_single_specs.Given as goal
+
+-- what is made, and the types that are left
+abbrev pub invariant-loop-desc : goal.invariant-loop-desc
+invariant-loop-desc l =
+    l.made ++ map (single_of l.at) (drop l.desc-index l.descs) ≡ l.fn.made ++ map (single_of l.at) l.descs

@@ -1,0 +1,291 @@
+-- Expressions, declarations and structure expressions without their derived forms. Each expression and structure
+-- expression is made with the place where it is written, since what stands around it may begin there.
+use Rattle.std.specs.Prelude.{ℕ, Bool, List, [], ◌∷◌, ◌++◌, map, Option, Some, None, if◌then◌else◌, ◌==◌}
+use Rattle.std.specs.List.{flat_map}
+use Rattle.std.specs.Option.{option_map}
+use Rattle.sml_syntax.specs.declared.name.At.{At}
+use Rattle.sml_syntax.specs.declared.name.Name.{Name}
+use Rattle.sml_syntax.specs.declared.full_ty.FullTy.{FullTy}
+use Rattle.sml_syntax.specs.declared.full_pat.FullPat.{FullPat}
+use Rattle.sml_syntax.specs.declared.full_sig.FullSeal.{FullSeal}
+use Rattle.sml_syntax.specs.declared.full_exp.FullHead.{FullHead}
+use Rattle.sml_syntax.specs.declared.full_exp.FullHead.TheVariants as head
+use Rattle.sml_syntax.specs.declared.full_exp.FullDec.{FullDec}
+use Rattle.sml_syntax.specs.declared.full_exp.FullDec.TheOpen.{FullDec-F, FullExp-F, FullExpItem-F, FullStrExp-F, FullClause-F, FullExpField-F, FullFunBind-F, FullRule-F, FullStrBind-F, FullValBind-F}
+use Rattle.sml_syntax.specs.declared.full_exp.FullDec.TheFolds.{fold-FullDec, fold-FullExp, fold-FullExpItem, fold-FullStrExp, fold-FullClause, fold-FullExpField, fold-FullFunBind, fold-FullRule, fold-FullStrBind, fold-FullValBind}
+use Rattle.sml_syntax.specs.declared.full_exp.FullExp.{FullExp}
+use Rattle.sml_syntax.specs.declared.full_exp.FullExpItem.{FullExpItem}
+use Rattle.sml_syntax.specs.declared.full_exp.FullStrExp.{FullStrExp}
+use Rattle.sml_syntax.specs.declared.full_exp.FullClause.{FullClause}
+use Rattle.sml_syntax.specs.declared.full_exp.FullExpField.{FullExpField}
+use Rattle.sml_syntax.specs.declared.full_exp.FullFunBind.{FullFunBind}
+use Rattle.sml_syntax.specs.declared.full_exp.FullRule.{FullRule}
+use Rattle.sml_syntax.specs.declared.full_exp.FullStrBind.{FullStrBind}
+use Rattle.sml_syntax.specs.declared.full_exp.FullValBind.{FullValBind}
+use Rattle.sml_syntax.specs.declared.exp.Dec.{Dec}
+use Rattle.sml_syntax.specs.declared.exp.Dec.TheVariants as dec
+use Rattle.sml_syntax.specs.declared.exp.Exp.{Exp}
+use Rattle.sml_syntax.specs.declared.exp.Exp.TheVariants as exp
+use Rattle.sml_syntax.specs.declared.exp.ExpField.{ExpField}
+use Rattle.sml_syntax.specs.declared.exp.Rule.{Rule}
+use Rattle.sml_syntax.specs.declared.exp.StrBind.{StrBind, roll-StrBind}
+use Rattle.sml_syntax.specs.declared.exp.StrExp.{StrExp}
+use Rattle.sml_syntax.specs.declared.exp.StrExp.TheVariants as str
+use Rattle.derived_forms.specs.declared.pat.PlacedPat.{PlacedPat}
+use Rattle.derived_forms.specs.declared.node.PlacedExp.{PlacedExp}
+use Rattle.derived_forms.specs.declared.node.PlacedStr.{PlacedStr}
+use Rattle.derived_forms.specs.declared.node.CountedRule.{CountedRule}
+use Rattle.derived_forms.specs.Types.{bare_ty, bare_typ_bind, bare_dat_bind, bare_ex_bind}
+use Rattle.derived_forms.specs.Patterns.{placed, bare_pat, pair_pat}
+use Rattle.derived_forms.specs.Signatures.{bare_sig}
+use Rattle.derived_forms.specs.Runs.{Part, run_of}
+use Rattle.derived_forms.specs.Nodes.{BareClause, placed_exp, rule, field, constant_exp, unit_exp, exp_fields_from, case_exp, if_exp, or_else, and_also, while_exp, list_exp, sequence_exp, body_exp, joined_exp, applied_exp, missing_exp, fun_rule}
+
+-- what a declaration becomes, none or one, and where it is written
+pub record PlacedDec : Type 0 where
+  pub at : At
+  pub decs : List Dec
+
+-- ---- parts of expressions
+
+abbrev pub exp_field_level :
+    FullExpField-F PlacedDec PlacedExp (Part PlacedExp) PlacedStr BareClause ExpField Rule Rule StrBind CountedRule
+    → ExpField
+exp_field_level part = field part.label part.exp.exp
+
+abbrev pub exp_item_level :
+    FullExpItem-F PlacedDec PlacedExp (Part PlacedExp) PlacedStr BareClause ExpField Rule Rule StrBind CountedRule
+    → Part PlacedExp
+exp_item_level (FullExpItem-F.Atom e) = Part.Atom e
+exp_item_level (FullExpItem-F.Operator name fixity) = Part.Operator (record { name = name; fixity = fixity })
+
+abbrev pub rule_level :
+    FullRule-F PlacedDec PlacedExp (Part PlacedExp) PlacedStr BareClause ExpField Rule Rule StrBind CountedRule
+    → Rule
+rule_level each = rule (bare_pat each.pat).pat each.exp.exp
+
+-- ---- clauses of `fun`
+
+abbrev pub head_name : FullHead → Name
+head_name (head.Prefix name args) = name.name
+head_name (head.Infix left name right) = name
+head_name (head.ParenInfix left name right args) = name
+
+-- the two arguments of an infix name, as one pattern that begins at the first: The Definition, figure 20,
+-- `(atpat1 vid atpat2) atpat3 ..` is `op vid (atpat1, atpat2) atpat3 ..`
+abbrev pub infix_pat : PlacedPat → PlacedPat → PlacedPat
+infix_pat left right = placed left.at (pair_pat left.at left.pat right.pat)
+
+abbrev pub head_args : FullHead → List PlacedPat
+head_args (head.Prefix name args) = map bare_pat args
+head_args (head.Infix left name right) = infix_pat (bare_pat left) (bare_pat right) ∷ []
+head_args (head.ParenInfix left name right args) =
+    infix_pat (bare_pat left) (bare_pat right) ∷ map bare_pat args
+
+-- `exp : ty`, which begins at `exp`
+abbrev pub result_exp : Option FullTy → PlacedExp → Exp
+result_exp None body = body.exp
+result_exp (Some ty) body = exp.Typed body.exp (bare_ty ty) body.at
+
+abbrev pub clause_level :
+    FullClause-F PlacedDec PlacedExp (Part PlacedExp) PlacedStr BareClause ExpField Rule Rule StrBind CountedRule
+    → BareClause
+clause_level clause = record {
+  name = head_name clause.head;
+  args = head_args clause.head;
+  body = result_exp clause.ty clause.body;
+  at = clause.at;
+}
+
+abbrev pub fun_bind_level :
+    FullFunBind-F PlacedDec PlacedExp (Part PlacedExp) PlacedStr BareClause ExpField Rule Rule StrBind CountedRule
+    → Rule
+fun_bind_level bind = fun_rule bind.at bind.clauses
+
+-- ---- bindings
+
+abbrev pub val_bind_level :
+    FullValBind-F PlacedDec PlacedExp (Part PlacedExp) PlacedStr BareClause ExpField Rule Rule StrBind CountedRule
+    → CountedRule
+val_bind_level bind = record { recs = bind.recs; rule = rule (bare_pat bind.pat).pat bind.exp.exp }
+
+-- the bindings before the first `rec`, and those from it on
+abbrev pub plain_rules : List CountedRule → List Rule
+plain_rules [] = []
+plain_rules (bind ∷ binds) = if bind.recs == 0 then (bind.rule ∷ plain_rules binds) else []
+
+abbrev pub rec_binds : List CountedRule → List CountedRule
+rec_binds [] = []
+rec_binds (bind ∷ binds) = if bind.recs == 0 then rec_binds binds else (bind ∷ binds)
+
+abbrev pub rule_of : CountedRule → Rule
+rule_of bind = bind.rule
+
+abbrev pub rec_rules : List CountedRule → List Rule
+rec_rules binds = map rule_of (rec_binds binds)
+
+-- The Definition, Appendix A, structure bindings: `strid : sigexp = strexp` is `strid = strexp : sigexp`, and so with
+-- `:>`; what is matched begins at `strexp`
+abbrev pub sealed : Option FullSeal → PlacedStr → StrExp
+sealed None body = body.str
+sealed (Some seal) body =
+    if seal.opaque then str.Opaque body.str (bare_sig seal.sig) body.at
+    else str.Transparent body.str (bare_sig seal.sig) body.at
+
+abbrev pub str_bind_level :
+    FullStrBind-F PlacedDec PlacedExp (Part PlacedExp) PlacedStr BareClause ExpField Rule Rule StrBind CountedRule
+    → StrBind
+str_bind_level bind = roll-StrBind (record { name = bind.name; body = sealed bind.seal bind.body })
+
+-- ---- declarations
+
+-- declarations one after another; the node stands where the phrase around them stands
+abbrev pub decs_of : PlacedDec → List Dec
+decs_of each = each.decs
+
+abbrev pub sequence_dec : At → List PlacedDec → Dec
+sequence_dec at decs = dec.Sequence (flat_map decs_of decs) at
+
+-- where the first declaration stands
+abbrev pub first_at : At → List PlacedDec → At
+first_at at [] = at
+first_at at (each ∷ others) = each.at
+
+abbrev pub placed_dec : At → List Dec → PlacedDec
+placed_dec at decs = record { at = at; decs = decs }
+
+-- The Definition, Appendix A, declarations: `fun tyvarseq fvalbind` is `val tyvarseq rec ..`. What only says how
+-- operators bind becomes nothing.
+abbrev pub dec_level :
+    FullDec-F PlacedDec PlacedExp (Part PlacedExp) PlacedStr BareClause ExpField Rule Rule StrBind CountedRule
+    → PlacedDec
+dec_level (FullDec-F.Val tyvars binds at) =
+    placed_dec at (dec.Val tyvars (plain_rules binds) (rec_rules binds) at ∷ [])
+dec_level (FullDec-F.Fun tyvars binds at) = placed_dec at (dec.Val tyvars [] binds at ∷ [])
+dec_level (FullDec-F.Types binds at) = placed_dec at (dec.Types (map bare_typ_bind binds) at ∷ [])
+dec_level (FullDec-F.Datatypes binds at) = placed_dec at (dec.Datatypes (map bare_dat_bind binds) at ∷ [])
+dec_level (FullDec-F.Replication name long at) = placed_dec at (dec.Replication name long at ∷ [])
+dec_level (FullDec-F.Exceptions binds at) = placed_dec at (dec.Exceptions (map bare_ex_bind binds) at ∷ [])
+dec_level (FullDec-F.Local hidden decs at) =
+    placed_dec at (dec.Local (sequence_dec at hidden) (sequence_dec at decs) at ∷ [])
+dec_level (FullDec-F.Open longs at) = placed_dec at (dec.Open longs at ∷ [])
+dec_level (FullDec-F.Infix strength names at) = placed_dec at []
+dec_level (FullDec-F.Infixr strength names at) = placed_dec at []
+dec_level (FullDec-F.Nonfix names at) = placed_dec at []
+dec_level (FullDec-F.Structures binds at) = placed_dec at (dec.Structures binds at ∷ [])
+
+-- ---- expressions
+
+-- The Definition, Appendix A, expressions: `()` is `{ }`, and `(exp1, .., expn)` is `{1 = exp1, .., n = expn}`.
+-- Parentheses and `op` vanish.
+abbrev pub exp_level :
+    FullExp-F PlacedDec PlacedExp (Part PlacedExp) PlacedStr BareClause ExpField Rule Rule StrBind CountedRule
+    → PlacedExp
+exp_level (FullExp-F.Constant c at) = placed_exp at (constant_exp c at)
+exp_level (FullExp-F.Long long at) = placed_exp at (exp.Long long.long at)
+exp_level (FullExp-F.Record fields at) = placed_exp at (exp.Record fields at)
+exp_level (FullExp-F.Unit at) = placed_exp at (unit_exp at)
+exp_level (FullExp-F.Tuple parts at) = placed_exp at (exp.Record (exp_fields_from at 1 parts) at)
+exp_level (FullExp-F.Sequence exps at) = placed_exp at (sequence_exp at exps)
+exp_level (FullExp-F.Paren inner at) = placed_exp at inner.exp
+exp_level (FullExp-F.List items at) = placed_exp at (list_exp at items)
+exp_level (FullExp-F.Let decs exps at) = placed_exp at (exp.Let (sequence_dec at decs) (body_exp at exps) at)
+exp_level (FullExp-F.Run parts at) = placed_exp at (run_of joined_exp applied_exp (missing_exp at) parts).exp
+exp_level (FullExp-F.Typed inner ty at) = placed_exp at (exp.Typed inner.exp (bare_ty ty) at)
+exp_level (FullExp-F.AndAlso a b at) = placed_exp at (and_also at a.exp b.exp)
+exp_level (FullExp-F.OrElse a b at) = placed_exp at (or_else at a.exp b.exp)
+exp_level (FullExp-F.Handle inner rules at) = placed_exp at (exp.Handle inner.exp rules at)
+exp_level (FullExp-F.Raise inner at) = placed_exp at (exp.Raise inner.exp at)
+exp_level (FullExp-F.If a b c at) = placed_exp at (if_exp at a.exp b.exp c.exp)
+exp_level (FullExp-F.While a b at) = placed_exp at (while_exp at a.exp b.exp)
+exp_level (FullExp-F.Case subject rules at) = placed_exp at (case_exp at subject.exp rules)
+exp_level (FullExp-F.Fn rules at) = placed_exp at (exp.Fn rules at)
+
+-- ---- structure expressions
+
+abbrev pub placed_str : At → StrExp → PlacedStr
+placed_str at str = record { at = at; str = str }
+
+-- The Definition, Appendix A, structure expressions: `funid (strdec)` is `funid (struct strdec end)`, which begins
+-- where its first declaration begins
+abbrev pub str_level :
+    FullStrExp-F PlacedDec PlacedExp (Part PlacedExp) PlacedStr BareClause ExpField Rule Rule StrBind CountedRule
+    → PlacedStr
+str_level (FullStrExp-F.Struct decs at) = placed_str at (str.Struct (sequence_dec at decs) at)
+str_level (FullStrExp-F.Named long at) = placed_str at (str.Named long at)
+str_level (FullStrExp-F.Transparent inner sig at) = placed_str at (str.Transparent inner.str (bare_sig sig) at)
+str_level (FullStrExp-F.Opaque inner sig at) = placed_str at (str.Opaque inner.str (bare_sig sig) at)
+str_level (FullStrExp-F.Functor name arg at) = placed_str at (str.Functor name arg.str at)
+str_level (FullStrExp-F.FunctorOfDecs name decs at) =
+    let begin = first_at at decs in placed_str at (str.Functor name (str.Struct (sequence_dec begin decs) begin) at)
+str_level (FullStrExp-F.Within decs inner at) = placed_str at (str.Within (sequence_dec at decs) inner.str at)
+
+-- ---- what each becomes
+
+-- a declaration
+abbrev pub bare_dec : FullDec → PlacedDec
+bare_dec = fold-FullDec PlacedDec PlacedExp (Part PlacedExp) PlacedStr BareClause ExpField Rule Rule StrBind CountedRule
+    dec_level exp_level exp_item_level str_level clause_level exp_field_level
+    fun_bind_level rule_level str_bind_level val_bind_level
+
+-- an expression
+abbrev pub bare_exp : FullExp → PlacedExp
+bare_exp = fold-FullExp PlacedDec PlacedExp (Part PlacedExp) PlacedStr BareClause ExpField Rule Rule StrBind CountedRule
+    dec_level exp_level exp_item_level str_level clause_level exp_field_level
+    fun_bind_level rule_level str_bind_level val_bind_level
+
+-- a part of a run
+abbrev pub bare_item : FullExpItem → Part PlacedExp
+bare_item = fold-FullExpItem PlacedDec PlacedExp (Part PlacedExp) PlacedStr BareClause ExpField Rule Rule StrBind
+    CountedRule
+    dec_level exp_level exp_item_level str_level clause_level exp_field_level
+    fun_bind_level rule_level str_bind_level val_bind_level
+
+-- a structure expression
+abbrev pub bare_str : FullStrExp → PlacedStr
+bare_str = fold-FullStrExp PlacedDec PlacedExp (Part PlacedExp) PlacedStr BareClause ExpField Rule Rule StrBind
+    CountedRule
+    dec_level exp_level exp_item_level str_level clause_level exp_field_level
+    fun_bind_level rule_level str_bind_level val_bind_level
+
+-- a clause
+abbrev pub bare_clause : FullClause → BareClause
+bare_clause = fold-FullClause PlacedDec PlacedExp (Part PlacedExp) PlacedStr BareClause ExpField Rule Rule StrBind
+    CountedRule
+    dec_level exp_level exp_item_level str_level clause_level exp_field_level
+    fun_bind_level rule_level str_bind_level val_bind_level
+
+-- a field of a record
+abbrev pub bare_field : FullExpField → ExpField
+bare_field = fold-FullExpField PlacedDec PlacedExp (Part PlacedExp) PlacedStr BareClause ExpField Rule Rule StrBind
+    CountedRule
+    dec_level exp_level exp_item_level str_level clause_level exp_field_level
+    fun_bind_level rule_level str_bind_level val_bind_level
+
+-- a function of a `fun`
+abbrev pub bare_fun_bind : FullFunBind → Rule
+bare_fun_bind = fold-FullFunBind PlacedDec PlacedExp (Part PlacedExp) PlacedStr BareClause ExpField Rule Rule StrBind
+    CountedRule
+    dec_level exp_level exp_item_level str_level clause_level exp_field_level
+    fun_bind_level rule_level str_bind_level val_bind_level
+
+-- a rule
+abbrev pub bare_rule : FullRule → Rule
+bare_rule = fold-FullRule PlacedDec PlacedExp (Part PlacedExp) PlacedStr BareClause ExpField Rule Rule StrBind
+    CountedRule
+    dec_level exp_level exp_item_level str_level clause_level exp_field_level
+    fun_bind_level rule_level str_bind_level val_bind_level
+
+-- a structure that is bound
+abbrev pub bare_str_bind : FullStrBind → StrBind
+bare_str_bind = fold-FullStrBind PlacedDec PlacedExp (Part PlacedExp) PlacedStr BareClause ExpField Rule Rule StrBind
+    CountedRule
+    dec_level exp_level exp_item_level str_level clause_level exp_field_level
+    fun_bind_level rule_level str_bind_level val_bind_level
+
+-- a binding of a `val`
+abbrev pub bare_val_bind : FullValBind → CountedRule
+bare_val_bind = fold-FullValBind PlacedDec PlacedExp (Part PlacedExp) PlacedStr BareClause ExpField Rule Rule StrBind
+    CountedRule
+    dec_level exp_level exp_item_level str_level clause_level exp_field_level
+    fun_bind_level rule_level str_bind_level val_bind_level

@@ -1,0 +1,191 @@
+//! The parts of functions that are bound by `fun`.
+
+ghost use Rattle.std.specs.Prelude.{◌≡◌, ◌++◌, IfOk, OnOk, map};
+ghost use Rattle.derived_forms.specs.Nodes as spec;
+ghost use Rattle.derived_forms.specs.Expressions.{head_name, head_args, infix_pat};
+ghost use Rattle.derived_forms.specs.Patterns.{bare_pat, pat_fields_from};
+
+use crate::name::{label, long_of_name, place};
+use crate::node::{case_exp, long_exp, long_pat, one_rule, unit_exp};
+use crate::pat::{PlacedPat, pair_pat, to_pat, to_pats};
+use cm_base::{List, NoMemory, Text};
+use sml_syntax::{At, Exp, ExpField, FullHead, FullPat, Name, Pat, PatField, Rule};
+use std::alloc::Global;
+
+/// The name of the function of a clause.
+pub fn name_of(head: &FullHead) -> &Name
+    ensures { result.now ≡ head_name head.now }
+{
+    match head {
+        FullHead::Prefix(name, _) => &name.name,
+        FullHead::Infix(_, name, _) => name,
+        FullHead::ParenInfix(_, name, _, _) => name,
+    }
+}
+
+/// The two arguments of an infix name, as one pattern.
+fn infix_args(alloc: Global, left: &FullPat, right: &FullPat) -> Result<PlacedPat, NoMemory>
+    ensures { IfOk result (λ made. made ≡ infix_pat (bare_pat left.now) (bare_pat right.now)) }
+{
+    let left = to_pat(alloc, left)?;
+    let right = to_pat(alloc, right)?;
+    Ok(PlacedPat {
+        at: left.at,
+        pat: pair_pat(alloc, left.at, left.pat, right.pat)?,
+    })
+}
+
+/// The arguments of a clause.
+pub fn args_of(alloc: Global, head: &FullHead) -> Result<Vec<PlacedPat>, NoMemory>
+    ensures { IfOk result (λ made. made.items ≡ head_args head.now) }
+{
+    match head {
+        FullHead::Prefix(_, args) => to_pats(alloc, args.as_slice()),
+        FullHead::Infix(left, _, right) => {
+            let mut args = Vec::new(alloc);
+            args.push(infix_args(alloc, left, right)?)?;
+            Ok(args)
+        }
+        FullHead::ParenInfix(left, _, right, others) => {
+            let mut args = Vec::new(alloc);
+            args.push(infix_args(alloc, left, right)?)?;
+            add_pats(alloc, &mut args, others.as_slice())?;
+            Ok(args)
+        }
+    }
+}
+
+/// Adds patterns.
+fn add_pats(alloc: Global, made: &mut Vec<PlacedPat>, pats: &[FullPat]) -> Result<(), NoMemory>
+    ensures { OnOk result (made.new.items ≡ made.old.items ++ map bare_pat pats.now) }
+{
+    for pat in pats {
+        made.push(to_pat(alloc, pat)?)?;
+    }
+    Ok(())
+}
+
+/// The fields of a tuple pattern of these parts.
+#[tactic(auto, using(crate::proofs::Args::field_steps))]
+fn fields_of(alloc: Global, at: At, parts: Vec<PlacedPat>) -> Result<List<PatField>, NoMemory>
+    ensures { IfOk result (λ made. made ≡ pat_fields_from at 1 parts.items) }
+{
+    let mut parts = parts;
+    let mut fields = Vec::new(alloc);
+    while let Some(part) = parts.pop() {
+        let label = label(alloc, at, parts.len() + 1)?;
+        let pat = part.pat;
+        fields.push(PatField { label, pat })?;
+    }
+    fields.reverse();
+    Ok(List::from_vec(fields))
+}
+
+/// Where the tuple of a clause's arguments begins: where the first does.
+fn args_place(at: At, args: &[PlacedPat]) -> At
+    ensures { result ≡ spec.args_place at args.now }
+{
+    match args {
+        [] => at,
+        [first, ..] => first.at,
+    }
+}
+
+/// The pattern of a clause: its argument, or the tuple of them.
+#[tactic(auto, using(crate::proofs::Args::only_steps))]
+pub fn args_pat(alloc: Global, at: At, args: Vec<PlacedPat>) -> Result<Pat, NoMemory>
+    ensures { IfOk result (λ made. made ≡ spec.args_pat at args.items) }
+{
+    let mut args = args;
+    let begin = args_place(at, args.as_slice());
+    let Some(last) = args.pop() else {
+        return Ok(Pat::Record(List::new(alloc), at));
+    };
+    if args.is_empty() {
+        return Ok(last.pat);
+    }
+    args.push(last)?;
+    Ok(Pat::Record(fields_of(alloc, begin, args)?, begin))
+}
+
+/// The name of an argument, which no source has.
+fn arg_text(alloc: Global, number: usize) -> Result<Text, NoMemory>
+    ensures { IfOk result (λ text. text ≡ spec.arg_text number) }
+{
+    let digits = number.to_string(alloc)?;
+    let mut bytes = Vec::from_slice(alloc, b"%")?;
+    bytes.extend_from_slice(digits.as_bytes())?;
+    Ok(Text::from_vec(bytes))
+}
+
+/// The arguments of a function as the fields of a tuple, as many as these patterns.
+fn subject_fields(alloc: Global, at: At, args: &[PlacedPat]) -> Result<List<ExpField>, NoMemory>
+    ensures { IfOk result (λ made. made ≡ spec.subject_fields at 1 args.now) }
+{
+    let mut fields = List::new(alloc);
+    let mut number = 1;
+    for arg in args {
+        let _one = arg;
+        let text = arg_text(alloc, number)?;
+        fields.add(ExpField {
+            label: label(alloc, at, number)?,
+            exp: long_exp(alloc, at, text.as_bytes())?,
+        })?;
+        number += 1;
+    }
+    Ok(fields)
+}
+
+/// What the clauses of a function are chosen by: its argument, or the tuple of them.
+fn subject(alloc: Global, at: At, args: &[PlacedPat]) -> Result<Exp, NoMemory>
+    ensures { IfOk result (λ made. made ≡ spec.subject_exp at args.now) }
+{
+    match args {
+        [] => Ok(unit_exp(alloc, at)),
+        [_] => {
+            let text = arg_text(alloc, 1)?;
+            long_exp(alloc, at, text.as_bytes())
+        }
+        [_, _, ..] => Ok(Exp::Record(subject_fields(alloc, at, args)?, at)),
+    }
+}
+
+/// A function of one argument, by its number.
+fn arg_fn(alloc: Global, at: At, number: usize, body: Exp) -> Result<Exp, NoMemory>
+    ensures { IfOk result (λ made. made ≡ spec.arg_fn at number body) }
+{
+    let text = arg_text(alloc, number)?;
+    let pat = long_pat(alloc, at, text.as_bytes())?;
+    Ok(Exp::Fn(one_rule(alloc, pat, body)?, at))
+}
+
+/// A function of so many arguments, one after another.
+#[tactic(auto, using(crate::proofs::Args::curried_steps))]
+fn curried(alloc: Global, at: At, count: usize, body: Exp) -> Result<Exp, NoMemory>
+    ensures { IfOk result (λ made. made ≡ spec.curried at 1 count body) }
+{
+    let mut made = body;
+    let mut number = count;
+    while number > 0 {
+        made = arg_fn(alloc, at, number, made)?;
+        number -= 1;
+    }
+    Ok(made)
+}
+
+/// A function: its name and what it is.
+pub fn fun_of(
+    alloc: Global,
+    at: At,
+    name: &Name,
+    args: &[PlacedPat],
+    rules: List<Rule>,
+) -> Result<Rule, NoMemory>
+    ensures { IfOk result (λ made. made ≡ spec.fun_of at name.now args.now rules) }
+{
+    let subject = subject(alloc, at, args)?;
+    let chosen = case_exp(alloc, at, subject, rules)?;
+    let exp = curried(alloc, at, args.len(), chosen)?;
+    let pat = Pat::Long(long_of_name(alloc, name)?, place(name));
+    Ok(Rule { pat, exp })
+}

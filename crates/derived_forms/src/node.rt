@@ -1,0 +1,331 @@
+//! The nodes that derived forms of expressions are made of.
+
+ghost use Rattle.std.specs.Prelude.{◌≡◌, IfOk};
+ghost use Rattle.std.specs.Option.{unwrap_or};
+ghost use Rattle.derived_forms.specs.Nodes as spec;
+ghost use Rattle.derived_forms.specs.Nodes.{joined_exp};
+ghost use Rattle.derived_forms.specs.Runs.{applied_to};
+ghost use Rattle.derived_forms.specs.Types.{bare_ty};
+ghost use Rattle.sml_syntax.specs.declared.exp.Exp.TheVariants as bare;
+
+use crate::name::{copy_long, label, long_of_name, long_of_text, place};
+use crate::run::Operand;
+use crate::ty::to_ty;
+use cm_base::{Boxed, List, NoMemory};
+use sml_syntax::{At, Constant, Dec, Exp, ExpField, FullTy, LongName, Name, Pat, Rule, StrExp};
+use std::alloc::Global;
+
+/// An expression, and the place where it is written with the parentheses around it.
+#[derive(Drop)]
+pub struct PlacedExp {
+    pub at: At,
+    pub exp: Exp,
+}
+
+/// A structure expression, and the place where it is written.
+#[derive(Drop)]
+pub struct PlacedStr {
+    pub at: At,
+    pub str: StrExp,
+}
+
+/// A binding of a `val`, with the number of times that `rec` stands before it.
+#[derive(Drop)]
+pub struct CountedRule {
+    pub recs: u32,
+    pub rule: Rule,
+}
+
+impl Operand for PlacedExp {
+    ghost joined = { joined_exp };
+
+    fn join(
+        alloc: Global,
+        operator: Name,
+        left: PlacedExp,
+        right: PlacedExp,
+    ) -> Result<PlacedExp, NoMemory> {
+        let at = left.at;
+        let pair = Boxed::new(alloc, pair_exp(alloc, at, left.exp, right.exp)?)?;
+        let function = Exp::Long(long_of_name(alloc, &operator)?, place(&operator));
+        let exp = Exp::App(Boxed::new(alloc, function)?, pair, at);
+        Ok(PlacedExp { at, exp })
+    }
+}
+
+pub fn constant_exp(constant: &Constant, at: At) -> Result<Exp, NoMemory>
+    ensures { IfOk result (λ made. made ≡ spec.constant_exp constant.now at) }
+{
+    match constant {
+        Constant::Int(n) => Ok(Exp::Int(*n, at)),
+        Constant::Str(text) => Ok(Exp::Str(text.copy()?, at)),
+        Constant::Char(byte) => Ok(Exp::Char(*byte, at)),
+    }
+}
+
+/// A pattern that is an identifier, which isn't written.
+pub fn long_pat(alloc: Global, at: At, text: &[u8]) -> Result<Pat, NoMemory>
+    ensures { IfOk result (λ made. made ≡ spec.long_pat at text.now) }
+{
+    Ok(Pat::Long(long_of_text(alloc, at, text)?, at))
+}
+
+/// An expression that is an identifier, which isn't written.
+pub fn long_exp(alloc: Global, at: At, text: &[u8]) -> Result<Exp, NoMemory>
+    ensures { IfOk result (λ made. made ≡ spec.long_exp at text.now) }
+{
+    Ok(Exp::Long(long_of_text(alloc, at, text)?, at))
+}
+
+pub fn unit_exp(alloc: Global, at: At) -> Exp
+    ensures { result ≡ spec.unit_exp at }
+{
+    Exp::Record(List::new(alloc), at)
+}
+
+fn pair_exp(alloc: Global, at: At, first: Exp, second: Exp) -> Result<Exp, NoMemory>
+    ensures { IfOk result (λ made. made ≡ spec.pair_exp at first second) }
+{
+    let mut fields = List::new(alloc);
+    fields.add(ExpField {
+        label: label(alloc, at, 1)?,
+        exp: first,
+    })?;
+    fields.add(ExpField {
+        label: label(alloc, at, 2)?,
+        exp: second,
+    })?;
+    Ok(Exp::Record(fields, at))
+}
+
+/// A match of one rule.
+pub fn one_rule(alloc: Global, pat: Pat, exp: Exp) -> Result<List<Rule>, NoMemory>
+    ensures { IfOk result (λ made. made ≡ spec.one_rule pat exp) }
+{
+    let mut rules = List::new(alloc);
+    rules.add(Rule { pat, exp })?;
+    Ok(rules)
+}
+
+/// `case subject of rules`
+pub fn case_exp(alloc: Global, at: At, subject: Exp, rules: List<Rule>) -> Result<Exp, NoMemory>
+    ensures { IfOk result (λ made. made ≡ spec.case_exp at subject rules) }
+{
+    let function = Boxed::new(alloc, Exp::Fn(rules, at))?;
+    Ok(Exp::App(function, Boxed::new(alloc, subject)?, at))
+}
+
+/// `if test then first else second`
+pub fn if_exp(alloc: Global, at: At, test: Exp, first: Exp, second: Exp) -> Result<Exp, NoMemory>
+    ensures { IfOk result (λ made. made ≡ spec.if_exp at test first second) }
+{
+    let mut rules = one_rule(alloc, long_pat(alloc, at, b"true")?, first)?;
+    rules.add(Rule {
+        pat: long_pat(alloc, at, b"false")?,
+        exp: second,
+    })?;
+    case_exp(alloc, at, test, rules)
+}
+
+/// `a orelse b`
+pub fn or_else(alloc: Global, at: At, a: Exp, b: Exp) -> Result<Exp, NoMemory>
+    ensures { IfOk result (λ made. made ≡ spec.or_else at a b) }
+{
+    let yes = long_exp(alloc, at, b"true")?;
+    if_exp(alloc, at, a, yes, b)
+}
+
+/// `a andalso b`
+pub fn and_also(alloc: Global, at: At, a: Exp, b: Exp) -> Result<Exp, NoMemory>
+    ensures { IfOk result (λ made. made ≡ spec.and_also at a b) }
+{
+    let no = long_exp(alloc, at, b"false")?;
+    if_exp(alloc, at, a, b, no)
+}
+
+/// `(a; b)`
+fn then_exp(alloc: Global, at: At, a: Exp, b: Exp) -> Result<Exp, NoMemory>
+    ensures { IfOk result (λ made. made ≡ spec.then_exp at a b) }
+{
+    let rules = one_rule(alloc, Pat::Wild(at), b)?;
+    case_exp(alloc, at, a, rules)
+}
+
+/// The call of a loop, `%0 ()`.
+fn while_call(alloc: Global, at: At) -> Result<Exp, NoMemory>
+    ensures { IfOk result (λ made. made ≡ spec.while_call at) }
+{
+    let function = Boxed::new(alloc, long_exp(alloc, at, b"%0")?)?;
+    Ok(Exp::App(function, Boxed::new(alloc, unit_exp(alloc, at))?, at))
+}
+
+/// The function of a loop.
+fn while_body(alloc: Global, at: At, test: Exp, body: Exp) -> Result<Exp, NoMemory>
+    ensures { IfOk result (λ made. made ≡ spec.while_body at test body) }
+{
+    let again = then_exp(alloc, at, body, while_call(alloc, at)?)?;
+    let step = if_exp(alloc, at, test, again, unit_exp(alloc, at))?;
+    let rules = one_rule(alloc, Pat::Record(List::new(alloc), at), step)?;
+    Ok(Exp::Fn(rules, at))
+}
+
+/// The declaration of a loop's function.
+fn while_dec(alloc: Global, at: At, test: Exp, body: Exp) -> Result<Dec, NoMemory>
+    ensures { IfOk result (λ made. made ≡ spec.while_dec at test body) }
+{
+    let body = while_body(alloc, at, test, body)?;
+    let rules = one_rule(alloc, long_pat(alloc, at, b"%0")?, body)?;
+    Ok(Dec::Val(List::new(alloc), List::new(alloc), rules, at))
+}
+
+/// `while test do body`
+pub fn while_exp(alloc: Global, at: At, test: Exp, body: Exp) -> Result<Exp, NoMemory>
+    ensures { IfOk result (λ made. made ≡ spec.while_exp at test body) }
+{
+    let mut decs = List::new(alloc);
+    decs.add(while_dec(alloc, at, test, body)?)?;
+    let decs = Boxed::new(alloc, Dec::Sequence(decs, at))?;
+    Ok(Exp::Let(decs, Boxed::new(alloc, while_call(alloc, at)?)?, at))
+}
+
+/// `first :: rest`, of which the `::` isn't written.
+fn cons_exp(alloc: Global, at: At, first: Exp, rest: Exp) -> Result<Exp, NoMemory>
+    ensures { IfOk result (λ made. made ≡ spec.cons_exp at first rest) }
+{
+    let pair = Boxed::new(alloc, pair_exp(alloc, at, first, rest)?)?;
+    let function = Boxed::new(alloc, long_exp(alloc, at, b"::")?)?;
+    Ok(Exp::App(function, pair, at))
+}
+
+/// Where the node behind these items begins: where its item begins, or all of it if the item is the first.
+fn node_place(at: At, before: &[PlacedExp], item: At) -> At
+    ensures { result ≡ spec.node_place at before.now item }
+{
+    match before {
+        [] => at,
+        [_, ..] => item,
+    }
+}
+
+/// A list of these items, whose first node begins where the list begins.
+#[tactic(auto, using(crate::proofs::Lists::exp_steps))]
+pub fn list_exp(alloc: Global, at: At, items: Vec<PlacedExp>) -> Result<Exp, NoMemory>
+    ensures { IfOk result (λ made. made ≡ spec.list_exp at items.items) }
+{
+    let mut items = items;
+    let mut rest = long_exp(alloc, at, b"nil")?;
+    while let Some(item) = items.pop() {
+        let begin = node_place(at, items.as_slice(), item.at);
+        rest = cons_exp(alloc, begin, item.exp, rest)?;
+    }
+    Ok(rest)
+}
+
+/// Expressions one after another, whose first node begins where all of it begins.
+#[tactic(auto, using(crate::proofs::Lists::exp_steps))]
+pub fn sequence_exp(alloc: Global, at: At, items: Vec<PlacedExp>) -> Result<Exp, NoMemory>
+    ensures { IfOk result (λ made. made ≡ spec.sequence_exp at items.items) }
+{
+    let mut items = items;
+    let Some(last) = items.pop() else {
+        return Ok(unit_exp(alloc, at));
+    };
+    let mut rest = last.exp;
+    while let Some(item) = items.pop() {
+        let begin = node_place(at, items.as_slice(), item.at);
+        rest = then_exp(alloc, begin, item.exp, rest)?;
+    }
+    Ok(rest)
+}
+
+/// The expressions after the `in` of a `let`.
+pub fn body_exp(alloc: Global, at: At, items: Vec<PlacedExp>) -> Result<Exp, NoMemory>
+    ensures { IfOk result (λ made. made ≡ spec.body_exp at items.items) }
+{
+    let begin = first_place(at, items.as_slice());
+    sequence_exp(alloc, begin, items)
+}
+
+/// Where the first of these begins.
+fn first_place(at: At, items: &[PlacedExp]) -> At
+    ensures { result ≡ spec.first_place at items.now }
+{
+    match items {
+        [] => at,
+        [first, ..] => first.at,
+    }
+}
+
+/// A function with its argument.
+fn applied_exp(alloc: Global, function: PlacedExp, arg: PlacedExp) -> Result<PlacedExp, NoMemory>
+    ensures { IfOk result (λ made. made ≡ spec.applied_exp function arg) }
+{
+    let at = function.at;
+    let function = Boxed::new(alloc, function.exp)?;
+    let exp = Exp::App(function, Boxed::new(alloc, arg.exp)?, at);
+    Ok(PlacedExp { at, exp })
+}
+
+/// An expression behind what its operand has begun with.
+pub fn continued(
+    alloc: Global,
+    begun: Option<PlacedExp>,
+    exp: PlacedExp,
+) -> Result<PlacedExp, NoMemory>
+    ensures { IfOk result (λ made. made ≡ applied_to spec.applied_exp begun exp) }
+{
+    match begun {
+        None => Ok(exp),
+        Some(function) => applied_exp(alloc, function, exp),
+    }
+}
+
+/// The operand that has begun, if one has.
+pub fn operand(alloc: Global, at: At, begun: Option<PlacedExp>) -> PlacedExp
+    ensures { result ≡ unwrap_or begun (spec.missing_exp at) }
+{
+    match begun {
+        None => PlacedExp {
+            at,
+            exp: unit_exp(alloc, at),
+        },
+        Some(operand) => operand,
+    }
+}
+
+/// An identifier.
+pub fn named_exp(alloc: Global, at: At, long: &LongName) -> Result<Exp, NoMemory>
+    ensures { IfOk result (λ made. made ≡ bare.Long long.now at) }
+{
+    Ok(Exp::Long(copy_long(alloc, long)?, at))
+}
+
+/// `let dec in body end`
+pub fn let_exp(alloc: Global, at: At, dec: Dec, body: Exp) -> Result<Exp, NoMemory>
+    ensures { IfOk result (λ made. made ≡ bare.Let dec body at) }
+{
+    let dec = Boxed::new(alloc, dec)?;
+    Ok(Exp::Let(dec, Boxed::new(alloc, body)?, at))
+}
+
+/// `inner : ty`
+pub fn typed_exp(alloc: Global, at: At, inner: Exp, ty: &FullTy) -> Result<Exp, NoMemory>
+    ensures { IfOk result (λ made. made ≡ bare.Typed inner (bare_ty ty.now) at) }
+{
+    let inner = Boxed::new(alloc, inner)?;
+    Ok(Exp::Typed(inner, to_ty(alloc, ty)?, at))
+}
+
+/// `inner handle rules`
+pub fn handle_exp(alloc: Global, at: At, inner: Exp, rules: List<Rule>) -> Result<Exp, NoMemory>
+    ensures { IfOk result (λ made. made ≡ bare.Handle inner rules at) }
+{
+    Ok(Exp::Handle(Boxed::new(alloc, inner)?, rules, at))
+}
+
+/// `raise inner`
+pub fn raise_exp(alloc: Global, at: At, inner: Exp) -> Result<Exp, NoMemory>
+    ensures { IfOk result (λ made. made ≡ bare.Raise inner at) }
+{
+    Ok(Exp::Raise(Boxed::new(alloc, inner)?, at))
+}

@@ -1,0 +1,314 @@
+//! Patterns.
+
+ghost use Rattle.std.specs.Prelude.{◌≡◌, None, IfOk, map};
+ghost use Rattle.std.specs.Option.{option_map, unwrap_or};
+ghost use Rattle.derived_forms.specs.Types.{bare_ty};
+ghost use Rattle.derived_forms.specs.Patterns as spec;
+ghost use Rattle.derived_forms.specs.Patterns.{joined_pat};
+ghost use Rattle.derived_forms.specs.Runs.{applied_to, run_of};
+
+use crate::name::{copy_long, copy_name, label, long_of_name, long_of_text, place};
+use crate::run::{Infix, Operand, bind_all};
+use crate::ty::{to_optional_ty, to_ty};
+use cm_base::{Boxed, List, NoMemory};
+use sml_syntax::{At, Constant, FullPat, FullPatField, FullPatItem, FullTy, Name, Pat, PatField};
+use std::alloc::Global;
+
+/// A pattern, and the place where it is written with the parentheses around it.
+#[derive(Drop)]
+pub struct PlacedPat {
+    pub at: At,
+    pub pat: Pat,
+}
+
+impl Operand for PlacedPat {
+    ghost joined = { joined_pat };
+
+    fn join(
+        alloc: Global,
+        operator: Name,
+        left: PlacedPat,
+        right: PlacedPat,
+    ) -> Result<PlacedPat, NoMemory> {
+        let at = left.at;
+        let pair = pair_pat(alloc, at, left.pat, right.pat)?;
+        let con = long_of_name(alloc, &operator)?;
+        let pat = Pat::Con(con, Boxed::new(alloc, pair)?, at);
+        Ok(PlacedPat { at, pat })
+    }
+}
+
+fn constant_pat(constant: &Constant, at: At) -> Result<Pat, NoMemory>
+    ensures { IfOk result (λ made. made ≡ spec.constant_pat constant.now at) }
+{
+    match constant {
+        Constant::Int(n) => Ok(Pat::Int(*n, at)),
+        Constant::Str(text) => Ok(Pat::Str(text.copy()?, at)),
+        Constant::Char(byte) => Ok(Pat::Char(*byte, at)),
+    }
+}
+
+pub fn pair_pat(alloc: Global, at: At, first: Pat, second: Pat) -> Result<Pat, NoMemory>
+    ensures { IfOk result (λ made. made ≡ spec.pair_pat at first second) }
+{
+    let mut fields = List::new(alloc);
+    fields.add(PatField {
+        label: label(alloc, at, 1)?,
+        pat: first,
+    })?;
+    fields.add(PatField {
+        label: label(alloc, at, 2)?,
+        pat: second,
+    })?;
+    Ok(Pat::Record(fields, at))
+}
+
+/// `first :: rest`, of which the `::` isn't written.
+fn cons_pat(alloc: Global, at: At, first: Pat, rest: Pat) -> Result<Pat, NoMemory>
+    ensures { IfOk result (λ made. made ≡ spec.cons_pat at first rest) }
+{
+    let pair = pair_pat(alloc, at, first, rest)?;
+    let con = long_of_text(alloc, at, b"::")?;
+    Ok(Pat::Con(con, Boxed::new(alloc, pair)?, at))
+}
+
+/// Where the `::` behind these items begins: where its item begins, or the list if it is the first.
+fn cons_place(at: At, before: &[PlacedPat], item: At) -> At
+    ensures { result ≡ spec.cons_place at before.now item }
+{
+    match before {
+        [] => at,
+        [_, ..] => item,
+    }
+}
+
+/// A list of these items, whose first node begins where the list begins.
+#[tactic(auto, using(crate::proofs::Lists::pat_steps))]
+fn list_pat(alloc: Global, at: At, items: Vec<PlacedPat>) -> Result<Pat, NoMemory>
+    ensures { IfOk result (λ made. made ≡ spec.list_pat at items.items) }
+{
+    let mut items = items;
+    let mut rest = Pat::Long(long_of_text(alloc, at, b"nil")?, at);
+    while let Some(item) = items.pop() {
+        let begin = cons_place(at, items.as_slice(), item.at);
+        rest = cons_pat(alloc, begin, item.pat, rest)?;
+    }
+    Ok(rest)
+}
+
+/// A constructor with its argument.
+fn applied_pat(alloc: Global, con: PlacedPat, arg: PlacedPat) -> Result<PlacedPat, NoMemory>
+    ensures { IfOk result (λ made. made ≡ spec.applied_pat con arg) }
+{
+    let at = con.at;
+    match con.pat {
+        Pat::Long(long, _) => {
+            let pat = Pat::Con(long, Boxed::new(alloc, arg.pat)?, at);
+            Ok(PlacedPat { at, pat })
+        }
+        pat => Ok(PlacedPat { at, pat }),
+    }
+}
+
+/// A pattern behind what its operand has begun with.
+fn continued(alloc: Global, begun: Option<PlacedPat>, pat: PlacedPat) -> Result<PlacedPat, NoMemory>
+    ensures { IfOk result (λ made. made ≡ applied_to spec.applied_pat begun pat) }
+{
+    match begun {
+        None => Ok(pat),
+        Some(con) => applied_pat(alloc, con, pat),
+    }
+}
+
+/// The operand that has begun, if one has.
+fn operand(at: At, begun: Option<PlacedPat>) -> PlacedPat
+    ensures { result ≡ unwrap_or begun (spec.missing_pat at) }
+{
+    match begun {
+        None => PlacedPat {
+            at,
+            pat: Pat::Wild(at),
+        },
+        Some(operand) => operand,
+    }
+}
+
+/// A pattern without derived forms.
+#[cycle(to_pat)]
+#[tactic(auto, using(crate::proofs::PatLevels::pat_levels))]
+pub fn to_pat(alloc: Global, pat: &FullPat) -> Result<PlacedPat, NoMemory>
+    ensures { IfOk result (λ made. made ≡ spec.bare_pat pat.now) }
+{
+    match pat {
+        FullPat::Wild(at) => Ok(PlacedPat {
+            at: *at,
+            pat: Pat::Wild(*at),
+        }),
+        FullPat::Constant(constant, at) => Ok(PlacedPat {
+            at: *at,
+            pat: constant_pat(constant, *at)?,
+        }),
+        FullPat::Long(long, at) => Ok(PlacedPat {
+            at: *at,
+            pat: Pat::Long(copy_long(alloc, &long.long)?, *at),
+        }),
+        FullPat::Record(fields, at) => Ok(PlacedPat {
+            at: *at,
+            pat: Pat::Record(to_pat_fields(alloc, fields.as_slice())?, *at),
+        }),
+        FullPat::Unit(at) => Ok(PlacedPat {
+            at: *at,
+            pat: Pat::Record(List::new(alloc), *at),
+        }),
+        FullPat::Tuple(parts, at) => Ok(PlacedPat {
+            at: *at,
+            pat: Pat::Record(to_pat_tuple(alloc, *at, parts.as_slice())?, *at),
+        }),
+        FullPat::Paren(inner, at) => Ok(PlacedPat {
+            at: *at,
+            pat: to_pat(alloc, inner.get())?.pat,
+        }),
+        FullPat::List(items, at) => Ok(PlacedPat {
+            at: *at,
+            pat: list_pat(alloc, *at, to_pats(alloc, items.as_slice())?)?,
+        }),
+        FullPat::Run(items, at) => Ok(PlacedPat {
+            at: *at,
+            pat: to_pat_run(alloc, *at, items.as_slice())?.pat,
+        }),
+        FullPat::Typed(inner, ty, at) => {
+            let inner = Boxed::new(alloc, to_pat(alloc, inner.get())?.pat)?;
+            Ok(PlacedPat {
+                at: *at,
+                pat: Pat::Typed(inner, to_ty(alloc, ty)?, *at),
+            })
+        }
+        FullPat::As(name, ty, inner, at) => {
+            let inner = Boxed::new(alloc, to_pat(alloc, inner.get())?.pat)?;
+            let ty = to_optional_ty(alloc, ty)?;
+            Ok(PlacedPat {
+                at: *at,
+                pat: Pat::As(copy_name(&name.name)?, ty, inner, *at),
+            })
+        }
+    }
+}
+
+#[cycle(to_pat)]
+pub fn to_pats(alloc: Global, pats: &[FullPat]) -> Result<Vec<PlacedPat>, NoMemory>
+    ensures { IfOk result (λ made. made.items ≡ map spec.bare_pat pats.now) }
+{
+    let mut made = Vec::new(alloc);
+    for pat in pats {
+        made.push(to_pat(alloc, pat)?)?;
+    }
+    Ok(made)
+}
+
+/// The fields of a tuple pattern.
+#[cycle(to_pat)]
+fn to_pat_tuple(alloc: Global, at: At, parts: &[FullPat]) -> Result<List<PatField>, NoMemory>
+    ensures { IfOk result (λ made. made ≡ spec.pat_fields_from at 1 (map spec.bare_pat parts.now)) }
+{
+    let mut made = List::new(alloc);
+    let mut number = 1;
+    for part in parts {
+        made.add(PatField {
+            label: label(alloc, at, number)?,
+            pat: to_pat(alloc, part)?.pat,
+        })?;
+        number += 1;
+    }
+    Ok(made)
+}
+
+#[cycle(to_pat)]
+fn to_pat_fields(alloc: Global, fields: &[FullPatField]) -> Result<List<PatField>, NoMemory>
+    ensures { IfOk result (λ made. made ≡ map spec.bare_pat_field fields.now) }
+{
+    let mut made = List::new(alloc);
+    for field in fields {
+        made.add(to_pat_field(alloc, field)?)?;
+    }
+    Ok(made)
+}
+
+#[cycle(to_pat)]
+#[tactic(auto, using(crate::proofs::PatLevels::pat_levels))]
+fn to_pat_field(alloc: Global, field: &FullPatField) -> Result<PatField, NoMemory>
+    ensures { IfOk result (λ made. made ≡ spec.bare_pat_field field.now) }
+{
+    match field {
+        FullPatField::Labelled(label, pat) => Ok(PatField {
+            label: copy_name(label)?,
+            pat: to_pat(alloc, pat)?.pat,
+        }),
+        FullPatField::Named(name, ty, pat) => Ok(PatField {
+            label: copy_name(name)?,
+            pat: to_named_pat(alloc, name, ty, pat)?,
+        }),
+    }
+}
+
+/// `name`, `name : ty`, `name as pat` or `name : ty as pat`.
+#[cycle(to_pat)]
+fn to_named_pat(
+    alloc: Global,
+    name: &Name,
+    ty: &Option<FullTy>,
+    pat: &Option<FullPat>,
+) -> Result<Pat, NoMemory>
+    ensures { IfOk result
+        (λ made. made ≡ spec.named_pat name.now (option_map bare_ty ty.now) (option_map spec.bare_pat pat.now)) }
+{
+    match pat {
+        Some(pat) => {
+            let pat = Boxed::new(alloc, to_pat(alloc, pat)?.pat)?;
+            Ok(Pat::As(
+                copy_name(name)?,
+                to_optional_ty(alloc, ty)?,
+                pat,
+                place(name),
+            ))
+        }
+        None => named_alone(alloc, name, ty),
+    }
+}
+
+/// `name` or `name : ty`.
+fn named_alone(alloc: Global, name: &Name, ty: &Option<FullTy>) -> Result<Pat, NoMemory>
+    ensures { IfOk result (λ made. made ≡ spec.named_pat name.now (option_map bare_ty ty.now) None) }
+{
+    let alone = Pat::Long(long_of_name(alloc, name)?, place(name));
+    match ty {
+        None => Ok(alone),
+        Some(ty) => Ok(Pat::Typed(Boxed::new(alloc, alone)?, to_ty(alloc, ty)?, place(name))),
+    }
+}
+
+/// What the parts of a run make.
+#[cycle(to_pat)]
+#[tactic(auto, using(crate::proofs::PatLevels::pat_runs))]
+fn to_pat_run(alloc: Global, at: At, items: &[FullPatItem]) -> Result<PlacedPat, NoMemory>
+    ensures { IfOk result
+        (λ made. made ≡ run_of joined_pat spec.applied_pat (spec.missing_pat at) (map spec.bare_pat_item items.now)) }
+{
+    let mut before = Vec::new(alloc);
+    let mut begun = None;
+    for item in items {
+        match item {
+            FullPatItem::Atom(pat) => {
+                begun = Some(continued(alloc, begun, to_pat(alloc, pat)?)?);
+            }
+            FullPatItem::Operator(name, fixity) => {
+                let operator = Infix {
+                    name: copy_name(name)?,
+                    fixity: *fixity,
+                };
+                before.push((operand(at, begun), operator))?;
+                begun = None;
+            }
+        }
+    }
+    bind_all(alloc, before, operand(at, begun))
+}

@@ -1,0 +1,95 @@
+//! Types, and the bindings that are made of names and types alone.
+
+ghost use Rattle.std.specs.Prelude.{◌≡◌, IfOk, map};
+ghost use Rattle.std.specs.Option.{option_map};
+ghost use Rattle.derived_forms.specs.Types.{ty_fields_from, bare_ty, bare_ty_field};
+
+use crate::name::{copy_long, copy_name, label};
+use cm_base::{Boxed, List, NoMemory};
+use sml_syntax::{At, FullTy, FullTyField, Ty, TyField};
+use std::alloc::Global;
+
+/// A type without derived forms.
+#[cycle(to_ty)]
+#[tactic(auto, using(crate::proofs::Levels::ty_levels))]
+pub fn to_ty(alloc: Global, ty: &FullTy) -> Result<Ty, NoMemory>
+    ensures { IfOk result (λ bare. bare ≡ bare_ty ty.now) }
+{
+    match ty {
+        FullTy::Var(name, at) => Ok(Ty::Var(copy_name(name)?, *at)),
+        FullTy::Record(fields, at) => Ok(Ty::Record(to_ty_fields(alloc, fields.as_slice())?, *at)),
+        FullTy::Con(long, at) => Ok(Ty::Named(List::new(alloc), copy_long(alloc, long)?, *at)),
+        FullTy::Applied(arg, long, at) => {
+            let mut args = List::new(alloc);
+            args.add(to_ty(alloc, arg.get())?)?;
+            Ok(Ty::Named(args, copy_long(alloc, long)?, *at))
+        }
+        FullTy::AppliedAll(args, long, at) => {
+            Ok(Ty::Named(
+                to_tys(alloc, args.as_slice())?,
+                copy_long(alloc, long)?,
+                *at,
+            ))
+        }
+        FullTy::Tuple(parts, at) => Ok(Ty::Record(to_ty_tuple(alloc, *at, parts.as_slice())?, *at)),
+        FullTy::Arrow(from, to, at) => {
+            let from = Boxed::new(alloc, to_ty(alloc, from.get())?)?;
+            let to = Boxed::new(alloc, to_ty(alloc, to.get())?)?;
+            Ok(Ty::Arrow(from, to, *at))
+        }
+        FullTy::Paren(inner, _) => to_ty(alloc, inner.get()),
+    }
+}
+
+#[cycle(to_ty)]
+fn to_tys(alloc: Global, tys: &[FullTy]) -> Result<List<Ty>, NoMemory>
+    ensures { IfOk result (λ bare. bare ≡ map bare_ty tys.now) }
+{
+    let mut made = List::new(alloc);
+    for ty in tys {
+        made.add(to_ty(alloc, ty)?)?;
+    }
+    Ok(made)
+}
+
+#[cycle(to_ty)]
+#[tactic(auto, using(crate::proofs::Levels::ty_levels))]
+fn to_ty_fields(alloc: Global, fields: &[FullTyField]) -> Result<List<TyField>, NoMemory>
+    ensures { IfOk result (λ bare. bare ≡ map bare_ty_field fields.now) }
+{
+    let mut made = List::new(alloc);
+    for field in fields {
+        made.add(TyField {
+            label: copy_name(&field.label)?,
+            ty: to_ty(alloc, &field.ty)?,
+        })?;
+    }
+    Ok(made)
+}
+
+/// The fields of a tuple type.
+#[cycle(to_ty)]
+fn to_ty_tuple(alloc: Global, at: At, parts: &[FullTy]) -> Result<List<TyField>, NoMemory>
+    ensures { IfOk result (λ bare. bare ≡ ty_fields_from at 1 (map bare_ty parts.now)) }
+{
+    let mut made = List::new(alloc);
+    let mut number = 1;
+    for part in parts {
+        made.add(TyField {
+            label: label(alloc, at, number)?,
+            ty: to_ty(alloc, part)?,
+        })?;
+        number += 1;
+    }
+    Ok(made)
+}
+
+/// The type of what may have one.
+pub fn to_optional_ty(alloc: Global, ty: &Option<FullTy>) -> Result<Option<Ty>, NoMemory>
+    ensures { IfOk result (λ bare. bare ≡ option_map bare_ty ty.now) }
+{
+    match ty {
+        None => Ok(None),
+        Some(ty) => Ok(Some(to_ty(alloc, ty)?)),
+    }
+}
