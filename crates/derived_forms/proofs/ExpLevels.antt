@@ -180,8 +180,10 @@ bare_rule-kept each =
 
 pub bare_str_bind-kept : (bind : FullStrBind)
     → bare_str_bind bind
-    ≡ roll-StrBind (record { name = (out-FullStrBind bind).name;
-    body = sealed (out-FullStrBind bind).seal (bare_str (out-FullStrBind bind).body) })
+    ≡ roll-StrBind (record {
+      name = (out-FullStrBind bind).name;
+      body = sealed (out-FullStrBind bind).seal (bare_str (out-FullStrBind bind).body);
+    })
 bare_str_bind-kept bind =
     ap bare_str_bind (sym (roll-out-FullStrBind bind))
     ∙ fold-roll-FullStrBind _ _ _ _ _ _ _ _ _ _
@@ -190,8 +192,11 @@ bare_str_bind-kept bind =
 
 pub bare_val_bind-kept : (bind : FullValBind)
     → bare_val_bind bind
-    ≡ record { recs = (out-FullValBind bind).recs; rule = rule (bare_pat (out-FullValBind bind).pat).pat (bare_exp
-    (out-FullValBind bind).exp).exp }
+    ≡ record {
+      recs = (out-FullValBind bind).recs;
+      rule = rule (bare_pat (out-FullValBind bind).pat).pat (bare_exp
+          (out-FullValBind bind).exp).exp;
+    }
 bare_val_bind-kept bind =
     ap bare_val_bind (sym (roll-out-FullValBind bind))
     ∙ fold-roll-FullValBind _ _ _ _ _ _ _ _ _ _
@@ -200,9 +205,12 @@ bare_val_bind-kept bind =
 
 pub bare_clause-kept : (clause : FullClause)
     → bare_clause clause
-    ≡ record { name = head_name (out-FullClause clause).head; args = head_args (out-FullClause clause).head;
-    body = result_exp (out-FullClause clause).ty (bare_exp (out-FullClause clause).body);
-    at = (out-FullClause clause).at }
+    ≡ record {
+      name = head_name (out-FullClause clause).head;
+      args = head_args (out-FullClause clause).head;
+      body = result_exp (out-FullClause clause).ty (bare_exp (out-FullClause clause).body);
+      at = (out-FullClause clause).at;
+    }
 bare_clause-kept clause =
     ap bare_clause (sym (roll-out-FullClause clause))
     ∙ fold-roll-FullClause _ _ _ _ _ _ _ _ _ _ dec_level exp_level exp_item_level str_level clause_level exp_field_level
