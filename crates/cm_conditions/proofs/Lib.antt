@@ -7,3 +7,7 @@ pub mod Selecting
 pub mod Splits
 pub mod SelectAnswers
 pub mod NestsOnce
+pub mod PrintingSteps
+pub mod Makes
+pub mod Spelling
+pub mod PrintedAgain

@@ -1,6 +1,6 @@
 -- What `select` answers, from what its parts do: how its count from the last line on finds the lines that fit together,
 -- and what it makes of the lines before and behind.
-use Rattle.std.proofs.Common.{◌≡◌, if◌then◌else◌, ℕ, ◌+◌, ◌-◌, ◌<◌, ◌≤◌, ◌==◌, List, ◌∷◌, ◌++◌, Option, Some, None, Result, Ok, Err, refl, ap, ap₂, sym, subst, ◌∙◌, length, length-append, take, drop, ◌^◌, arith, ℤ}
+use Rattle.std.proofs.Common.{◌≡◌, if◌then◌else◌, ℕ, ◌+◌, ◌-◌, ◌<◌, ◌≤◌, ◌==◌, List, ◌∷◌, ◌++◌, Some, None, Result, Ok, Err, refl, ap, ap₂, sym, subst, ◌∙◌, length, length-append, take, drop, ◌^◌, arith}
 use Rattle.std.proofs.Math.Path.{fun_ext}
 use Rattle.std.specs.Result.{IsErrAnd}
 use Rattle.cm_base.specs.Calls.{Gives}
@@ -15,7 +15,6 @@ use Rattle.cm_conditions.specs.Splitting.{Tail, tail_lines, closers_of, closers_
 use Rattle.cm_conditions.specs.Tables.{AreOf, table_def, table_module, by_tables}
 use Rattle.cm_conditions.specs.Taking.{after_all, items_of, start}
 use Rattle.cm_conditions.specs.Values.{value_by, condition_value, def_of, has_module}
-use Rattle.cm_conditions.specs.declared.cond.Cond.{Cond}
 use Rattle.cm_conditions.specs.declared.line.Line.{Line}
 use Rattle.cm_conditions.specs.declared.line.LineBody.{LineBody}
 use Rattle.cm_conditions.specs.declared.line.LineBody.TheVariants as l

@@ -9,3 +9,4 @@ pub mod Nesting
 pub mod Chosen
 pub mod Taking
 pub mod Splitting
+pub mod Printing

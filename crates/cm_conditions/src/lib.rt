@@ -11,6 +11,7 @@ mod lexeme;
 mod lexing;
 mod line;
 mod names;
+mod printing;
 mod read;
 mod reader;
 mod selection;
@@ -22,8 +23,11 @@ pub use evaluation::value;
 pub use laws::{Conditions, conditions_are_lawful, lines_nest_in_one_way};
 pub use lexeme::{Lexeme, Mark, Operator, Strength};
 pub use line::{Line, LineBody};
+pub use printing::{print_condition, space_word};
 pub use read::read_condition;
 
+#[cfg(test)]
+mod print_tests;
 #[cfg(test)]
 mod read_tests;
 #[cfg(test)]

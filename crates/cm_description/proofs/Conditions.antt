@@ -1,5 +1,5 @@
 -- The condition of a text is what its reading gives.
-use Rattle.std.proofs.Common.{◌≡◌, ◌⊎◌, inl, inr, ℕ, List, [], ◌∷◌, Option, Some, None, Result, Ok, Err, refl, ap, sym, ◌∙◌, subst, Bool, take, drop}
+use Rattle.std.proofs.Common.{◌≡◌, inl, inr, ℕ, List, [], ◌∷◌, Option, Some, None, Err, refl, ap, sym, ◌∙◌, subst, Bool, take, drop}
 use Rattle.std.proofs.lemmas.List.{take-append-drop}
 use Rattle.cm_base.specs.declared.diag.Diag.{Diag}
 use Rattle.cm_base.specs.declared.diag.Place.{Place}
@@ -7,7 +7,7 @@ use Rattle.cm_base.specs.declared.fault.Fault.{Fault}
 use Rattle.cm_base.specs.declared.fault.Fault.TheVariants as fault
 use Rattle.grammars.specs.Grammar.{End, Phrase}
 use Rattle.grammars.specs.Reading.{Out, end_of, read}
-use Rattle.grammars.specs.Texts.{IsRefused, IsTooDeep}
+use Rattle.grammars.specs.Texts.{IsTooDeep}
 use Rattle.grammars.proofs.Complete.{complete}
 use Rattle.grammars.proofs.Texts.{phrase_read, phrase_whole}
 use Rattle.cm_conditions.specs.Grammar.{condition}

@@ -2,7 +2,7 @@
 use Rattle.std.proofs.Common.{◌≡◌, ◌-◌, ◌+◌, ◌≤◌, ℕ, List, [], ◌∷◌, ◌++◌, length, get_or, slice_index_or, take, drop, refl, ap, ap₂, sym, ◌∙◌, arith, length-drop}
 use Rattle.std.proofs.lemmas.List.{get_or-drop, take-append-drop}
 use Rattle.cm_lexer.specs.declared.token.Token.{Token}
-use Rattle.cm_description.specs.Answers.{EndWith}
+use Rattle.cm_description.specs.Seen.{EndWith}
 
 -- a list of two
 two : (l : List Token) → length l ≡ 2 → (a : Token) × (b : Token) × (l ≡ a ∷ b ∷ [])

@@ -2,7 +2,13 @@ pub mod Steps
 pub mod Conditions
 pub mod Wholes
 pub mod TextLaws
-pub mod Deep
+pub mod Sinks
+pub mod BadEnds
 pub mod LastTwo
 pub mod OneAnswer
 pub mod Asking
+pub mod Trimming
+pub mod Good
+pub mod LineTokens
+pub mod ListTokens
+pub mod PrintedAgain

@@ -1,12 +1,12 @@
 -- A text has one answer at most.
-use Rattle.std.proofs.Common.{◌≡◌, ◌⊎◌, ◌≤◌, ◌<◌, ℕ, List, [], ◌∷◌, ◌++◌, length, take, drop, Option, Some, None, Result, Ok, Err, inl, inr, refl, ap, sym, ◌∙◌, subst, arith, length-append, length-drop}
+use Rattle.std.proofs.Common.{◌≡◌, ℕ, List, [], ◌∷◌, ◌++◌, length, take, drop, Some, None, Result, Ok, Err, inl, inr, refl, ap, ap₂, sym, ◌∙◌, subst, arith, length-append, length-drop}
 use Rattle.std.proofs.lemmas.List.{take-append-drop}
 use Rattle.cm_base.specs.declared.diag.Diag.{Diag}
 use Rattle.cm_base.specs.declared.diag.Place.{Place}
 use Rattle.cm_base.specs.declared.fault.Fault.TheVariants as fault
 use Rattle.grammars.specs.Grammar.{Grammar, End, Phrase}
 use Rattle.grammars.specs.Reading.{Out, end_of, left_of, read}
-use Rattle.grammars.specs.Texts.{IsRefused, IsTooDeep}
+use Rattle.grammars.specs.Texts.{IsTooDeep}
 use Rattle.grammars.proofs.Complete.{complete}
 use Rattle.grammars.proofs.Texts.{phrase_whole, refused_once, deep_not_refused}
 use Rattle.cm_lexer.specs.Spelling.{slice_of}
@@ -18,7 +18,7 @@ use Rattle.cm_conditions.specs.Answers.{ReadsCondition}
 use Rattle.cm_conditions.specs.declared.cond.Cond.{Cond}
 use Rattle.cm_description.specs.Words.{place}
 use Rattle.cm_description.specs.Grammar.{description}
-use Rattle.cm_description.specs.Answers.{IsDescription, IsNoDescription, IsBadDirective, EndWith, EndsBadly, IsRefusal, ReadsDescription, stop_place, refusal_at, checked}
+use Rattle.cm_description.specs.Answers.{IsDescription, IsNoDescription, IsBadDirective, EndsBadly, IsRefusal, ReadsDescription, stop_place, refusal_at, checked}
 use Rattle.cm_description.specs.Laws.{HasOneAnswer}
 use Rattle.cm_description.specs.declared.description.Description.{Description}
 use Rattle.cm_description.proofs.TextLaws.{one_description}
@@ -59,14 +59,15 @@ condition_or_not : (at : Place) (text : List ℕ) (d : Diag) (cond : Cond) → R
 condition_or_not at text d cond (inl (n, is, r)) p = r.no_phrase cond p
 condition_or_not at text d cond (inr (n, is, r)) p = deep_no_phrase (condition 128) (lexemes_of text) n cond r p
 
-bad_once : (file text : List ℕ) (x rest : Token) (d e : Diag) → IsBadDirective file text x rest d
-    → IsBadDirective file text x rest e → d ≡ e
-bad_once file text x rest d e (inl p) (inl q) = condition_once (place file x) (slice_of text rest) d e p q
-bad_once file text x rest d e (inl p) (inr (cond, q, is)) =
+bad_once : (file text : List ℕ) (us vs : List Token) (x rest : Token) (d e : Diag)
+    → IsBadDirective file text us x rest d
+    → IsBadDirective file text vs x rest e → d ≡ e
+bad_once file text us vs x rest d e (inl p) (inl q) = condition_once (place file x) (slice_of text rest) d e p q
+bad_once file text us vs x rest d e (inl p) (inr (cond, q, asks, inside, is)) =
     absurd (condition_or_not (place file x) (slice_of text rest) d cond p q)
-bad_once file text x rest d e (inr (cond, p, is)) (inl q) =
+bad_once file text us vs x rest d e (inr (cond, p, asks, inside, is)) (inl q) =
     absurd (condition_or_not (place file x) (slice_of text rest) e cond q p)
-bad_once file text x rest d e (inr (c, p, is)) (inr (b, q, other)) = is ∙ sym other
+bad_once file text us vs x rest d e (inr (c, p, asks, inside, is)) (inr (b, q, again, also, other)) = is ∙ sym other
 
 -- ---- the last two tokens
 
@@ -75,19 +76,23 @@ no_room v x y a b vs h =
     let count : 2 ≡ length (v ∷ (vs ++ a ∷ b ∷ [])) = ap length h in
     omega (arith, simp length-append at count)
 
-ends_once : (us vs : List Token) (x y a b : Token) → us ++ x ∷ y ∷ [] ≡ vs ++ a ∷ b ∷ [] → (x ≡ a) × (y ≡ b)
-ends_once [] [] x y a b h = (cc, cc)
+pub ends_once : (us vs : List Token) (x y a b : Token) → us ++ x ∷ y ∷ [] ≡ vs ++ a ∷ b ∷ []
+    → (us ≡ vs) × (x ≡ a) × (y ≡ b)
+ends_once [] [] x y a b h = (refl, cc, cc)
 ends_once [] (v ∷ vs) x y a b h = absurd (no_room v x y a b vs h)
 ends_once (u ∷ us) [] x y a b h = absurd (no_room u a b x y us (sym h))
-ends_once (u ∷ us) (v ∷ vs) x y a b h = ends_once us vs x y a b (cc)
+ends_once (u ∷ us) (v ∷ vs) x y a b h =
+    let first : u ≡ v = cc in
+    let rest = ends_once us vs x y a b (cc) in
+    (ap₂ (λ (t : Token) (l : List Token). t ∷ l) first rest.0, rest.1, rest.2)
 
 ends_bad_once : (file text : List ℕ) (taken : List Token) (d e : Diag) → EndsBadly file text taken d
     → EndsBadly file text taken e → d ≡ e
-ends_bad_once file text taken d e (x, r, (us, one), p) (y, s, (vs, other), q) =
+ends_bad_once file text taken d e (us, x, r, one, p) (vs, y, s, other, q) =
     let same = ends_once us vs x r y s (sym one ∙ other) in
-    bad_once file text y s d e
-    (subst (λ (t : Token). IsBadDirective file text y t d) same.1
-    (subst (λ (t : Token). IsBadDirective file text t r d) same.0 p)) q
+    bad_once file text us vs y s d e
+    (subst (λ (t : Token). IsBadDirective file text us y t d) same.2
+    (subst (λ (t : Token). IsBadDirective file text us t r d) same.1 p)) q
 
 -- ---- texts
 

@@ -16,7 +16,6 @@ use Rattle.cm_description.specs.declared.stop.Stop.TheVariants as stop
 use Rattle.cm_description.specs.Grammar.{g, word, mark, exports, export_step, options, some_options, maybe_options, class, maybe_class, unclassed, members, member_step}
 use Rattle.cm_description.specs.declared.word.WordKind.{WordKind}
 use Rattle.cm_description.specs.declared.word.WordKind.TheVariants as wanted
-use Rattle.cm_description.specs.declared.found.Classed.{Classed}
 use Rattle.cm_description.specs.declared.found.Exports.{Exports}
 use Rattle.cm_description.specs.declared.found.Members.{Members}
 

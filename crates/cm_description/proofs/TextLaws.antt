@@ -1,11 +1,10 @@
 -- What holds of descriptions as texts.
-use Rattle.std.proofs.Common.{◌≡◌, ℕ, List, Result, Ok, Err, None, refl, ap, sym, ◌∙◌}
+use Rattle.std.proofs.Common.{◌≡◌, None}
 use Rattle.grammars.specs.Grammar.{End}
 use Rattle.grammars.proofs.Lawful.{lawful}
 use Rattle.grammars.proofs.Texts.{unique}
 use Rattle.cm_lexer.specs.Tokens.{scan_of}
 use Rattle.cm_description.specs.Grammar.{description}
-use Rattle.cm_description.specs.Answers.{IsDescription}
 use Rattle.cm_description.specs.Laws.{AreLawful, HasOneDescription}
 use Rattle.cm_description.specs.declared.description.Description.{Description}
 

@@ -1,5 +1,5 @@
 -- What the reading of all tokens answers.
-use Rattle.std.proofs.Common.{◌≡◌, ◌≤◌, ◌-◌, ℕ, List, [], ◌∷◌, length, take, drop, Option, Some, None, Bool, true, false, Result, Ok, Err, inl, inr, if◌then◌else◌, refl, ap, sym, ◌∙◌, subst, ◌++◌, arith, length-append, length-take}
+use Rattle.std.proofs.Common.{◌≡◌, ◌≤◌, ◌-◌, ℕ, List, [], ◌∷◌, length, take, drop, Option, Some, None, Bool, true, false, Result, Ok, Err, inl, inr, if◌then◌else◌, ap, sym, ◌∙◌, subst, ◌++◌, arith, length-append}
 use Rattle.std.proofs.Math.Seq.{drop-append_seam}
 use Rattle.cm_base.specs.Diags.{whole_file}
 use Rattle.cm_base.specs.Calls.{Gives}
@@ -15,9 +15,10 @@ use Rattle.cm_lexer.specs.Tokens.{scan_of}
 use Rattle.cm_lexer.specs.declared.point.Point.{Point}
 use Rattle.cm_lexer.specs.declared.token.Scan.{Scan}
 use Rattle.cm_lexer.specs.declared.token.Token.{Token}
-use Rattle.cm_description.proofs.Deep.{description_deep}
+use Rattle.cm_description.proofs.BadEnds.{bad_end, two_at_end}
 use Rattle.cm_description.specs.Grammar.{description}
 use Rattle.cm_description.specs.Answers.{IsDescription, IsNoDescription, IsWhole, EndsBadly, ReadsDescription, is_end, stop_place, first_place, refusal_at, passes_limits, lacks_exports, checked}
+use Rattle.cm_description.specs.Seen.{ShowsEnd}
 use Rattle.cm_description.specs.declared.description.Description.{Description}
 
 -- what is left stands behind what was taken
@@ -119,13 +120,17 @@ module _ (file text : List ℕ) (scan : Scan) (tokens : List Token) (same : scan
   -- what was taken, where reading ends at a condition
   pub taken_two : (rest : List Token) → reading ≡ Out.out End.deep rest
       → 2 ≤ length (take (length tokens - length rest) tokens)
-  taken_two rest h = let less = description_deep file text tokens rest h in rw length-take (omega (arith, less))
+  taken_two rest h =
+      two_at_end file text _ _ (too_deep_read (description file text) tokens rest h).ends
 
   pub bad_answer : (rest : List Token) (diag : Diag) → reading ≡ Out.out End.deep rest
-      → EndsBadly file text (take (length tokens - length rest) tokens) diag → IsNoDescription file text diag
+      → ShowsEnd file text (take (length tokens - length rest) tokens) diag → IsNoDescription file text diag
   bad_answer rest diag h is =
-      is_bad file text rest diag (read_all _ h)
-      (subst (λ (l : List Token). EndsBadly file text (take (length l - length rest) l) diag) all_tokens is)
+      let deep = read_all _ h in
+      is_bad file text rest diag deep
+      (bad_end file text (take (length (xs file text) - length rest) (xs file text)) _ diag
+      (too_deep_read (description file text) (xs file text) rest deep).ends
+      (subst (λ (l : List Token). ShowsEnd file text (take (length l - length rest) l) diag) all_tokens is))
 
 module _ (file text : List ℕ) where
   -- a text that is no description is refused

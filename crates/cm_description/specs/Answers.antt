@@ -17,9 +17,12 @@ use Rattle.cm_lexer.specs.declared.token.TokenKind.TheVariants as kind
 use Rattle.cm_conditions.specs.Answers.{ReadsCondition}
 use Rattle.cm_conditions.specs.Values.{bad_condition}
 use Rattle.cm_conditions.specs.declared.cond.Cond.{Cond}
-use Rattle.cm_description.specs.Words.{place, has_kind}
-use Rattle.cm_description.specs.Grammar.{description}
+use Rattle.cm_description.specs.Words.{place, has_kind, is_word}
+use Rattle.cm_description.specs.Grammar.{description, exports, no_exports}
+use Rattle.cm_description.specs.Modules.{names_module}
 use Rattle.cm_description.specs.declared.description.Description.{Description}
+use Rattle.cm_description.specs.declared.found.Exports.{Exports}
+use Rattle.cm_description.specs.declared.word.WordKind.TheVariants as wanted
 
 -- ---- descriptions
 
@@ -60,21 +63,26 @@ first_place file (x ∷ xs) = place file x
 abbrev pub refusal_at : ℕ → Place → Diag
 refusal_at number at = record { number = number; at = at; names = [] }
 
--- what is wrong with a directive and its rest: the text of the condition is none, or asks for a module
-abbrev pub IsBadDirective : List ℕ → List ℕ → Token → Token → Diag → Type 0
-IsBadDirective file text x rest diag =
+-- these tokens are a first word, an export list and `is`, and then some of a member list
+abbrev pub IsInMembers : List ℕ → List ℕ → List Token → Type 0
+IsInMembers file text before =
+    (begun : Token) × (exported : List Token) × (between : Token) × (more : List Token) × (found : Exports)
+    × (before ≡ begun ∷ (exported ++ between ∷ more)) × (is_word wanted.Kind text begun ≡ true)
+    × Phrase (exports file text no_exports) exported (Some between) found × (is_word wanted.Is text between ≡ true)
+
+-- What is wrong with a directive and its rest, behind these tokens: the text of the condition is none; or it is one
+-- that asks for a module, in the member list, which may not.
+abbrev pub IsBadDirective : List ℕ → List ℕ → List Token → Token → Token → Diag → Type 0
+IsBadDirective file text before x rest diag =
     ReadsCondition (place file x) (slice_of text rest) (Err (fault.Diag diag))
     ⊎ ((cond : Cond) × ReadsCondition (place file x) (slice_of text rest) (Ok cond)
-    × (diag ≡ bad_condition (place file x)))
-
--- these tokens end with those two
-abbrev pub EndWith : List Token → Token → Token → Type 0
-EndWith xs x y = (before : List Token) × (xs ≡ before ++ x ∷ y ∷ [])
+    × (names_module cond ≡ true) × IsInMembers file text before × (diag ≡ bad_condition (place file x)))
 
 -- these tokens end with such a directive and its rest
 abbrev pub EndsBadly : List ℕ → List ℕ → List Token → Diag → Type 0
 EndsBadly file text taken diag =
-    (x rest : Token) × EndWith taken x rest × IsBadDirective file text x rest diag
+    (before : List Token) × (x rest : Token) × (taken ≡ before ++ x ∷ rest ∷ [])
+    × IsBadDirective file text before x rest diag
 
 -- The text is no description. At some token, or at its end, no text of the grammar can go on, which is 2 there; or its
 -- tokens are a description, but a byte that begins none stands behind them, which is 2 at that byte; or it ends at a

@@ -1,5 +1,5 @@
 -- The first form of a description: the words `group` and `is`, and then the names of differing sources.
-use Rattle.std.specs.Prelude.{ℕ, ◌≡◌, ◌==◌, ◌≤◌, ◌&&◌, ◌||◌, Bool, true, false, not, nat_le, nat_eq, List, [], ◌∷◌, ◌++◌, Option, Some, None, Result, codes, if◌then◌else◌, length, map}
+use Rattle.std.specs.Prelude.{ℕ, ◌==◌, ◌&&◌, ◌||◌, Bool, true, not, nat_eq, List, [], ◌∷◌, ◌++◌, Option, Some, None, codes, if◌then◌else◌}
 use Rattle.std.specs.List.{list_all, list_any, ends_with}
 use Rattle.cm_base.specs.Derived.{is_letter, is_digit}
 use Rattle.plain_words.specs.Words.{words_of}

@@ -6,3 +6,5 @@ pub mod Answers
 pub mod Seen
 pub mod Laws
 pub mod WellFormed
+pub mod Printing
+pub mod Again

@@ -1,10 +1,16 @@
 -- What contracts see of a reading of tokens.
-use Rattle.std.specs.Prelude.{◌≡◌, List, Option, Some, None, Result, Ok, Err}
+use Rattle.std.specs.Prelude.{◌≡◌, ◌⊎◌, ℕ, [], ◌∷◌, ◌++◌, List, Option, Some, None, Result, Ok, Err}
+use Rattle.cm_base.specs.declared.diag.Diag.{Diag}
 use Rattle.cm_base.specs.declared.fault.Fault.{Fault}
 use Rattle.cm_base.specs.declared.fault.Fault.TheVariants as fault
 use Rattle.grammars.specs.Grammar.{End}
 use Rattle.grammars.specs.Reading.{Out, read}
+use Rattle.cm_lexer.specs.Spelling.{slice_of}
 use Rattle.cm_lexer.specs.declared.token.Token.{Token}
+use Rattle.cm_conditions.specs.Answers.{ReadsCondition}
+use Rattle.cm_conditions.specs.Values.{bad_condition}
+use Rattle.cm_conditions.specs.declared.cond.Cond.{Cond}
+use Rattle.cm_description.specs.Words.{place}
 use Rattle.cm_description.specs.Grammar.{g}
 use Rattle.cm_description.specs.declared.stop.Stop.{Stop}
 use Rattle.cm_description.specs.declared.stop.Stop.TheVariants as stop
@@ -35,3 +41,19 @@ SaysNot stop.NoMemory found = Unit {0}
 abbrev pub Says : {A : Type 0} → Option A → Result A Stop → Type 0
 Says found (Ok value) = found ≡ Some value
 Says found (Err why) = SaysNot why found
+
+-- what is wrong with a directive and its rest, where it is known that it may not stand: its text is no condition, and
+-- else the condition is one
+abbrev pub ShowsBad : List ℕ → List ℕ → Token → Token → Diag → Type 0
+ShowsBad file text x rest diag =
+    ReadsCondition (place file x) (slice_of text rest) (Err (fault.Diag diag))
+    ⊎ ((cond : Cond) × ReadsCondition (place file x) (slice_of text rest) (Ok cond)
+    × (diag ≡ bad_condition (place file x)))
+
+-- these tokens end with those two
+abbrev pub EndWith : List Token → Token → Token → Type 0
+EndWith xs x y = (before : List Token) × (xs ≡ before ++ x ∷ y ∷ [])
+
+-- the same of the last two of these tokens
+abbrev pub ShowsEnd : List ℕ → List ℕ → List Token → Diag → Type 0
+ShowsEnd file text taken diag = (x rest : Token) × EndWith taken x rest × ShowsBad file text x rest diag

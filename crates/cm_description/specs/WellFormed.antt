@@ -1,6 +1,5 @@
 -- Which loaded projects are well formed.
-use Rattle.std.specs.Prelude.{◌≡◌, ◌<◌, ℕ, zero, suc, List, [], ◌∷◌, Option, Some, None, length, map, slice_get, All, Contains}
-use Rattle.cm_conditions.specs.declared.line.Line.{Line}
+use Rattle.std.specs.Prelude.{◌≡◌, ◌<◌, ℕ, List, Option, Some, None, length, map, slice_get, All, Contains}
 use Rattle.cm_conditions.specs.declared.line.LineBody.{LineBody}
 use Rattle.cm_conditions.specs.declared.line.LineBody.TheVariants as body
 use Rattle.cm_description.specs.declared.loaded.Export.{Export}

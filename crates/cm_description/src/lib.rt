@@ -13,6 +13,7 @@ mod lines;
 pub mod loaded;
 mod member_list;
 mod modules;
+mod print;
 mod project;
 mod read;
 mod reader;
@@ -25,10 +26,13 @@ pub use directive::Directive;
 pub use first_form::{is_name_byte, read_first};
 pub use found::{Classed, Exports, Members};
 pub use laws::{descriptions_are_lawful, text_has_one_answer, text_has_one_description};
+pub use print::print_description;
 pub use project::{Project, Unit};
 pub use read::read_description;
 pub use word::WordKind;
 
+#[cfg(test)]
+mod print_tests;
 #[cfg(test)]
 mod read_tests;
 #[cfg(test)]

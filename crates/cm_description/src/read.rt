@@ -4,7 +4,8 @@ ghost use Rattle.std.specs.Prelude.{◌≡◌, ◌≤◌, ◌-◌, nat_lt, IfOk,
 ghost use Rattle.std.specs.List.{list_any};
 ghost use Rattle.cm_base.specs.Calls.{Gives};
 ghost use Rattle.cm_lexer.specs.Tokens.{scan_of};
-ghost use Rattle.cm_description.specs.Answers.{EndWith, no_place, refusal_at, last_place, stop_place, is_end, passes_limits, lacks_exports, checked, IsBadDirective, EndsBadly, IsWhole, ReadsDescription};
+ghost use Rattle.cm_description.specs.Answers.{no_place, refusal_at, last_place, stop_place, is_end, passes_limits, lacks_exports, checked, IsWhole, ReadsDescription};
+ghost use Rattle.cm_description.specs.Seen.{EndWith, ShowsBad, ShowsEnd};
 
 use crate::cursor::Cursor;
 use crate::description::{Description, Entry};
@@ -66,7 +67,7 @@ fn stop_place(file: &Text, scan: &Scan, rest: &[Token]) -> Result<Place, NoMemor
     }
 }
 
-/// What is wrong with a directive: its condition is none, or asks for a module where it may not.
+/// What is wrong with a directive that may not stand: its condition is none, and else asks for a module.
 fn bad_directive(
     alloc: Global,
     source: &Source<'_>,
@@ -74,7 +75,7 @@ fn bad_directive(
     rest: Token,
 ) -> Result<Diag, NoMemory>
     ensures { IfOk result
-        (λ diag. IsBadDirective source.now.file.now source.now.bytes.now directive rest diag) }
+        (λ diag. ShowsBad source.now.file.now source.now.bytes.now directive rest diag) }
 {
     let at = source.place(directive)?;
     let text = Text::from_bytes(alloc, source.slice(rest))?;
@@ -98,7 +99,7 @@ fn last_two(tokens: &[Token]) -> (Token, Token)
 fn last_directive(alloc: Global, source: &Source<'_>, taken: &[Token]) -> Result<Diag, NoMemory>
     requires { 2 ≤ length taken.now }
     ensures { IfOk result
-        (λ diag. EndsBadly source.now.file.now source.now.bytes.now taken.now diag) }
+        (λ diag. ShowsEnd source.now.file.now source.now.bytes.now taken.now diag) }
 {
     let (directive, rest) = last_two(taken);
     bad_directive(alloc, source, directive, rest)

@@ -4,3 +4,5 @@ pub mod BindingSteps
 pub mod PatSteps
 pub mod CursorSteps
 pub mod FixitySteps
+pub mod OperatorLaws
+pub mod FixityTables

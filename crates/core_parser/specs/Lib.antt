@@ -9,3 +9,5 @@ pub mod Level
 pub mod Bindings
 pub mod ReadsDec
 pub mod Cursors
+pub mod Operators
+pub mod FixityTables

@@ -31,7 +31,7 @@ fn short_tycon_of(lexeme: &Lexeme) -> Result<Option<Text>, NoMemory>
 
 /// Takes a type constructor without structures before it.
 #[tactic(auto, using(crate::proofs::Steps::taken_steps))]
-pub(crate) fn short_tycon(lexemes: &mut Lexemes<'_>) -> Result<Name, Stop>
+pub fn short_tycon(lexemes: &mut Lexemes<'_>) -> Result<Name, Stop>
     ensures { Reads short_tycon lexemes.old.rest.now result lexemes.new.rest.now }
 {
     let Some(next) = lexemes.peek() else {
@@ -49,7 +49,7 @@ pub(crate) fn short_tycon(lexemes: &mut Lexemes<'_>) -> Result<Name, Stop>
 }
 
 /// A list of one item.
-pub(crate) fn single<T: Drop>(alloc: Global, item: T) -> Result<List<T>, NoMemory>
+pub fn single<T: Drop>(alloc: Global, item: T) -> Result<List<T>, NoMemory>
     ensures { IfOk result (λ items. items ≡ item ∷ []) }
 {
     let mut items = List::new(alloc);
@@ -58,7 +58,7 @@ pub(crate) fn single<T: Drop>(alloc: Global, item: T) -> Result<List<T>, NoMemor
 }
 
 /// Whether a type variable stands next.
-pub(crate) fn sees_tyvar(lexemes: &Lexemes<'_>) -> bool
+pub fn sees_tyvar(lexemes: &Lexemes<'_>) -> bool
     ensures { result ≡ begins (λ x. is_some (tyvar_of x)) (head_or lexemes.now.rest.now None) }
 {
     match lexemes.peek() {
@@ -68,7 +68,7 @@ pub(crate) fn sees_tyvar(lexemes: &Lexemes<'_>) -> bool
 }
 
 /// The lexeme that this mark is, if it stands next.
-pub(crate) fn marked<'a>(lexemes: &Lexemes<'a>, mark: Word) -> Option<&'a Lexeme>
+pub fn marked<'a>(lexemes: &Lexemes<'a>, mark: Word) -> Option<&'a Lexeme>
     ensures { option_copied result ≡ marked mark (head_or lexemes.now.rest.now None) }
 {
     match lexemes.peek() {
@@ -93,11 +93,7 @@ fn tyvars_from(lexemes: &mut Lexemes<'_>, found: List<Name>) -> Result<List<Name
 
 /// A list of type variables in parentheses, behind the first.
 #[tactic(auto, unfolding(crate::specs::Bindings::tyvar_list))]
-pub(crate) fn tyvar_list(
-    alloc: Global,
-    lexemes: &mut Lexemes<'_>,
-    first: Name,
-) -> Result<List<Name>, Stop>
+pub fn tyvar_list(alloc: Global, lexemes: &mut Lexemes<'_>, first: Name) -> Result<List<Name>, Stop>
     ensures { Reads (tyvar_list first) lexemes.old.rest.now result lexemes.new.rest.now }
 {
     let found = tyvars_from(lexemes, single(alloc, first)?)?;
@@ -116,7 +112,7 @@ fn tyvars_in_parens(alloc: Global, lexemes: &mut Lexemes<'_>) -> Result<List<Nam
 
 /// No type variable, one, or a list in parentheses.
 #[tactic(auto, using(crate::proofs::BindingSteps::mark_steps, crate::proofs::BindingSteps::if_taken_steps), unfolding(crate::specs::Bindings::tyvars))]
-pub(crate) fn tyvars(alloc: Global, lexemes: &mut Lexemes<'_>) -> Result<List<Name>, Stop>
+pub fn tyvars(alloc: Global, lexemes: &mut Lexemes<'_>) -> Result<List<Name>, Stop>
     ensures { Reads tyvars lexemes.old.rest.now result lexemes.new.rest.now }
 {
     if sees_tyvar(lexemes) {
@@ -141,7 +137,7 @@ fn name_with(lexemes: &mut Lexemes<'_>, op: bool) -> Result<OpName, Stop>
 
 /// `[ op ] vid`
 #[tactic(auto, using(crate::proofs::BindingSteps::mark_steps), unfolding(crate::specs::Bindings::op_name))]
-pub(crate) fn op_name(lexemes: &mut Lexemes<'_>) -> Result<OpName, Stop>
+pub fn op_name(lexemes: &mut Lexemes<'_>) -> Result<OpName, Stop>
     ensures { Reads op_name lexemes.old.rest.now result lexemes.new.rest.now }
 {
     if lexemes.sees(Word::Op) {
@@ -162,7 +158,7 @@ fn long_with(lexemes: &mut Lexemes<'_>, op: bool) -> Result<OpLong, Stop>
 
 /// `[ op ] longvid`
 #[tactic(auto, using(crate::proofs::BindingSteps::mark_steps), unfolding(crate::specs::Bindings::op_long))]
-pub(crate) fn op_long(lexemes: &mut Lexemes<'_>) -> Result<OpLong, Stop>
+pub fn op_long(lexemes: &mut Lexemes<'_>) -> Result<OpLong, Stop>
     ensures { Reads op_long lexemes.old.rest.now result lexemes.new.rest.now }
 {
     if lexemes.sees(Word::Op) {
@@ -173,7 +169,7 @@ pub(crate) fn op_long(lexemes: &mut Lexemes<'_>) -> Result<OpLong, Stop>
 }
 
 /// Whether a name without structures before it stands next.
-pub(crate) fn sees_name(lexemes: &Lexemes<'_>) -> bool
+pub fn sees_name(lexemes: &Lexemes<'_>) -> bool
     ensures { result ≡ begins (λ x. is_some (name_of x)) (head_or lexemes.now.rest.now None) }
 {
     match lexemes.peek() {
@@ -200,7 +196,7 @@ fn names_from(lexemes: &mut Lexemes<'_>, found: List<Name>) -> Result<List<Name>
 
 /// One name or more.
 #[tactic(auto, unfolding(crate::specs::Bindings::names))]
-pub(crate) fn names(alloc: Global, lexemes: &mut Lexemes<'_>) -> Result<List<Name>, Stop>
+pub fn names(alloc: Global, lexemes: &mut Lexemes<'_>) -> Result<List<Name>, Stop>
     ensures { Reads names lexemes.old.rest.now result lexemes.new.rest.now }
 {
     let first = lexemes.name()?;

@@ -148,7 +148,7 @@ fn replication(lexemes: &mut Lexemes<'_>, place: At, name: Name) -> Result<Tall<
 }
 
 /// Whether a list has no item.
-fn has_none(names: &List<Name>) -> bool
+pub fn has_none(names: &List<Name>) -> bool
     ensures { result ≡ has_none names.now }
 {
     match names.as_slice() {

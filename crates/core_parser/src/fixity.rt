@@ -1,9 +1,12 @@
 //! Infix status: which names are infix at a place, and which operators may stand together.
 
-ghost use Rattle.std.specs.Prelude.{◌≡◌, ◌++◌, ◌∷◌, ◌-◌, [], ◌≤◌, length, take, drop, IfOk, OnOk};
+ghost use Rattle.std.specs.Prelude.{◌≡◌, ◌++◌, ◌∷◌, ◌-◌, [], ◌≤◌, ◌<◌, length, take, drop, slice_get, IfOk, OnErr, OnOk};
+ghost use Rattle.core_parser.specs.FixityTables.{status_of, Puts, TellsAlike};
 ghost use Rattle.core_parser.specs.Fixities.{fixity_of, entry, initial, left_over, operator, joining, clashes, clash, open_after, differ};
 
+use crate::fixity_table::{forget, place_of, recall};
 use cm_base::{List, NoMemory, Text};
+use indexmap::IndexMap;
 use sml_lexer::{Lexeme, LexemeKind};
 use sml_syntax::Fixity;
 use std::alloc::Global;
@@ -16,19 +19,25 @@ pub struct Status {
     pub fixity: Option<Fixity>,
 }
 
-/// What was declared of names up to a place, in the order of the text.
+/// What was declared of names up to a place, in the order of the text. Contracts see the list. A table tells where the
+/// last entry of each name stands, and each entry where the one of its name before it does.
 #[derive(Drop)]
 pub struct Fixities {
     entries: Vec<Status>,
+    links: Vec<Option<usize>>,
+    last: IndexMap<Text, Option<usize>>,
 }
 
 impl Model for Fixities {
     ghost use Rattle.std.specs.Prelude.{List};
+    ghost use Rattle.core_parser.specs.FixityTables.{IsTable};
     ghost use Rattle.core_parser.specs.declared.fixity.Status.{Status};
 
     ghost Value = { List Status };
 
     ghost view = { λ f. f.entries.items };
+
+    ghost invariant = { λ f. IsTable f.last f.links.items f.entries.items };
 }
 
 impl Fixities {
@@ -38,21 +47,20 @@ impl Fixities {
     {
         Fixities {
             entries: Vec::new(alloc),
+            links: Vec::new(alloc),
+            last: IndexMap::new(alloc),
         }
     }
 
     /// How the name binds as an infix operator, if it is one: its last entry says so.
-    #[tactic(auto, unfolding(crate::specs::Fixities::fixity_of))]
+    #[tactic(auto, using(crate::proofs::FixityTables::looked_up))]
     pub fn find(&self, name: &Text) -> Option<Fixity>
         ensures { result ≡ fixity_of self.now name.now }
     {
-        let mut held = None;
-        for status in self.entries.as_slice() {
-            if status.name.as_bytes() == name.as_bytes() {
-                held = status.fixity;
-            }
+        match place_of(&self.last, name) {
+            Some(place) => status_at(&self.entries, place),
+            None => None,
         }
-        held
     }
 
     /// How many entries there are.
@@ -64,38 +72,44 @@ impl Fixities {
 
     /// Adds an entry, and leaves all as it was for want of memory.
     pub fn add(&mut self, status: Status) -> Result<(), NoMemory>
-        ensures { OnOk result (self.new ≡ self.old ++ status ∷ []) }
+        ensures ok { OnOk result (self.new ≡ self.old ++ status ∷ []) }
+        ensures err { OnErr result (self.new ≡ self.old) }
     {
-        self.entries.push(status)?;
-        Ok(())
+        let name = status.name.copy()?;
+        let place = place_of(&self.last, &name);
+        let before = count_of(&self.links);
+        self.links.push(place)?;
+        match put(&mut self.entries, &mut self.last, name, status) {
+            Ok(()) => Ok(()),
+            Err(NoMemory) => {
+                self.links.truncate(before);
+                Err(NoMemory)
+            }
+        }
     }
 
     /// Lets what was declared behind so many entries end.
     pub fn truncate(&mut self, len: usize)
         ensures { self.new ≡ take len self.old }
     {
-        self.entries.truncate(len);
+        if len < self.entries.len() {
+            forget(&mut self.last, &self.entries, &self.links, len);
+            self.entries.truncate(len);
+            self.links.truncate(len);
+        }
     }
 
     /// Ends a scope that began behind `start` entries: of what was declared in it the part behind `kept` entries holds
     /// on.
-    #[tactic(auto, using(crate::proofs::FixitySteps::keep_steps))]
     pub fn keep(&mut self, start: usize, kept: usize)
         ensures { self.new ≡ left_over start kept self.old }
     {
-        let len = self.entries.len();
-        if kept <= start {
-            return;
+        if start < kept && start < self.entries.len() {
+            forget(&mut self.last, &self.entries, &self.links, start);
+            take_out(&mut self.entries, start, kept);
+            self.links.truncate(count_of(&self.entries));
+            recall(&mut self.last, &self.entries, &mut self.links, start);
         }
-        if len <= start {
-            return;
-        }
-        if len <= kept {
-            self.entries.truncate(start);
-            return;
-        }
-        move_back(self.entries.as_mut_slice(), start, kept - start);
-        self.entries.truncate(len - (kept - start));
     }
 
     /// What holds at the beginning of a source: the directives of the initial basis.
@@ -103,9 +117,7 @@ impl Fixities {
     pub fn initial(alloc: Global) -> Result<Fixities, NoMemory>
         ensures { IfOk result (λ fixities. fixities ≡ initial) }
     {
-        let mut fixities = Fixities {
-            entries: Vec::new(alloc),
-        };
+        let mut fixities = Fixities::new(alloc);
         fixities.declare(alloc, false, 7, b"/")?;
         fixities.declare(alloc, false, 7, b"*")?;
         fixities.declare(alloc, false, 7, b"div")?;
@@ -142,6 +154,62 @@ impl Fixities {
             fixity: Some(Fixity { strength, right }),
         })
     }
+}
+
+/// How many items a list has.
+fn count_of<T>(items: &Vec<T>) -> usize
+    ensures { result ≡ length items.now.items }
+{
+    items.len()
+}
+
+/// The status that the entry at a place gives.
+fn status_at(entries: &[Status], place: usize) -> Option<Fixity>
+    ensures { result ≡ status_of (slice_get entries.now place) }
+{
+    match entries.get(place) {
+        Some(status) => status.fixity,
+        None => None,
+    }
+}
+
+/// Puts an entry behind the others, and its place into the table. Want of memory leaves both as they were.
+fn put(
+    entries: &mut Vec<Status>,
+    last: &mut IndexMap<Text, Option<usize>>,
+    name: Text,
+    status: Status,
+) -> Result<(), NoMemory>
+    ensures entry { OnOk result (entries.new.items ≡ entries.old.items ++ status ∷ []) }
+    ensures place { OnOk result (Puts last.old last.new name (length entries.old.items)) }
+    ensures none { OnErr result (entries.new.items ≡ entries.old.items) }
+    ensures alike { OnErr result (TellsAlike last.old last.new) }
+{
+    let at = entries.len();
+    entries.push(status)?;
+    match last.insert(name, Some(at)) {
+        Ok(_) => Ok(()),
+        Err(_) => {
+            entries.truncate(at);
+            Err(NoMemory)
+        }
+    }
+}
+
+/// Takes the entries from one place up to another out.
+#[tactic(auto, using(crate::proofs::FixitySteps::keep_steps))]
+fn take_out(entries: &mut Vec<Status>, start: usize, kept: usize)
+    requires some { start < kept }
+    requires within { start < length entries.old.items }
+    ensures { entries.new.items ≡ left_over start kept entries.old.items }
+{
+    let len = entries.len();
+    if len <= kept {
+        entries.truncate(start);
+        return;
+    }
+    move_back(entries, start, kept - start);
+    entries.truncate(len - (kept - start));
 }
 
 /// Moves so many of the entries from a place on behind all others.

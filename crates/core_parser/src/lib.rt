@@ -2,31 +2,34 @@
 #![tactic(auto)]
 
 mod atpats;
-mod binders;
+pub mod binders;
 mod constraints;
 mod constructors;
 mod cursor;
-mod datatype_decs;
+pub mod datatype_decs;
 mod exception_decs;
 mod failure;
 mod fixity;
+mod fixity_table;
 mod infix_decs;
+mod laws;
 mod layers;
-mod lexeme;
-mod lexemes;
+pub mod lexeme;
+pub mod lexemes;
 mod operand;
 mod parsing;
 mod pat_fields;
 mod pat_starts;
 mod patterns;
 mod starts;
-mod stop;
-mod tall;
-mod type_decs;
-mod types;
+pub mod stop;
+pub mod tall;
+pub mod type_decs;
+pub mod types;
 mod words;
 
 pub use cursor::{Cursor, Scope};
 pub use failure::Failure;
+pub use laws::operators_clash_by_rule;
 pub use parsing::{parse_pat, parse_ty};
 pub use words::Word;

@@ -18,7 +18,7 @@ use sml_syntax::{At, FullDec, FullTy, FullTypBind};
 use std::alloc::Global;
 
 /// One level more than this.
-pub(crate) fn above(height: u32) -> Result<u32, Stop>
+pub fn above(height: u32) -> Result<u32, Stop>
     ensures { MatchResult result (λ more. more ≡ height + 1) (λ stop. stop ≡ Stop.NoMemory) }
 {
     height.checked_add(1).ok_or(Stop::NoMemory)
@@ -26,7 +26,7 @@ pub(crate) fn above(height: u32) -> Result<u32, Stop>
 
 /// A type behind this mark, or nothing.
 #[tactic(auto, using(crate::proofs::BindingSteps::maybe_steps))]
-pub(crate) fn of_ty(
+pub fn of_ty(
     alloc: Global,
     lexemes: &mut Lexemes<'_>,
     mark: Word,

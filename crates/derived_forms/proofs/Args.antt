@@ -1,6 +1,6 @@
 -- The last argument of a function, taken first.
 use Rattle.std.proofs.Common.{◌≡◌, ℕ, zero, suc, ◌+◌, List, [], ◌∷◌, ◌++◌, length, refl, ap, ◌∙◌, append_assoc, arith}
-use Rattle.std.proofs.lemmas.List.{reverse-append}
+use Rattle.std.proofs.lemmas.List.{reverse-append, reverse-reverse}
 use Rattle.sml_syntax.specs.declared.name.At.{At}
 use Rattle.sml_syntax.specs.declared.exp.Exp.{Exp}
 use Rattle.sml_syntax.specs.declared.pat.Pat.TheVariants as pat
@@ -8,7 +8,9 @@ use Rattle.sml_syntax.specs.declared.pat.PatField.{PatField, roll-PatField}
 use Rattle.derived_forms.specs.declared.pat.PlacedPat.{PlacedPat}
 use Rattle.derived_forms.specs.Types.{label_of}
 use Rattle.derived_forms.specs.Patterns.{pat_fields_from}
-use Rattle.derived_forms.specs.Nodes.{args_place, args_pat, arg_fn, curried}
+use Rattle.sml_syntax.specs.declared.exp.ExpField.{ExpField}
+use Rattle.derived_forms.specs.declared.node.PlacedExp.{PlacedExp}
+use Rattle.derived_forms.specs.Nodes.{field, exp_fields_from, args_place, args_pat, arg_fn, curried}
 
 -- the last field of a tuple
 fields-append : (at : At) (n : ℕ) (ps : List PlacedPat) (p : PlacedPat)
@@ -53,6 +55,29 @@ pub pat_fields-step : (at : At) (ps : List PlacedPat) (p : PlacedPat)
 pat_fields-step at ps p = pat_fields-append at ps p (length ps + 1) refl
 
 pub ruleset field_steps = (pat_fields-step, reverse-append, append_assoc)
+
+-- the last part of a tuple of expressions
+exp_fields-append : (at : At) (n : ℕ) (ps : List PlacedExp) (p : PlacedExp)
+    → exp_fields_from at n (ps ++ p ∷ []) ≡ exp_fields_from at n ps ++ field (label_of at (n + length ps)) p.exp ∷ []
+exp_fields-append at n [] p =
+    let number : n ≡ n + 0 = omega arith in ap (λ k. field (label_of at k) p.exp ∷ []) number
+exp_fields-append at n (q ∷ ps) p =
+    let numbers : suc n + length ps ≡ n + length (q ∷ ps) = omega arith in
+    ap (λ fields. field (label_of at n) q.exp ∷ fields)
+    (exp_fields-append at (suc n) ps p
+    ∙ ap (λ k. exp_fields_from at (suc n) ps ++ field (label_of at k) p.exp ∷ []) numbers)
+
+pub exp_fields-step : (at : At) (ps : List PlacedExp) (p : PlacedExp)
+    → exp_fields_from at 1 (ps ++ p ∷ [])
+    ≡ exp_fields_from at 1 ps ++ field (label_of at (length ps + 1)) p.exp ∷ []
+exp_fields-step at ps p =
+    let numbers : 1 + length ps ≡ length ps + 1 = omega arith in
+    exp_fields-append at 1 ps p ∙ ap (λ k. exp_fields_from at 1 ps ++ field (label_of at k) p.exp ∷ []) numbers
+
+pub ruleset exp_field_steps = (exp_fields-step, reverse-append, append_assoc)
+
+-- what is taken from the end of a list in reverse
+pub ruleset reverse_steps = (reverse-append, reverse-reverse, append_assoc)
 
 -- the last argument of a function
 curried-last : (at : At) (n count : ℕ) (body : Exp)

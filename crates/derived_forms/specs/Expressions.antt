@@ -39,7 +39,8 @@ use Rattle.derived_forms.specs.Types.{bare_ty, bare_typ_bind, bare_dat_bind, bar
 use Rattle.derived_forms.specs.Patterns.{placed, bare_pat, pair_pat}
 use Rattle.derived_forms.specs.Signatures.{bare_sig}
 use Rattle.derived_forms.specs.Runs.{Part, run_of}
-use Rattle.derived_forms.specs.Nodes.{BareClause, placed_exp, rule, field, constant_exp, unit_exp, exp_fields_from, case_exp, if_exp, or_else, and_also, while_exp, list_exp, sequence_exp, body_exp, joined_exp, applied_exp, missing_exp, fun_rule}
+use Rattle.derived_forms.specs.declared.node.BareClause.{BareClause}
+use Rattle.derived_forms.specs.Nodes.{placed_exp, rule, field, constant_exp, unit_exp, tuple_exp, case_exp, if_exp, or_else, and_also, while_exp, list_exp, sequence_exp, body_exp, joined_exp, applied_exp, missing_exp, fun_rule}
 
 -- what a declaration becomes, none or one, and where it is written
 pub record PlacedDec : Type 0 where
@@ -87,15 +88,19 @@ abbrev pub result_exp : Option FullTy → PlacedExp → Exp
 result_exp None body = body.exp
 result_exp (Some ty) body = exp.Typed body.exp (bare_ty ty) body.at
 
+-- a clause by its head, the type of its result, its place and its body
+abbrev pub clause_of : FullHead → Option FullTy → At → PlacedExp → BareClause
+clause_of head ty at body = record {
+  name = head_name head;
+  args = head_args head;
+  body = result_exp ty body;
+  at = at;
+}
+
 abbrev pub clause_level :
     FullClause-F PlacedDec PlacedExp (Part PlacedExp) PlacedStr BareClause ExpField Rule Rule StrBind CountedRule
     → BareClause
-clause_level clause = record {
-  name = head_name clause.head;
-  args = head_args clause.head;
-  body = result_exp clause.ty clause.body;
-  at = clause.at;
-}
+clause_level clause = clause_of clause.head clause.ty clause.at clause.body
 
 abbrev pub fun_bind_level :
     FullFunBind-F PlacedDec PlacedExp (Part PlacedExp) PlacedStr BareClause ExpField Rule Rule StrBind CountedRule
@@ -132,10 +137,13 @@ sealed (Some seal) body =
     if seal.opaque then str.Opaque body.str (bare_sig seal.sig) body.at
     else str.Transparent body.str (bare_sig seal.sig) body.at
 
+abbrev pub str_bind_of : Name → Option FullSeal → PlacedStr → StrBind
+str_bind_of name seal body = roll-StrBind (record { name = name; body = sealed seal body })
+
 abbrev pub str_bind_level :
     FullStrBind-F PlacedDec PlacedExp (Part PlacedExp) PlacedStr BareClause ExpField Rule Rule StrBind CountedRule
     → StrBind
-str_bind_level bind = roll-StrBind (record { name = bind.name; body = sealed bind.seal bind.body })
+str_bind_level bind = str_bind_of bind.name bind.seal bind.body
 
 -- ---- declarations
 
@@ -185,7 +193,7 @@ exp_level (FullExp-F.Constant c at) = placed_exp at (constant_exp c at)
 exp_level (FullExp-F.Long long at) = placed_exp at (exp.Long long.long at)
 exp_level (FullExp-F.Record fields at) = placed_exp at (exp.Record fields at)
 exp_level (FullExp-F.Unit at) = placed_exp at (unit_exp at)
-exp_level (FullExp-F.Tuple parts at) = placed_exp at (exp.Record (exp_fields_from at 1 parts) at)
+exp_level (FullExp-F.Tuple parts at) = placed_exp at (tuple_exp at parts)
 exp_level (FullExp-F.Sequence exps at) = placed_exp at (sequence_exp at exps)
 exp_level (FullExp-F.Paren inner at) = placed_exp at inner.exp
 exp_level (FullExp-F.List items at) = placed_exp at (list_exp at items)
@@ -220,71 +228,71 @@ str_level (FullStrExp-F.FunctorOfDecs name decs at) =
     let begin = first_at at decs in placed_str at (str.Functor name (str.Struct (sequence_dec begin decs) begin) at)
 str_level (FullStrExp-F.Within decs inner at) = placed_str at (str.Within (sequence_dec at decs) inner.str at)
 
--- ---- what each becomes
+-- ---- what each becomes; `proofs/ExpLevels.antt` has an equation for each form
 
 -- a declaration
-abbrev pub bare_dec : FullDec → PlacedDec
+unfoldable pub bare_dec : FullDec → PlacedDec
 bare_dec = fold-FullDec PlacedDec PlacedExp (Part PlacedExp) PlacedStr BareClause ExpField Rule Rule StrBind CountedRule
     dec_level exp_level exp_item_level str_level clause_level exp_field_level
     fun_bind_level rule_level str_bind_level val_bind_level
 
 -- an expression
-abbrev pub bare_exp : FullExp → PlacedExp
+unfoldable pub bare_exp : FullExp → PlacedExp
 bare_exp = fold-FullExp PlacedDec PlacedExp (Part PlacedExp) PlacedStr BareClause ExpField Rule Rule StrBind CountedRule
     dec_level exp_level exp_item_level str_level clause_level exp_field_level
     fun_bind_level rule_level str_bind_level val_bind_level
 
 -- a part of a run
-abbrev pub bare_item : FullExpItem → Part PlacedExp
+unfoldable pub bare_item : FullExpItem → Part PlacedExp
 bare_item = fold-FullExpItem PlacedDec PlacedExp (Part PlacedExp) PlacedStr BareClause ExpField Rule Rule StrBind
     CountedRule
     dec_level exp_level exp_item_level str_level clause_level exp_field_level
     fun_bind_level rule_level str_bind_level val_bind_level
 
 -- a structure expression
-abbrev pub bare_str : FullStrExp → PlacedStr
+unfoldable pub bare_str : FullStrExp → PlacedStr
 bare_str = fold-FullStrExp PlacedDec PlacedExp (Part PlacedExp) PlacedStr BareClause ExpField Rule Rule StrBind
     CountedRule
     dec_level exp_level exp_item_level str_level clause_level exp_field_level
     fun_bind_level rule_level str_bind_level val_bind_level
 
 -- a clause
-abbrev pub bare_clause : FullClause → BareClause
+unfoldable pub bare_clause : FullClause → BareClause
 bare_clause = fold-FullClause PlacedDec PlacedExp (Part PlacedExp) PlacedStr BareClause ExpField Rule Rule StrBind
     CountedRule
     dec_level exp_level exp_item_level str_level clause_level exp_field_level
     fun_bind_level rule_level str_bind_level val_bind_level
 
 -- a field of a record
-abbrev pub bare_field : FullExpField → ExpField
+unfoldable pub bare_field : FullExpField → ExpField
 bare_field = fold-FullExpField PlacedDec PlacedExp (Part PlacedExp) PlacedStr BareClause ExpField Rule Rule StrBind
     CountedRule
     dec_level exp_level exp_item_level str_level clause_level exp_field_level
     fun_bind_level rule_level str_bind_level val_bind_level
 
 -- a function of a `fun`
-abbrev pub bare_fun_bind : FullFunBind → Rule
+unfoldable pub bare_fun_bind : FullFunBind → Rule
 bare_fun_bind = fold-FullFunBind PlacedDec PlacedExp (Part PlacedExp) PlacedStr BareClause ExpField Rule Rule StrBind
     CountedRule
     dec_level exp_level exp_item_level str_level clause_level exp_field_level
     fun_bind_level rule_level str_bind_level val_bind_level
 
 -- a rule
-abbrev pub bare_rule : FullRule → Rule
+unfoldable pub bare_rule : FullRule → Rule
 bare_rule = fold-FullRule PlacedDec PlacedExp (Part PlacedExp) PlacedStr BareClause ExpField Rule Rule StrBind
     CountedRule
     dec_level exp_level exp_item_level str_level clause_level exp_field_level
     fun_bind_level rule_level str_bind_level val_bind_level
 
 -- a structure that is bound
-abbrev pub bare_str_bind : FullStrBind → StrBind
+unfoldable pub bare_str_bind : FullStrBind → StrBind
 bare_str_bind = fold-FullStrBind PlacedDec PlacedExp (Part PlacedExp) PlacedStr BareClause ExpField Rule Rule StrBind
     CountedRule
     dec_level exp_level exp_item_level str_level clause_level exp_field_level
     fun_bind_level rule_level str_bind_level val_bind_level
 
 -- a binding of a `val`
-abbrev pub bare_val_bind : FullValBind → CountedRule
+unfoldable pub bare_val_bind : FullValBind → CountedRule
 bare_val_bind = fold-FullValBind PlacedDec PlacedExp (Part PlacedExp) PlacedStr BareClause ExpField Rule Rule StrBind
     CountedRule
     dec_level exp_level exp_item_level str_level clause_level exp_field_level

@@ -14,6 +14,7 @@ use Rattle.sml_syntax.specs.declared.exp.Exp.TheVariants as exp
 use Rattle.sml_syntax.specs.declared.exp.ExpField.{ExpField, roll-ExpField}
 use Rattle.sml_syntax.specs.declared.exp.Rule.{Rule, roll-Rule}
 use Rattle.derived_forms.specs.declared.pat.PlacedPat.{PlacedPat}
+use Rattle.derived_forms.specs.declared.node.BareClause.{BareClause}
 use Rattle.derived_forms.specs.declared.node.PlacedExp.{PlacedExp}
 use Rattle.derived_forms.specs.Types.{label_of}
 use Rattle.derived_forms.specs.Patterns.{at_name, long_name, long_at, pat_fields_from}
@@ -52,6 +53,10 @@ pair_exp at a b = exp.Record (field (label_of at 1) a ∷ field (label_of at 2) 
 abbrev pub exp_fields_from : At → ℕ → List PlacedExp → List ExpField
 exp_fields_from at number [] = []
 exp_fields_from at number (part ∷ parts) = field (label_of at number) part.exp ∷ exp_fields_from at (suc number) parts
+
+-- The Definition, Appendix A, expressions: `(exp1, .., expn)` is `{1 = exp1, .., n = expn}`
+abbrev pub tuple_exp : At → List PlacedExp → Exp
+tuple_exp at parts = exp.Record (exp_fields_from at 1 parts) at
 
 abbrev pub one_rule : Pat → Exp → List Rule
 one_rule pat exp = rule pat exp ∷ []
@@ -154,13 +159,6 @@ missing_exp at = placed_exp at (unit_exp at)
 
 -- ---- functions
 
--- a clause: the function's name, the arguments, and the body with its type
-pub record BareClause : Type 0 where
-  pub name : Name
-  pub args : List PlacedPat
-  pub body : Exp
-  pub at : At
-
 -- the name of an argument, which no source has
 abbrev pub arg_text : ℕ → List ℕ
 arg_text number = 37 ∷ decimal number
@@ -199,13 +197,14 @@ abbrev pub curried : At → ℕ → ℕ → Exp → Exp
 curried at number zero body = body
 curried at number (suc more) body = arg_fn at number (curried at (suc number) more body)
 
--- The Definition, Appendix A, function-value bindings: `vid atpat11 .. atpat1n <: ty> = exp1 | ..` is
--- `vid = fn vid1 => .. fn vidn => case (vid1, .., vidn) of (atpat11, .., atpat1n) => exp1 <: ty> | ..`
+-- the function of a first clause with this name and these arguments
 abbrev pub fun_of : At → Name → List PlacedPat → List Rule → Rule
 fun_of at name args rules = rule (pat.Long (long_name name) (at_name name))
     (curried at 1 (length args) (case_exp at (subject_exp at args) rules))
 
--- .. by its first clause; no source has a function without clauses
+-- The Definition, Appendix A, function-value bindings: `vid atpat11 .. atpat1n <: ty> = exp1 | ..` is
+-- `vid = fn vid1 => .. fn vidn => case (vid1, .., vidn) of (atpat11, .., atpat1n) => exp1 <: ty> | ..`;
+-- no source has a function without clauses
 abbrev pub fun_rule : At → List BareClause → Rule
 fun_rule at [] = rule (pat.Wild at) (exp.Fn [] at)
 fun_rule at (clause ∷ clauses) = fun_of at clause.name clause.args (map clause_rule (clause ∷ clauses))

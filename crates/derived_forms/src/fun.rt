@@ -6,7 +6,7 @@ ghost use Rattle.derived_forms.specs.Expressions.{head_name, head_args, infix_pa
 ghost use Rattle.derived_forms.specs.Patterns.{bare_pat, pat_fields_from};
 
 use crate::name::{label, long_of_name, place};
-use crate::node::{case_exp, long_exp, long_pat, one_rule, unit_exp};
+use crate::node::{BareClause, case_exp, long_exp, long_pat, one_rule, unit_exp};
 use crate::pat::{PlacedPat, pair_pat, to_pat, to_pats};
 use cm_base::{List, NoMemory, Text};
 use sml_syntax::{At, Exp, ExpField, FullHead, FullPat, Name, Pat, PatField, Rule};
@@ -93,7 +93,7 @@ fn args_place(at: At, args: &[PlacedPat]) -> At
 
 /// The pattern of a clause: its argument, or the tuple of them.
 #[tactic(auto, using(crate::proofs::Args::only_steps))]
-pub fn args_pat(alloc: Global, at: At, args: Vec<PlacedPat>) -> Result<Pat, NoMemory>
+fn args_pat(alloc: Global, at: At, args: Vec<PlacedPat>) -> Result<Pat, NoMemory>
     ensures { IfOk result (λ made. made ≡ spec.args_pat at args.items) }
 {
     let mut args = args;
@@ -173,19 +173,35 @@ fn curried(alloc: Global, at: At, count: usize, body: Exp) -> Result<Exp, NoMemo
     Ok(made)
 }
 
-/// A function: its name and what it is.
-pub fn fun_of(
-    alloc: Global,
-    at: At,
-    name: &Name,
-    args: &[PlacedPat],
-    rules: List<Rule>,
-) -> Result<Rule, NoMemory>
-    ensures { IfOk result (λ made. made ≡ spec.fun_of at name.now args.now rules) }
+/// The rules of a function's clauses.
+#[tactic(auto, using(crate::proofs::Args::reverse_steps))]
+fn clause_rules(alloc: Global, clauses: Vec<BareClause>) -> Result<List<Rule>, NoMemory>
+    ensures { IfOk result (λ made. made ≡ map spec.clause_rule clauses.items) }
 {
-    let subject = subject(alloc, at, args)?;
-    let chosen = case_exp(alloc, at, subject, rules)?;
-    let exp = curried(alloc, at, args.len(), chosen)?;
-    let pat = Pat::Long(long_of_name(alloc, name)?, place(name));
+    let mut left = clauses;
+    left.reverse();
+    let mut made = List::new(alloc);
+    while let Some(clause) = left.pop() {
+        let pat = args_pat(alloc, clause.at, clause.args.into_vec())?;
+        let exp = clause.body;
+        made.add(Rule { pat, exp })?;
+    }
+    Ok(made)
+}
+
+/// A function: its name and what it is.
+pub fn fun_rule(alloc: Global, at: At, clauses: Vec<BareClause>) -> Result<Rule, NoMemory>
+    ensures { IfOk result (λ made. made ≡ spec.fun_rule at clauses.items) }
+{
+    let [first, ..] = clauses.as_slice() else {
+        let pat = Pat::Wild(at);
+        let exp = Exp::Fn(List::new(alloc), at);
+        return Ok(Rule { pat, exp });
+    };
+    let pat = Pat::Long(long_of_name(alloc, &first.name)?, place(&first.name));
+    let count = first.args.len();
+    let subject = subject(alloc, at, first.args.as_slice())?;
+    let chosen = case_exp(alloc, at, subject, clause_rules(alloc, clauses)?)?;
+    let exp = curried(alloc, at, count, chosen)?;
     Ok(Rule { pat, exp })
 }

@@ -4,12 +4,14 @@ ghost use Rattle.std.specs.Prelude.{◌≡◌, IfOk};
 ghost use Rattle.std.specs.Option.{unwrap_or};
 ghost use Rattle.derived_forms.specs.Nodes as spec;
 ghost use Rattle.derived_forms.specs.Nodes.{joined_exp};
+ghost use Rattle.derived_forms.specs.Runs as runs;
 ghost use Rattle.derived_forms.specs.Runs.{applied_to};
 ghost use Rattle.derived_forms.specs.Types.{bare_ty};
 ghost use Rattle.sml_syntax.specs.declared.exp.Exp.TheVariants as bare;
 
 use crate::name::{copy_long, label, long_of_name, long_of_text, place};
-use crate::run::Operand;
+use crate::pat::PlacedPat;
+use crate::run::{Infix, Operand, bind_all};
 use crate::ty::to_ty;
 use cm_base::{Boxed, List, NoMemory};
 use sml_syntax::{At, Constant, Dec, Exp, ExpField, FullTy, LongName, Name, Pat, Rule, StrExp};
@@ -34,6 +36,15 @@ pub struct PlacedStr {
 pub struct CountedRule {
     pub recs: u32,
     pub rule: Rule,
+}
+
+/// A clause of a function: its name, its arguments, and its body with the type.
+#[derive(Drop)]
+pub struct BareClause {
+    pub name: Name,
+    pub args: List<PlacedPat>,
+    pub body: Exp,
+    pub at: At,
 }
 
 impl Operand for PlacedExp {
@@ -96,6 +107,22 @@ fn pair_exp(alloc: Global, at: At, first: Exp, second: Exp) -> Result<Exp, NoMem
         exp: second,
     })?;
     Ok(Exp::Record(fields, at))
+}
+
+/// `(first, .., last)`
+#[tactic(auto, using(crate::proofs::Args::exp_field_steps))]
+pub fn tuple_exp(alloc: Global, at: At, parts: Vec<PlacedExp>) -> Result<Exp, NoMemory>
+    ensures { IfOk result (λ made. made ≡ spec.tuple_exp at parts.items) }
+{
+    let mut parts = parts;
+    let mut fields = Vec::new(alloc);
+    while let Some(part) = parts.pop() {
+        let label = label(alloc, at, parts.len() + 1)?;
+        let exp = part.exp;
+        fields.push(ExpField { label, exp })?;
+    }
+    fields.reverse();
+    Ok(Exp::Record(List::from_vec(fields), at))
 }
 
 /// A match of one rule.
@@ -239,7 +266,7 @@ pub fn sequence_exp(alloc: Global, at: At, items: Vec<PlacedExp>) -> Result<Exp,
 }
 
 /// The expressions after the `in` of a `let`.
-pub fn body_exp(alloc: Global, at: At, items: Vec<PlacedExp>) -> Result<Exp, NoMemory>
+fn body_exp(alloc: Global, at: At, items: Vec<PlacedExp>) -> Result<Exp, NoMemory>
     ensures { IfOk result (λ made. made ≡ spec.body_exp at items.items) }
 {
     let begin = first_place(at, items.as_slice());
@@ -293,6 +320,19 @@ pub fn operand(alloc: Global, at: At, begun: Option<PlacedExp>) -> PlacedExp
     }
 }
 
+/// What the operands and operators of a run make, of which the last operand has begun, if one has.
+pub fn run_exp(
+    alloc: Global,
+    at: At,
+    before: Vec<(PlacedExp, Infix)>,
+    begun: Option<PlacedExp>,
+) -> Result<Exp, NoMemory>
+    ensures { IfOk result
+        (λ made. made ≡ (runs.bind_all joined_exp before.items (unwrap_or begun (spec.missing_exp at))).exp) }
+{
+    Ok(bind_all(alloc, before, operand(alloc, at, begun))?.exp)
+}
+
 /// An identifier.
 pub fn named_exp(alloc: Global, at: At, long: &LongName) -> Result<Exp, NoMemory>
     ensures { IfOk result (λ made. made ≡ bare.Long long.now at) }
@@ -301,11 +341,12 @@ pub fn named_exp(alloc: Global, at: At, long: &LongName) -> Result<Exp, NoMemory
 }
 
 /// `let dec in body end`
-pub fn let_exp(alloc: Global, at: At, dec: Dec, body: Exp) -> Result<Exp, NoMemory>
-    ensures { IfOk result (λ made. made ≡ bare.Let dec body at) }
+pub fn let_exp(alloc: Global, at: At, dec: Dec, body: Vec<PlacedExp>) -> Result<Exp, NoMemory>
+    ensures { IfOk result (λ made. made ≡ bare.Let dec (spec.body_exp at body.items) at) }
 {
     let dec = Boxed::new(alloc, dec)?;
-    Ok(Exp::Let(dec, Boxed::new(alloc, body)?, at))
+    let body = Boxed::new(alloc, body_exp(alloc, at, body)?)?;
+    Ok(Exp::Let(dec, body, at))
 }
 
 /// `inner : ty`

@@ -70,7 +70,7 @@ fn single_spec(alloc: Global, at: At, desc: &FullTypDesc) -> Result<Spec, NoMemo
 }
 
 /// Whether one of the types stands for another.
-fn has_type(descs: &[FullTypDesc]) -> bool
+pub fn has_type(descs: &[FullTypDesc]) -> bool
     ensures { result ≡ spec.has_type descs.now }
 {
     for desc in descs {

@@ -1,4 +1,4 @@
-use Rattle.std.proofs.Common.{◌≡◌, ℕ, List, Result, Ok, Err, subst}
+use Rattle.std.proofs.Common.{ℕ, List, Err, subst}
 use Rattle.cm_conditions.specs.Answers.{ReadsCondition}
 use Rattle.cm_description.proofs.Conditions.{bad_says}
 use Rattle.cm_description.proofs.lines.condition.Goals as goal

@@ -1,4 +1,4 @@
-use Rattle.std.proofs.Common.{◌≡◌, ◌∙◌, ap, sym}
+use Rattle.std.proofs.Common.{◌∙◌, ap, sym}
 use Rattle.cm_base.specs.declared.diag.Place.{Place}
 use Rattle.cm_description.specs.Answers.{refusal_at}
 use Rattle.cm_description.proofs.Wholes.{whole_answer, more_answer, refused_answer, taken_two, bad_answer}

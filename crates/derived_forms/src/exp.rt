@@ -1,0 +1,409 @@
+//! Expressions, declarations and structure expressions.
+
+ghost use Rattle.std.specs.Prelude.{◌≡◌, IfOk, map};
+ghost use Rattle.derived_forms.specs.Expressions as spec;
+ghost use Rattle.derived_forms.specs.Nodes as nodes;
+ghost use Rattle.derived_forms.specs.Nodes.{applied_exp, joined_exp, missing_exp};
+ghost use Rattle.derived_forms.specs.Runs.{run_of};
+ghost use Rattle.derived_forms.specs.Types.{bare_ty};
+ghost use Rattle.sml_syntax.specs.declared.exp.Exp.TheVariants as bare;
+
+use crate::fun::fun_rule;
+use crate::name::{copy_long, copy_name};
+use crate::node::{
+    BareClause, CountedRule, PlacedExp, PlacedStr, and_also, case_exp, constant_exp, continued,
+    handle_exp, if_exp, let_exp, list_exp, named_exp, operand, or_else, raise_exp, run_exp,
+    sequence_exp, tuple_exp, typed_exp, unit_exp, while_exp,
+};
+use crate::part::{
+    append, clause_of, datatypes_dec, exceptions_dec, first_dec, fun_dec, functor_str, local_dec,
+    opaque_str, open_dec, place_of_exp, place_of_str, replication_dec, str_bind_of, struct_of,
+    structures_dec, transparent_str, types_dec, val_dec, within_str,
+};
+use crate::pat::to_pat;
+use crate::run::Infix;
+use cm_base::{List, NoMemory};
+use sml_syntax::{
+    At, Dec, Exp, ExpField, FullClause, FullDec, FullExp, FullExpField, FullExpItem, FullFunBind,
+    FullRule, FullStrBind, FullStrExp, FullTy, FullValBind, Rule, StrBind, StrExp,
+};
+use std::alloc::Global;
+
+/// An expression without derived forms.
+#[cycle(to_exp)]
+#[tactic(auto, using(crate::proofs::ExpLevels::exp_forms))]
+fn to_exp(alloc: Global, exp: &FullExp) -> Result<Exp, NoMemory>
+    ensures { IfOk result (λ made. made ≡ (spec.bare_exp exp.now).exp) }
+{
+    match exp {
+        FullExp::Constant(constant, at) => constant_exp(constant, *at),
+        FullExp::Long(long, at) => named_exp(alloc, *at, &long.long),
+        FullExp::Record(fields, at) => to_record(alloc, *at, fields.as_slice()),
+        FullExp::Unit(at) => Ok(unit_exp(alloc, *at)),
+        FullExp::Tuple(parts, at) => to_tuple(alloc, *at, parts.as_slice()),
+        FullExp::Sequence(exps, at) => to_sequence_exp(alloc, *at, exps.as_slice()),
+        FullExp::Paren(inner, _) => to_exp(alloc, inner.get()),
+        FullExp::List(items, at) => to_list_exp(alloc, *at, items.as_slice()),
+        FullExp::Let(decs, exps, at) => {
+            to_let(
+                alloc,
+                *at,
+                exps.as_slice(),
+                to_sequence(alloc, *at, decs.as_slice())?,
+            )
+        }
+        FullExp::Run(items, at) => to_run(alloc, *at, items.as_slice()),
+        FullExp::Typed(inner, ty, at) => to_typed(alloc, *at, inner.get(), ty),
+        FullExp::AndAlso(a, b, at) => to_and_also(alloc, *at, b.get(), to_exp(alloc, a.get())?),
+        FullExp::OrElse(a, b, at) => to_or_else(alloc, *at, b.get(), to_exp(alloc, a.get())?),
+        FullExp::Handle(inner, rules, at) => {
+            to_handle(alloc, *at, rules.as_slice(), to_exp(alloc, inner.get())?)
+        }
+        FullExp::Raise(inner, at) => to_raise(alloc, *at, inner.get()),
+        FullExp::If(a, b, c, at) => {
+            let test = to_exp(alloc, a.get())?;
+            to_if(alloc, *at, c.get(), test, to_exp(alloc, b.get())?)
+        }
+        FullExp::While(a, b, at) => to_while(alloc, *at, b.get(), to_exp(alloc, a.get())?),
+        FullExp::Case(subject, rules, at) => {
+            to_case(alloc, *at, rules.as_slice(), to_exp(alloc, subject.get())?)
+        }
+        FullExp::Fn(rules, at) => to_fn(alloc, *at, rules.as_slice()),
+    }
+}
+
+/// An expression with its place.
+#[cycle(to_exp)]
+#[tactic(auto, using(crate::proofs::ExpLevels::exp_whole))]
+fn to_placed(alloc: Global, exp: &FullExp) -> Result<PlacedExp, NoMemory>
+    ensures { IfOk result (λ made. made ≡ spec.bare_exp exp.now) }
+{
+    Ok(PlacedExp {
+        at: place_of_exp(exp),
+        exp: to_exp(alloc, exp)?,
+    })
+}
+
+#[cycle(to_exp)]
+fn to_exps(alloc: Global, exps: &[FullExp]) -> Result<Vec<PlacedExp>, NoMemory>
+    ensures { IfOk result (λ made. made.items ≡ map spec.bare_exp exps.now) }
+{
+    let mut made = Vec::new(alloc);
+    for exp in exps {
+        made.push(to_placed(alloc, exp)?)?;
+    }
+    Ok(made)
+}
+
+/// A tuple.
+#[cycle(to_exp)]
+fn to_tuple(alloc: Global, at: At, parts: &[FullExp]) -> Result<Exp, NoMemory>
+    ensures { IfOk result (λ made. made ≡ nodes.tuple_exp at (map spec.bare_exp parts.now)) }
+{
+    tuple_exp(alloc, at, to_exps(alloc, parts)?)
+}
+
+/// Expressions one after another, of which the last gives the value.
+#[cycle(to_exp)]
+fn to_sequence_exp(alloc: Global, at: At, exps: &[FullExp]) -> Result<Exp, NoMemory>
+    ensures { IfOk result (λ made. made ≡ nodes.sequence_exp at (map spec.bare_exp exps.now)) }
+{
+    sequence_exp(alloc, at, to_exps(alloc, exps)?)
+}
+
+/// A list in brackets.
+#[cycle(to_exp)]
+fn to_list_exp(alloc: Global, at: At, items: &[FullExp]) -> Result<Exp, NoMemory>
+    ensures { IfOk result (λ made. made ≡ nodes.list_exp at (map spec.bare_exp items.now)) }
+{
+    list_exp(alloc, at, to_exps(alloc, items)?)
+}
+
+/// `let dec in exps end`
+#[cycle(to_exp)]
+fn to_let(alloc: Global, at: At, exps: &[FullExp], dec: Dec) -> Result<Exp, NoMemory>
+    ensures { IfOk result (λ made. made ≡ bare.Let dec (nodes.body_exp at (map spec.bare_exp exps.now)) at) }
+{
+    let body = to_exps(alloc, exps)?;
+    let_exp(alloc, at, dec, body)
+}
+
+/// `inner : ty`
+#[cycle(to_exp)]
+fn to_typed(alloc: Global, at: At, inner: &FullExp, ty: &FullTy) -> Result<Exp, NoMemory>
+    ensures { IfOk result (λ made. made ≡ bare.Typed (spec.bare_exp inner.now).exp (bare_ty ty.now) at) }
+{
+    typed_exp(alloc, at, to_exp(alloc, inner)?, ty)
+}
+
+/// `first andalso second`, of which the second is still as it is written; and so below.
+#[cycle(to_exp)]
+fn to_and_also(alloc: Global, at: At, second: &FullExp, first: Exp) -> Result<Exp, NoMemory>
+    ensures { IfOk result (λ made. made ≡ nodes.and_also at first (spec.bare_exp second.now).exp) }
+{
+    let second = to_exp(alloc, second)?;
+    and_also(alloc, at, first, second)
+}
+
+/// `first orelse second`
+#[cycle(to_exp)]
+fn to_or_else(alloc: Global, at: At, second: &FullExp, first: Exp) -> Result<Exp, NoMemory>
+    ensures { IfOk result (λ made. made ≡ nodes.or_else at first (spec.bare_exp second.now).exp) }
+{
+    let second = to_exp(alloc, second)?;
+    or_else(alloc, at, first, second)
+}
+
+/// `inner handle rules`
+#[cycle(to_exp)]
+fn to_handle(alloc: Global, at: At, rules: &[FullRule], inner: Exp) -> Result<Exp, NoMemory>
+    ensures { IfOk result (λ made. made ≡ bare.Handle inner (map spec.bare_rule rules.now) at) }
+{
+    let rules = to_rules(alloc, rules)?;
+    handle_exp(alloc, at, inner, rules)
+}
+
+/// `raise inner`
+#[cycle(to_exp)]
+fn to_raise(alloc: Global, at: At, inner: &FullExp) -> Result<Exp, NoMemory>
+    ensures { IfOk result (λ made. made ≡ bare.Raise (spec.bare_exp inner.now).exp at) }
+{
+    raise_exp(alloc, at, to_exp(alloc, inner)?)
+}
+
+/// `if test then first else second`
+#[cycle(to_exp)]
+fn to_if(alloc: Global, at: At, second: &FullExp, test: Exp, first: Exp) -> Result<Exp, NoMemory>
+    ensures { IfOk result (λ made. made ≡ nodes.if_exp at test first (spec.bare_exp second.now).exp) }
+{
+    let second = to_exp(alloc, second)?;
+    if_exp(alloc, at, test, first, second)
+}
+
+/// `while test do body`
+#[cycle(to_exp)]
+fn to_while(alloc: Global, at: At, body: &FullExp, test: Exp) -> Result<Exp, NoMemory>
+    ensures { IfOk result (λ made. made ≡ nodes.while_exp at test (spec.bare_exp body.now).exp) }
+{
+    let body = to_exp(alloc, body)?;
+    while_exp(alloc, at, test, body)
+}
+
+/// `case subject of rules`
+#[cycle(to_exp)]
+fn to_case(alloc: Global, at: At, rules: &[FullRule], subject: Exp) -> Result<Exp, NoMemory>
+    ensures { IfOk result (λ made. made ≡ nodes.case_exp at subject (map spec.bare_rule rules.now)) }
+{
+    let rules = to_rules(alloc, rules)?;
+    case_exp(alloc, at, subject, rules)
+}
+
+/// A record.
+#[cycle(to_exp)]
+fn to_record(alloc: Global, at: At, fields: &[FullExpField]) -> Result<Exp, NoMemory>
+    ensures { IfOk result (λ made. made ≡ bare.Record (map spec.bare_field fields.now) at) }
+{
+    let mut made = List::new(alloc);
+    for field in fields {
+        made.add(ExpField {
+            label: copy_name(&field.label)?,
+            exp: to_exp(alloc, &field.exp)?,
+        })?;
+    }
+    Ok(Exp::Record(made, at))
+}
+
+/// What the parts of a run make.
+#[cycle(to_exp)]
+fn to_run(alloc: Global, at: At, items: &[FullExpItem]) -> Result<Exp, NoMemory>
+    ensures { IfOk result
+        (λ made. made ≡ (run_of joined_exp applied_exp (missing_exp at) (map spec.bare_item items.now)).exp) }
+{
+    let mut before = Vec::new(alloc);
+    let mut begun = None;
+    for item in items {
+        match item {
+            FullExpItem::Atom(exp) => {
+                begun = Some(continued(alloc, begun, to_placed(alloc, exp)?)?);
+            }
+            FullExpItem::Operator(name, fixity) => {
+                let operator = Infix {
+                    name: copy_name(name)?,
+                    fixity: *fixity,
+                };
+                before.push((operand(alloc, at, begun), operator))?;
+                begun = None;
+            }
+        }
+    }
+    run_exp(alloc, at, before, begun)
+}
+
+/// A function.
+#[cycle(to_exp)]
+fn to_fn(alloc: Global, at: At, rules: &[FullRule]) -> Result<Exp, NoMemory>
+    ensures { IfOk result (λ made. made ≡ bare.Fn (map spec.bare_rule rules.now) at) }
+{
+    Ok(Exp::Fn(to_rules(alloc, rules)?, at))
+}
+
+#[cycle(to_exp)]
+fn to_rules(alloc: Global, rules: &[FullRule]) -> Result<List<Rule>, NoMemory>
+    ensures { IfOk result (λ made. made ≡ map spec.bare_rule rules.now) }
+{
+    let mut made = List::new(alloc);
+    for rule in rules {
+        made.add(Rule {
+            pat: to_pat(alloc, &rule.pat)?.pat,
+            exp: to_exp(alloc, &rule.exp)?,
+        })?;
+    }
+    Ok(made)
+}
+
+#[cycle(to_exp)]
+fn to_clauses(alloc: Global, clauses: &[FullClause]) -> Result<Vec<BareClause>, NoMemory>
+    ensures { IfOk result (λ made. made.items ≡ map spec.bare_clause clauses.now) }
+{
+    let mut made = Vec::new(alloc);
+    for clause in clauses {
+        let body = to_placed(alloc, &clause.body)?;
+        made.push(clause_of(alloc, &clause.head, &clause.ty, clause.at, body)?)?;
+    }
+    Ok(made)
+}
+
+/// The functions of a `fun`.
+#[cycle(to_exp)]
+fn to_fun_binds(alloc: Global, binds: &[FullFunBind]) -> Result<List<Rule>, NoMemory>
+    ensures { IfOk result (λ made. made ≡ map spec.bare_fun_bind binds.now) }
+{
+    let mut made = List::new(alloc);
+    for bind in binds {
+        let clauses = to_clauses(alloc, bind.clauses.as_slice())?;
+        made.add(fun_rule(alloc, bind.at, clauses)?)?;
+    }
+    Ok(made)
+}
+
+/// The bindings of a `val`.
+#[cycle(to_exp)]
+fn to_val_binds(alloc: Global, binds: &[FullValBind]) -> Result<Vec<CountedRule>, NoMemory>
+    ensures { IfOk result (λ made. made.items ≡ map spec.bare_val_bind binds.now) }
+{
+    let mut made = Vec::new(alloc);
+    for bind in binds {
+        let pat = to_pat(alloc, &bind.pat)?.pat;
+        let exp = to_exp(alloc, &bind.exp)?;
+        made.push(CountedRule {
+            recs: bind.recs,
+            rule: Rule { pat, exp },
+        })?;
+    }
+    Ok(made)
+}
+
+/// Declarations one after another.
+#[cycle(to_exp)]
+pub fn to_sequence(alloc: Global, at: At, decs: &[FullDec]) -> Result<Dec, NoMemory>
+    ensures { IfOk result (λ made. made ≡ spec.sequence_dec at (map spec.bare_dec decs.now)) }
+{
+    let mut made = Vec::new(alloc);
+    for dec in decs {
+        append(&mut made, to_dec(alloc, dec)?)?;
+    }
+    Ok(Dec::Sequence(List::from_vec(made), at))
+}
+
+/// What a declaration becomes, none or one.
+#[cycle(to_exp)]
+#[tactic(auto, using(crate::proofs::ExpLevels::dec_forms))]
+fn to_dec(alloc: Global, dec: &FullDec) -> Result<List<Dec>, NoMemory>
+    ensures { IfOk result (λ made. made ≡ (spec.bare_dec dec.now).decs) }
+{
+    match dec {
+        FullDec::Val(tyvars, binds, at) => {
+            val_dec(
+                alloc,
+                *at,
+                tyvars.as_slice(),
+                to_val_binds(alloc, binds.as_slice())?,
+            )
+        }
+        FullDec::Fun(tyvars, binds, at) => {
+            fun_dec(
+                alloc,
+                *at,
+                tyvars.as_slice(),
+                to_fun_binds(alloc, binds.as_slice())?,
+            )
+        }
+        FullDec::Types(binds, at) => types_dec(alloc, *at, binds),
+        FullDec::Datatypes(binds, at) => datatypes_dec(alloc, *at, binds),
+        FullDec::Replication(name, long, at) => replication_dec(alloc, *at, name, long),
+        FullDec::Exceptions(binds, at) => exceptions_dec(alloc, *at, binds),
+        FullDec::Local(hidden, decs, at) => {
+            let hidden = to_sequence(alloc, *at, hidden.as_slice())?;
+            local_dec(
+                alloc,
+                *at,
+                hidden,
+                to_sequence(alloc, *at, decs.as_slice())?,
+            )
+        }
+        FullDec::Open(longs, at) => open_dec(alloc, *at, longs.as_slice()),
+        FullDec::Infix(_, _, _) => Ok(List::new(alloc)),
+        FullDec::Infixr(_, _, _) => Ok(List::new(alloc)),
+        FullDec::Nonfix(_, _) => Ok(List::new(alloc)),
+        FullDec::Structures(binds, at) => {
+            structures_dec(alloc, *at, to_str_binds(alloc, binds.as_slice())?)
+        }
+    }
+}
+
+/// A structure expression without derived forms.
+#[cycle(to_exp)]
+#[tactic(auto, using(crate::proofs::ExpLevels::str_forms))]
+pub fn to_str(alloc: Global, str: &FullStrExp) -> Result<StrExp, NoMemory>
+    ensures { IfOk result (λ made. made ≡ (spec.bare_str str.now).str) }
+{
+    match str {
+        FullStrExp::Struct(decs, at) => {
+            struct_of(alloc, *at, to_sequence(alloc, *at, decs.as_slice())?)
+        }
+        FullStrExp::Named(long, at) => Ok(StrExp::Named(copy_long(alloc, long)?, *at)),
+        FullStrExp::Transparent(inner, sig, at) => {
+            transparent_str(alloc, *at, to_str(alloc, inner.get())?, sig)
+        }
+        FullStrExp::Opaque(inner, sig, at) => {
+            opaque_str(alloc, *at, to_str(alloc, inner.get())?, sig)
+        }
+        FullStrExp::Functor(name, arg, at) => {
+            functor_str(alloc, *at, name, to_str(alloc, arg.get())?)
+        }
+        FullStrExp::FunctorOfDecs(name, decs, at) => {
+            let begin = first_dec(*at, decs.as_slice());
+            let arg = struct_of(alloc, begin, to_sequence(alloc, begin, decs.as_slice())?)?;
+            functor_str(alloc, *at, name, arg)
+        }
+        FullStrExp::Within(decs, inner, at) => {
+            let dec = to_sequence(alloc, *at, decs.as_slice())?;
+            within_str(alloc, *at, dec, to_str(alloc, inner.get())?)
+        }
+    }
+}
+
+#[cycle(to_exp)]
+pub fn to_str_binds(alloc: Global, binds: &[FullStrBind]) -> Result<List<StrBind>, NoMemory>
+    ensures { IfOk result (λ made. made ≡ map spec.bare_str_bind binds.now) }
+{
+    let mut made = List::new(alloc);
+    for bind in binds {
+        let body = PlacedStr {
+            at: place_of_str(&bind.body),
+            str: to_str(alloc, &bind.body)?,
+        };
+        made.add(str_bind_of(alloc, &bind.name, &bind.seal, body)?)?;
+    }
+    Ok(made)
+}

@@ -1,0 +1,15 @@
+use Rattle.std.proofs.Common.{◌≡◌, true, None}
+use Rattle.grammars.specs.Grammar.{begins, head_or}
+use Rattle.core_parser.specs.Words.{is}
+use Rattle.core_parser.specs.Types.{ty}
+use Rattle.core_parser.specs.declared.words.Word.TheVariants as w
+use Rattle.core_parser.proofs.Steps.{round_less}
+use Rattle.module_parser.specs.Specifications.{typ_desc}
+use Rattle.module_parser.proofs.descs.typ_descs.Goals as goal
+
+pub loop-alloc-smaller : goal.loop-alloc-smaller
+loop-alloc-smaller c =
+    let rest = c.loop-alloc.lexemes.rest.now in
+    let sees : begins (is w.And) (head_or rest None) ≡ true = cc in
+    let whole = rw c.take.ensures at c.in_ok-next.ensures in
+    round_less (is w.And) (typ_desc (ty c.args.levels)) c.in_ok-next.next rest c.typ_desc.new.lexemes.rest.now sees whole
