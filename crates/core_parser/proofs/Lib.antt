@@ -6,3 +6,7 @@ pub mod CursorSteps
 pub mod FixitySteps
 pub mod OperatorLaws
 pub mod FixityTables
+pub mod ExpSteps
+pub mod ValSteps
+pub mod HeadSteps
+pub mod DecSteps

@@ -21,7 +21,7 @@ use Rattle.core_parser.specs.Words.{g, is, token, at, and_then, given}
 use Rattle.core_parser.specs.Fixities.{Fixities, operator, joining}
 use Rattle.core_parser.specs.Sized.{leaf, over, part, lower, maybe}
 use Rattle.core_parser.specs.Types.{ty}
-use Rattle.core_parser.specs.Patterns.{PatLevel, pat, atpat, plain, pat_level, level_of, no_level, starts_atpat, pat_after, atpat_after, start, goes_on, run_step, run_part, run_on, run_of, run_from, run_rest, by_operator, operand_behind, operand_joined, with_operand, behind_operand, alone, layered, simple, layer, no_type, some_type, typed_id, behind_id, behind_name, behind_typed, leaf_id, id_under, typed, constrained, constraint, in_parens, inside_parens, behind_first, tuple_of, in_brackets, items_of, record_of, fields_of, field_behind, labelled, named_field, if_name}
+use Rattle.core_parser.specs.Patterns.{PatLevel, pat, atpat, plain, pat_level, level_of, no_level, starts_atpat, pat_after, pat_behind, atpat_after, start, goes_on, run_step, run_part, run_on, run_of, run_from, run_rest, by_operator, operand_behind, operand_joined, with_operand, behind_operand, alone, layered, simple, layer, no_type, some_type, typed_id, behind_id, behind_name, behind_typed, leaf_id, id_under, typed, constrained, constraint, in_parens, inside_parens, behind_first, tuple_of, in_brackets, items_of, record_of, fields_of, field_behind, labelled, named_field, if_name}
 use Rattle.core_parser.specs.declared.words.Word.{Word}
 use Rattle.core_parser.specs.declared.words.Word.TheVariants as w
 use Rattle.core_parser.specs.declared.tall.Tall.{Tall}
@@ -65,6 +65,19 @@ pat_refused fs (suc n) xs h =
     ∙ on_stop (starts_atpat fs) (pat_after fs (suc n) (ty (suc n - 1)) (pat_level fs (suc n - 1))) Grammar.refuse xs h
 
 pub ruleset pat_steps = (pat_go, pat_deep, pat_refused)
+
+pub pat_behind_go : (fs : Fixities) (n : ℕ) (x : Lexeme) (xs : List Lexeme) → 0 < n
+    → read (pat_behind fs n x) xs ≡ read (pat_after fs n (ty (n - 1)) (pat_level fs (n - 1)) x) xs
+unfolding pat_behind
+pat_behind_go fs n x xs h = goes (nat_lt 0 n) _ _ (lt-ltb 0 n h)
+
+pub pat_behind_deep : (fs : Fixities) (n : ℕ) (x : Lexeme) (xs : List Lexeme) → n ≡ 0
+    → read (pat_behind fs n x) xs ≡ Out.out End.deep xs
+unfolding pat_behind
+pat_behind_deep fs zero x xs h = refl
+pat_behind_deep fs (suc n) x xs h = absurd (omega arith)
+
+pub ruleset pat_behind_steps = (pat_behind_go, pat_behind_deep)
 
 pub operand_go : (fs : Fixities) (n : ℕ) (x : Lexeme) (xs : List Lexeme) → 0 < n
     → read ((pat_level fs n).atpat x) xs ≡ read (atpat_after (ty (n - 1)) (pat fs (n - 1)) x) xs

@@ -8,6 +8,10 @@ use Rattle.cm_base.specs.declared.fault.Fault.TheVariants as fault
 use Rattle.sml_lexer.specs.declared.lexeme.Lexeme.{Lexeme}
 use Rattle.grammars.specs.Grammar.{End, head_or, Ends, Phrase}
 use Rattle.grammars.specs.Front.{FirstNoFront}
+use Rattle.sml_syntax.specs.declared.full_exp.FullDec.{FullDec}
+use Rattle.core_parser.specs.Bindings.{declares}
+use Rattle.core_parser.specs.Fixities.{Fixities}
+use Rattle.core_parser.specs.Level.{Decs}
 use Rattle.core_parser.specs.Words.{g}
 use Rattle.core_parser.specs.declared.tall.Tall.{Tall}
 
@@ -32,14 +36,25 @@ pub record LongestRun {A : Type 0} (grammar : g A) (e : End A) (rest left : List
   pub ends : Ends grammar e run (head_or left None)
   pub longest : FirstNoFront grammar rest left
 
--- In a file whose lexemes are `all`, of which `rest` are left: the longest run of fronts is a phrase with this tree,
--- and `left` stands behind it; or it is no phrase, which is 20 at the lexeme behind it or at the last one; or its last
--- lexeme opens a level too many, which is 12 on the file. Nothing is said for want of memory.
+-- A refusal in a file whose lexemes are `all`, of which `rest` are left: the longest run of fronts is no phrase, which
+-- is 20 at the lexeme behind it or at the last one; or its last lexeme opens a level too many, which is 12 on the file.
+-- Nothing is said for want of memory.
+abbrev pub Refuses : {A : Type 0} → g A → List ℕ → List Lexeme → List Lexeme → Fault → Type 0
+Refuses grammar file all rest (fault.Diag diag) =
+    ((behind : List Lexeme) × LongestRun grammar End.refused rest behind × (diag ≡ refusal file all behind))
+    ⊎ ((behind : List Lexeme) × LongestRun grammar End.deep rest behind × (diag ≡ whole_file 12 file))
+Refuses grammar file all rest fault.NoMemory = Unit {0}
+
+-- The longest run of fronts is a phrase with this tree, and `left` stands behind it; or it is refused.
 abbrev pub Answers : {A : Type 0} → g (Tall A) → List ℕ → List Lexeme → List Lexeme → Result A Fault → List Lexeme
     → Type 0
 Answers {A} grammar file all rest (Ok tree) left =
     (height : ℕ) × LongestRun grammar (End.whole (record { tree = tree; height = height })) rest left
-Answers grammar file all rest (Err (fault.Diag diag)) left =
-    ((behind : List Lexeme) × LongestRun grammar End.refused rest behind × (diag ≡ refusal file all behind))
-    ⊎ ((behind : List Lexeme) × LongestRun grammar End.deep rest behind × (diag ≡ whole_file 12 file))
-Answers grammar file all rest (Err fault.NoMemory) left = Unit {0}
+Answers grammar file all rest (Err fault) left = Refuses grammar file all rest fault
+
+-- The same of one declaration, behind which names bind so.
+abbrev pub AnswersDec : g Decs → List ℕ → List Lexeme → List Lexeme → Result FullDec Fault → Fixities → List Lexeme
+    → Type 0
+AnswersDec grammar file all rest (Ok dec) fs left =
+    (height : ℕ) × LongestRun grammar (End.whole (declares (record { tree = dec; height = height }) fs)) rest left
+AnswersDec grammar file all rest (Err fault) fs left = Refuses grammar file all rest fault

@@ -6,9 +6,12 @@ use Rattle.cm_base.specs.declared.diag.Diag.{Diag}
 use Rattle.cm_base.specs.declared.fault.Fault.{Fault}
 use Rattle.cm_base.specs.declared.fault.Fault.TheVariants as fault
 use Rattle.sml_lexer.specs.declared.lexeme.Lexeme.{Lexeme}
-use Rattle.core_parser.specs.Answers.{Answers}
+use Rattle.sml_syntax.specs.declared.full_exp.FullDec.{FullDec}
+use Rattle.core_parser.specs.Answers.{Answers, AnswersDec}
 use Rattle.core_parser.specs.Fixities.{Fixities, initial, left_over}
+use Rattle.core_parser.specs.Level.{Decs}
 use Rattle.core_parser.specs.Reads.{Reads}
+use Rattle.core_parser.specs.ReadsDec.{ReadsDec}
 use Rattle.core_parser.specs.Words.{g}
 use Rattle.core_parser.specs.declared.cursor.Cursor.{Cursor}
 use Rattle.core_parser.specs.declared.failure.Failure.{Failure}
@@ -212,3 +215,27 @@ ParsesUnless (Some because) grammar old result now = FailsAgain (fault_of old.fi
 -- What a public call answers and leaves that reads a phrase, of which 128 levels may be open with those around it.
 abbrev pub Parses : {A : Type 0} → (ℕ → Fixities → g (Tall A)) → CursorState → Result A Fault → CursorState → Type 0
 Parses grammar old result now = ParsesUnless old.failed (grammar (128 - old.nest) old.fixities) old result now
+
+-- ---- the call that reads a declaration, which leaves the infix status behind it
+
+-- the reading went from a place in these lexemes to another, behind which names bind so
+abbrev pub ReadsDecFrom : g Decs → List Lexeme → ℕ → Reading FullDec → Fixities → Type 0
+ReadsDecFrom grammar all taken reading fs =
+    ReadsDec grammar (drop taken all) reading.made fs (drop reading.taken all)
+
+abbrev pub ParsesDecHere : g Decs → CursorState → Result FullDec Fault → CursorState → Type 0
+ParsesDecHere grammar old (Ok dec) now =
+    AnswersDec grammar old.file old.all old.rest (Ok dec) now.fixities now.rest
+    × (now ≡ before now.rest (scoped now.fixities old.scopes old))
+ParsesDecHere grammar old (Err fault) now =
+    AnswersDec grammar old.file old.all old.rest (Err fault) [] [] × FailsWith fault old now
+
+abbrev pub ParsesDecUnless : Option Failure → g Decs → CursorState → Result FullDec Fault → CursorState → Type 0
+ParsesDecUnless None grammar old result now = ParsesDecHere grammar old result now
+ParsesDecUnless (Some because) grammar old result now =
+    FailsAgain (fault_of old.file because) result × (now ≡ old)
+
+-- what the call answers and leaves that reads a declaration
+abbrev pub ParsesDec : (ℕ → Fixities → g Decs) → CursorState → Result FullDec Fault → CursorState → Type 0
+ParsesDec grammar old result now =
+    ParsesDecUnless old.failed (grammar (128 - old.nest) old.fixities) old result now

@@ -11,3 +11,9 @@ pub mod ReadsDec
 pub mod Cursors
 pub mod Operators
 pub mod FixityTables
+pub mod Expressions
+pub mod Values
+pub mod Clauses
+pub mod Declarations
+pub mod Levels
+pub mod DecReads

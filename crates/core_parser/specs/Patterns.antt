@@ -13,7 +13,7 @@
 -- operands where it clashes with one before it. Each node of the tree is a level, and a run is one node. What stands in
 -- brackets, in a run, behind a `:` and behind `as` is one level down. What stands before a `:`, or before the second
 -- part of a run, becomes a part there, which the limit has to allow.
-use Rattle.std.specs.Prelude.{ℕ, zero, suc, ◌+◌, ◌++◌, ◌&&◌, ◌||◌, max, Bool, true, false, not, List, [], ◌∷◌, Option, Some, None, is_some, nat_lt}
+use Rattle.std.specs.Prelude.{ℕ, zero, suc, ◌+◌, ◌-◌, ◌++◌, ◌&&◌, ◌||◌, max, Bool, true, false, not, List, [], ◌∷◌, Option, Some, None, is_some, nat_lt}
 use Rattle.sml_lexer.specs.declared.lexeme.Lexeme.{Lexeme}
 use Rattle.sml_lexer.specs.declared.lexeme.LexemeKind.{LexemeKind}
 use Rattle.sml_lexer.specs.declared.lexeme.LexemeKind.TheVariants as k
@@ -421,6 +421,11 @@ pat_level fs (suc n) = level_of fs (suc n) (ty n) (pat_level fs n)
 -- a pattern that nests at most so many levels
 abbrev pub pat : Fixities → ℕ → g (Tall FullPat)
 pat fs levels = (pat_level fs levels).pat
+
+-- the same behind its first lexeme
+unfoldable pub pat_behind : Fixities → ℕ → Lexeme → g (Tall FullPat)
+pat_behind fs levels x =
+    within (nat_lt 0 levels) (pat_after fs levels (ty (levels - 1)) (pat_level fs (levels - 1)) x)
 
 -- an atomic pattern that nests at most so many levels
 unfoldable pub atpat : Fixities → ℕ → g (Tall FullPat)

@@ -153,7 +153,7 @@ fn inside_parens(
 /// What stands behind the first pattern in parentheses.
 #[cycle(patterns)]
 #[tactic(auto, using(crate::proofs::PatSteps::behind_first_steps))]
-fn behind_first(
+pub fn behind_first(
     alloc: Global,
     lexemes: &mut Lexemes<'_>,
     fixities: &Fixities,

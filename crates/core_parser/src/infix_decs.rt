@@ -1,6 +1,6 @@
 //! Declarations of infix status, and `open`.
 
-ghost use Rattle.std.specs.Prelude.{◌≡◌, ◌∷◌, [], IfOk, OnOk, None, Some, is_some};
+ghost use Rattle.std.specs.Prelude.{◌≡◌, ◌∷◌, [], IfOk, OnOk, None, Some, is_some, length, take};
 ghost use Rattle.grammars.specs.Grammar.{begins, head_or};
 ghost use Rattle.core_parser.specs.Reads.{Reads};
 ghost use Rattle.core_parser.specs.Words.{long_named};
@@ -38,7 +38,7 @@ fn begins_with_letter(text: &Text) -> bool
 }
 
 /// The name of a structure that a lexeme is, if it is one.
-fn strid_of(lexeme: &Lexeme) -> Result<Option<List<Text>>, NoMemory>
+pub fn strid_of(lexeme: &Lexeme) -> Result<Option<List<Text>>, NoMemory>
     ensures { IfOk result (λ found. found ≡ strid_of lexeme.now) }
 {
     match &lexeme.kind {
@@ -47,15 +47,22 @@ fn strid_of(lexeme: &Lexeme) -> Result<Option<List<Text>>, NoMemory>
     }
 }
 
+/// Whether a lexeme is the name of a structure.
+pub fn is_strid(lexeme: &Lexeme) -> bool
+    ensures { result ≡ is_some (strid_of lexeme.now) }
+{
+    match &lexeme.kind {
+        LexemeKind::Name(parts) => ends_in_letters(parts.as_slice()),
+        _ => false,
+    }
+}
+
 /// Whether the name of a structure stands next.
 fn sees_strid(lexemes: &Lexemes<'_>) -> bool
     ensures { result ≡ begins (λ x. is_some (strid_of x)) (head_or lexemes.now.rest.now None) }
 {
     match lexemes.peek() {
-        Some(next) => match &next.kind {
-            LexemeKind::Name(parts) => ends_in_letters(parts.as_slice()),
-            _ => false,
-        },
+        Some(next) => is_strid(next),
         None => false,
     }
 }
@@ -191,7 +198,7 @@ fn strength_of(digit: Option<u8>) -> u8
 }
 
 /// `infix [ digit ] vid ..` and `infixr [ digit ] vid ..`
-#[tactic(auto, unfolding(crate::specs::Bindings::infix_dec))]
+#[tactic(auto, using(crate::proofs::DecSteps::kept_steps), unfolding(crate::specs::Bindings::infix_dec))]
 pub(crate) fn infix_dec(
     alloc: Global,
     lexemes: &mut Lexemes<'_>,
@@ -199,7 +206,8 @@ pub(crate) fn infix_dec(
     place: At,
     right: bool,
 ) -> Result<Tall<FullDec>, Stop>
-    ensures { ReadsDec (infix_dec fixities.old place right) lexemes.old.rest.now result
+    ensures kept { OnOk result (take (length fixities.old) fixities.new ≡ fixities.old) }
+    ensures reads { ReadsDec (infix_dec fixities.old place right) lexemes.old.rest.now result
         fixities.new lexemes.new.rest.now }
 {
     let digit = digit(lexemes)?;
@@ -213,14 +221,15 @@ pub(crate) fn infix_dec(
 }
 
 /// `nonfix vid ..`
-#[tactic(auto, unfolding(crate::specs::Bindings::nonfix_dec))]
+#[tactic(auto, using(crate::proofs::DecSteps::kept_steps), unfolding(crate::specs::Bindings::nonfix_dec))]
 pub(crate) fn nonfix_dec(
     alloc: Global,
     lexemes: &mut Lexemes<'_>,
     fixities: &mut Fixities,
     place: At,
 ) -> Result<Tall<FullDec>, Stop>
-    ensures { ReadsDec (nonfix_dec fixities.old place) lexemes.old.rest.now result
+    ensures kept { OnOk result (take (length fixities.old) fixities.new ≡ fixities.old) }
+    ensures reads { ReadsDec (nonfix_dec fixities.old place) lexemes.old.rest.now result
         fixities.new lexemes.new.rest.now }
 {
     let found = names(alloc, lexemes)?;

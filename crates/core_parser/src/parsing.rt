@@ -1,11 +1,16 @@
 //! The public calls that read a phrase at a cursor.
 
-ghost use Rattle.std.specs.Prelude.{◌≡◌, ◌-◌, drop, length};
-ghost use Rattle.core_parser.specs.Cursors.{state, because, FailsBefore, Parses, ParsesHere, ReadsFrom, Settles};
+ghost use Rattle.std.specs.Prelude.{◌≡◌, ◌-◌, drop, length, take, OnOk};
+ghost use Rattle.core_parser.specs.Cursors.{state, because, FailsBefore, Parses, ParsesHere, ReadsFrom, Settles, ParsesDec, ParsesDecHere, ReadsDecFrom};
+ghost use Rattle.core_parser.specs.Levels.{exp, dec};
 ghost use Rattle.core_parser.specs.Patterns.{pat};
+ghost use Rattle.core_parser.specs.ReadsDec.{ReadsDec};
 ghost use Rattle.core_parser.specs.Types.{ty};
 
 use crate::cursor::Cursor;
+use crate::decs::dec;
+use crate::exp::exp;
+use crate::exp_starts::first_of_dec;
 use crate::failure::{Failure, failure_of, fault_of};
 use crate::fixity::Fixities;
 use crate::lexemes::Lexemes;
@@ -15,7 +20,7 @@ use crate::tall::Tall;
 use crate::types::ty;
 use cm_base::Fault;
 use sml_lexer::Lexeme;
-use sml_syntax::{FullPat, FullTy};
+use sml_syntax::{FullDec, FullExp, FullPat, FullTy};
 use std::alloc::Global;
 
 /// What was read from a place in lexemes on, and how many of these stand before the place behind it.
@@ -72,6 +77,63 @@ fn pat_from(
         rest: behind(all, taken),
     };
     let made = pat(alloc, &mut lexemes, fixities, levels);
+    Reading {
+        made,
+        taken: count_before(all, lexemes.rest),
+    }
+}
+
+/// An expression from a place on.
+fn exp_from(
+    alloc: Global,
+    all: &[Lexeme],
+    taken: usize,
+    fixities: &mut Fixities,
+    levels: u32,
+) -> Reading<FullExp>
+    ensures same { OnOk result.made (fixities.new ≡ fixities.old) }
+    ensures reads { ReadsFrom (exp levels fixities.old) all.now taken result }
+{
+    let mut lexemes = Lexemes {
+        rest: behind(all, taken),
+    };
+    let made = exp(alloc, &mut lexemes, fixities, levels);
+    Reading {
+        made,
+        taken: count_before(all, lexemes.rest),
+    }
+}
+
+/// One declaration.
+#[tactic(auto, unfolding(crate::specs::Levels::dec))]
+fn one_dec(
+    alloc: Global,
+    lexemes: &mut Lexemes<'_>,
+    fixities: &mut Fixities,
+    levels: u32,
+) -> Result<Tall<FullDec>, Stop>
+    ensures kept { OnOk result (take (length fixities.old) fixities.new ≡ fixities.old) }
+    ensures reads { ReadsDec (dec levels fixities.old) lexemes.old.rest.now result fixities.new lexemes.new.rest.now }
+{
+    let first = first_of_dec(lexemes)?;
+    dec(alloc, lexemes, fixities, levels, first)
+}
+
+/// One declaration from a place on.
+fn dec_from(
+    alloc: Global,
+    all: &[Lexeme],
+    taken: usize,
+    fixities: &mut Fixities,
+    levels: u32,
+) -> Reading<FullDec>
+    ensures kept { OnOk result.made (take (length fixities.old) fixities.new ≡ fixities.old) }
+    ensures reads { ReadsDecFrom (dec levels fixities.old) all.now taken result fixities.new }
+{
+    let mut lexemes = Lexemes {
+        rest: behind(all, taken),
+    };
+    let made = one_dec(alloc, &mut lexemes, fixities, levels);
     Reading {
         made,
         taken: count_before(all, lexemes.rest),
@@ -140,6 +202,37 @@ fn pat_here(at: &mut Cursor) -> Result<FullPat, Fault>
     settle(at, reading)
 }
 
+/// Reads an expression at a cursor that hasn't failed.
+fn exp_here(at: &mut Cursor) -> Result<FullExp, Fault>
+    ensures { ParsesHere (exp (128 - at.old.nest) at.old.fixities) (state at.old) result (state at.new) }
+{
+    let levels = at.levels();
+    let reading = exp_from(
+        at.alloc,
+        at.lexemes.as_slice(),
+        at.taken,
+        &mut at.fixities,
+        levels,
+    );
+    settle(at, reading)
+}
+
+/// Reads a declaration at a cursor that hasn't failed.
+fn dec_here(at: &mut Cursor) -> Result<FullDec, Fault>
+    ensures kept { OnOk result (take (length at.old.fixities) at.new.fixities ≡ at.old.fixities) }
+    ensures here { ParsesDecHere (dec (128 - at.old.nest) at.old.fixities) (state at.old) result (state at.new) }
+{
+    let levels = at.levels();
+    let reading = dec_from(
+        at.alloc,
+        at.lexemes.as_slice(),
+        at.taken,
+        &mut at.fixities,
+        levels,
+    );
+    settle(at, reading)
+}
+
 /// Reads a type: the longest run of lexemes at the cursor's place all of whose beginnings are fronts of a type. Where
 /// it isn't one, that is 20 at the lexeme behind it or at the last one, and where it nests more than 128 levels with
 /// those around it, 12. After a refusal the cursor has failed, and answers the same again.
@@ -159,5 +252,27 @@ pub fn parse_pat(at: &mut Cursor) -> Result<FullPat, Fault>
     match at.failed {
         Some(failure) => Err(fault_of(at.alloc, &at.file, failure)),
         None => pat_here(at),
+    }
+}
+
+/// Reads an expression, as `parse_pat` a pattern.
+pub fn parse_exp(at: &mut Cursor) -> Result<FullExp, Fault>
+    ensures { Parses exp (state at.old) result (state at.new) }
+{
+    match at.failed {
+        Some(failure) => Err(fault_of(at.alloc, &at.file, failure)),
+        None => exp_here(at),
+    }
+}
+
+/// Reads one declaration, as `parse_pat` a pattern. What it declares infix, or nonfix, is so from there on, behind all
+/// that was so before.
+pub fn parse_dec(at: &mut Cursor) -> Result<FullDec, Fault>
+    ensures kept { OnOk result (take (length at.old.fixities) at.new.fixities ≡ at.old.fixities) }
+    ensures parses { ParsesDec dec (state at.old) result (state at.new) }
+{
+    match at.failed {
+        Some(failure) => Err(fault_of(at.alloc, &at.file, failure)),
+        None => dec_here(at),
     }
 }

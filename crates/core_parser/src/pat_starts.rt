@@ -62,7 +62,7 @@ pub fn begin_pat<'a>(lexemes: &mut Lexemes<'a>, fixities: &Fixities) -> Result<&
 }
 
 /// Whether a run goes on with the lexeme.
-fn takes_up(fixities: &Fixities, takes: bool, ops: &[Fixity], lexeme: &Lexeme) -> bool
+pub fn takes_up(fixities: &Fixities, takes: bool, ops: &[Fixity], lexeme: &Lexeme) -> bool
     ensures { result ≡ going fixities.now takes ops.now lexeme.now }
 {
     (takes && starts_atpat(fixities, lexeme)) || joining(operator(fixities, lexeme), ops).is_some()

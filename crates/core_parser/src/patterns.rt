@@ -5,7 +5,7 @@ ghost use Rattle.grammars.specs.Grammar.{begins, head_or};
 ghost use Rattle.core_parser.specs.Reads.{Reads};
 ghost use Rattle.core_parser.specs.Fixities.{operator, joining};
 ghost use Rattle.core_parser.specs.Types.{ty};
-ghost use Rattle.core_parser.specs.Patterns.{pat, pat_level, starts_atpat, pat_after, atpat_after, operand_height, behind_operand, run_part, run_of, run_rest, run_on, by_operator, operand_behind, argument, going, goes_on, pat_behind_paren, operand_joined};
+ghost use Rattle.core_parser.specs.Patterns.{pat, pat_level, starts_atpat, pat_after, atpat_after, operand_height, behind_operand, run_part, run_of, run_rest, run_on, by_operator, operand_behind, argument, going, goes_on, pat_behind, pat_behind_paren, operand_joined};
 
 use crate::atpats::{atpat_after, in_parens};
 use crate::constraints::typed;
@@ -88,7 +88,7 @@ pub fn behind_operand(
 /// A run of several parts, of which the first was read.
 #[cycle(patterns)]
 #[tactic(auto, unfolding(crate::specs::Patterns::run_of, crate::specs::Patterns::run_rest))]
-fn run_of(
+pub fn run_of(
     alloc: Global,
     lexemes: &mut Lexemes<'_>,
     fixities: &Fixities,
@@ -285,6 +285,24 @@ pub fn operand_after(
         return Err(Stop::TooDeep);
     }
     atpat_after(alloc, lexemes, fixities, first, levels)
+}
+
+/// A pattern of at most so many levels, behind its first lexeme.
+#[tactic(auto, using(crate::proofs::PatSteps::pat_behind_steps))]
+pub fn pat_behind(
+    alloc: Global,
+    lexemes: &mut Lexemes<'_>,
+    fixities: &Fixities,
+    first: &Lexeme,
+    levels: u32,
+) -> Result<Tall<FullPat>, Stop>
+    ensures reads { Reads (pat_behind fixities.now levels first.now) lexemes.old.rest.now result lexemes.new.rest.now }
+    ensures low { IfOk result (λ made. made.height ≤ levels) }
+{
+    if levels == 0 {
+        return Err(Stop::TooDeep);
+    }
+    pat_after(alloc, lexemes, fixities, first, levels)
 }
 
 /// A pattern of at most so many levels, behind its opening parenthesis.

@@ -1,2 +1,5 @@
 pub mod BoundSteps
 pub mod SigSteps
+pub mod StrSteps
+pub mod TopSteps
+pub mod UnitLaws

@@ -4,3 +4,10 @@ pub mod Rounds
 pub mod Signatures
 pub mod Specifications
 pub mod SigLevels
+pub mod Structures
+pub mod StrLevels
+pub mod Functors
+pub mod Units
+pub mod Parsing
+pub mod Answers
+pub mod Laws

@@ -1,0 +1,137 @@
+-- Values (The Definition of Standard ML, section 2.8, appendix B), in the order of the printed grammar:
+--
+--     valbind = { "rec" } pat "=" exp
+--     fn_exp  = "fn" match | "(" fn_exp ")" { ":" ty }
+--
+-- From the first `rec` of a `val` on each right side is a `fn_exp`. A declaration is read behind its first word, which
+-- has its place. What stands in it is one level down, in `parts`. Behind `val (` a type variable begins a list of such,
+-- and anything else a pattern.
+use Rattle.std.specs.Prelude.{ℕ, zero, suc, ◌+◌, ◌-◌, ◌++◌, ◌==◌, ◌&&◌, ◌||◌, max, map, length, Bool, true, false, Option, None, Some, is_some, List, [], ◌∷◌, nat_lt, if◌then◌else◌, ℤ, pos, negsuc}
+use Rattle.grammars.specs.Grammar.{Grammar, expect, fold, ◌>>=◌, ◌>>◌}
+use Rattle.grammars.specs.Grammar.Grammar.{pure, refuse, on, many, within}
+use Rattle.cm_base.specs.Derived.{is_letter}
+use Rattle.sml_lexer.specs.declared.lexeme.Lexeme.{Lexeme}
+use Rattle.sml_lexer.specs.declared.lexeme.LexemeKind.{LexemeKind}
+use Rattle.sml_lexer.specs.declared.lexeme.LexemeKind.TheVariants as k
+use Rattle.sml_syntax.specs.declared.full_exp.FullDec.{FullDec}
+use Rattle.sml_syntax.specs.declared.full_exp.FullDec.TheVariants as d
+use Rattle.sml_syntax.specs.declared.full_exp.FullExp.{FullExp}
+use Rattle.sml_syntax.specs.declared.full_exp.FullExp.TheVariants as e
+use Rattle.sml_syntax.specs.declared.full_exp.FullValBind.{FullValBind, out-FullValBind, roll-FullValBind}
+use Rattle.sml_syntax.specs.declared.full_pat.Fixity.{Fixity}
+use Rattle.sml_syntax.specs.declared.full_pat.FullPat.{FullPat}
+use Rattle.sml_syntax.specs.declared.full_ty.FullConBind.{FullConBind}
+use Rattle.sml_syntax.specs.declared.full_ty.FullDatBind.{FullDatBind}
+use Rattle.sml_syntax.specs.declared.full_ty.FullExBind.{FullExBind}
+use Rattle.sml_syntax.specs.declared.full_ty.FullExBody.{FullExBody}
+use Rattle.sml_syntax.specs.declared.full_ty.FullExBody.TheVariants as body
+use Rattle.sml_syntax.specs.declared.full_ty.FullTy.{FullTy}
+use Rattle.sml_syntax.specs.declared.full_ty.FullTypBind.{FullTypBind}
+use Rattle.sml_syntax.specs.declared.full_ty.OpLong.{OpLong}
+use Rattle.sml_syntax.specs.declared.full_ty.OpName.{OpName}
+use Rattle.sml_syntax.specs.declared.name.At.{At}
+use Rattle.sml_syntax.specs.declared.name.LongName.{LongName}
+use Rattle.sml_syntax.specs.declared.name.Name.{Name}
+use Rattle.core_parser.specs.Expressions.{beginning, starts_pat, fn_of, constraints}
+use Rattle.core_parser.specs.Fixities.{Fixities, left_over}
+use Rattle.core_parser.specs.Level.{Decs, Level, opened}
+use Rattle.core_parser.specs.Sized.{leaf, over, part, one, more, further, maybe}
+use Rattle.core_parser.specs.Words.{g, is, word, word_of, name_of, long_of, tyvar_of, is_star_text, last_part, if_not, and_then, at, named, long_named, made, taken, name, tyvar, long, tycon, token}
+use Rattle.core_parser.specs.declared.fixity.Status.{Status}
+use Rattle.core_parser.specs.declared.tall.Tall.{Tall}
+use Rattle.core_parser.specs.declared.binds.Binds.{Binds}
+use Rattle.core_parser.specs.declared.words.Word.{Word}
+use Rattle.core_parser.specs.declared.words.Word.TheVariants as w
+use Rattle.core_parser.specs.Bindings.{either, if_mark, if_marked, if_taken, if_tyvar, tyvar_list}
+
+-- ---- values
+
+-- any number of `rec`, behind so many
+unfoldable pub recs_from : ℕ → g ℕ
+recs_from recs = many (λ _ x. is w.Rec x) (λ recs _. pure (recs + 1)) recs
+
+-- a right side: behind some `rec` a `fn_exp`
+abbrev pub right_side : Level → Fixities → ℕ → g (Tall FullExp)
+right_side parts fs recs = either (nat_lt 0 recs) (parts.fn_exp fs) (parts.exp fs)
+
+-- what a binding behind so many `rec` binds, from its `=` on
+unfoldable pub bound_exp : Level → Fixities → ℕ → g (Tall FullExp)
+bound_exp parts fs recs = do
+  token w.Equals
+  right_side parts fs recs
+
+-- a binding behind so many `rec`, from its `=` on; its pattern stands at that place
+unfoldable pub val_bind_of : Level → Fixities → ℕ → At → Tall FullPat → g (Tall FullValBind)
+val_bind_of parts fs recs place pat = do
+  exp ← bound_exp parts fs recs
+  pure (record {
+    tree = roll-FullValBind (record { recs = recs; pat = pat.tree; exp = exp.tree; at = place });
+    height = max pat.height exp.height;
+  })
+
+-- { rec } pat = exp, behind so many `rec`
+unfoldable pub val_bind : Level → Fixities → ℕ → g (Tall FullValBind)
+val_bind parts fs before = do
+  recs ← recs_from before
+  x ← beginning (starts_pat fs)
+  pat ← parts.pat_after fs x
+  val_bind_of parts fs recs (at x) pat
+
+-- the bindings and one more
+abbrev pub with_bind : Binds → Tall FullValBind → Binds
+with_bind binds next = record { found = more binds.found next; recs = (out-FullValBind next.tree).recs }
+
+-- further bindings, each behind an `and`; what stands behind a `rec` before still does
+unfoldable pub val_binds_from : Level → Fixities → Binds → g Binds
+val_binds_from parts fs binds =
+    many (λ _ x. is w.And x) (λ binds _. do
+      next ← val_bind parts fs binds.recs
+      pure (with_bind binds next)) binds
+
+-- a `val` behind its first binding
+unfoldable pub val_from : Level → Fixities → At → List Name → Tall FullValBind → g (Tall FullDec)
+val_from parts fs place vars first = do
+  binds ← val_binds_from parts fs (record { found = one first; recs = (out-FullValBind first.tree).recs })
+  pure (over (λ binds. d.Val vars binds place) binds.found)
+
+-- a `val` behind its type variables
+unfoldable pub val_of : Level → Fixities → At → List Name → g (Tall FullDec)
+val_of parts fs place vars = do
+  first ← val_bind parts fs 0
+  val_from parts fs place vars first
+
+-- a `val` behind a list of type variables but for its first
+unfoldable pub val_vars : Level → Fixities → At → Name → g (Tall FullDec)
+val_vars parts fs place var = do
+  vars ← tyvar_list var
+  val_of parts fs place vars
+
+-- a `val` behind the parenthesis x of its first pattern
+unfoldable pub val_pat : Level → Fixities → At → Lexeme → g (Tall FullDec)
+val_pat parts fs place x = do
+  pat ← parts.pat_after fs x
+  first ← val_bind_of parts fs 0 (at x) pat
+  val_from parts fs place [] first
+
+-- a `val` behind the parenthesis x: type variables, or the pattern that begins with it
+unfoldable pub val_parens : Level → Fixities → At → Lexeme → g (Tall FullDec)
+val_parens parts fs place x = if_tyvar (val_vars parts fs place) (val_pat parts fs place x)
+
+-- val tyvars valbind and ..
+unfoldable pub val_dec : Level → Fixities → At → g (Tall FullDec)
+val_dec parts fs place =
+    if_tyvar (λ var. val_of parts fs place (var ∷ []))
+    (if_marked w.Open (val_parens parts fs place) (val_of parts fs place []))
+
+-- the right side of a `rec`, in parentheses, behind the first of them
+unfoldable pub fn_parens : ℕ → Level → Fixities → At → g (Tall FullExp)
+fn_parens n parts fs place = do
+  inner ← parts.fn_exp fs
+  token w.Close
+  constraints n parts place (over (λ exp. e.Paren exp place) inner)
+
+-- the right side of a `rec`
+unfoldable pub fn_exp_of : ℕ → Level → Fixities → g (Tall FullExp)
+fn_exp_of n parts fs =
+    if_marked w.Fn (λ x. opened n (fn_of parts fs (at x)))
+    (if_marked w.Open (λ x. opened n (fn_parens n parts fs (at x))) refuse)

@@ -1,0 +1,12 @@
+//! The bindings of a `val`, while they are read.
+
+use crate::tall::Tall;
+use cm_base::List;
+use sml_syntax::FullValBind;
+
+/// The bindings that were read, and how many `rec` stand before the last of them.
+#[derive(Drop)]
+pub(crate) struct Binds {
+    pub found: Tall<List<FullValBind>>,
+    pub recs: u32,
+}

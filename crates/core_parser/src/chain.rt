@@ -1,0 +1,27 @@
+//! The chains of operands of expressions: which words join them.
+
+ghost use Rattle.std.specs.Prelude.{◌≡◌};
+ghost use Rattle.core_parser.specs.Expressions.{chain_word};
+
+use crate::words::Word;
+
+/// A chain of operands.
+#[derive(Clone, Copy, Debug, PartialEq, Eq)]
+pub enum Chain {
+    /// Operands with `andalso` between them.
+    Conjunction,
+    /// Conjunctions with `orelse` between them.
+    Disjunction,
+}
+
+impl Chain {
+    /// The word between the operands.
+    pub fn word(self) -> Word
+        ensures { result ≡ chain_word self }
+    {
+        match self {
+            Chain::Conjunction => Word::AndAlso,
+            Chain::Disjunction => Word::OrElse,
+        }
+    }
+}

@@ -1,0 +1,336 @@
+//! Structure expressions, read by recursive descent.
+
+ghost use Rattle.std.specs.Prelude.{◌≡◌, ◌-◌, ◌<◌, None, Some, true, false, OnOk, IfOk, MatchResult, drop, is_some, take, length};
+ghost use Rattle.std.specs.Option.{option_copied};
+ghost use Rattle.grammars.specs.Grammar.{begins, head_or};
+ghost use Rattle.core_parser.specs.Bindings.{strid_of};
+ghost use Rattle.core_parser.specs.Reads.{Reads};
+ghost use Rattle.core_parser.specs.Words.{is, at, made, named};
+ghost use Rattle.module_parser.specs.Joined.{module_name_of};
+ghost use Rattle.module_parser.specs.StrLevels.{str_level};
+ghost use Rattle.module_parser.specs.Structures.{starts_str, str, str_bind, struct_str, let_str, of_str, of_decs, argument, str_name, str_named, str_atom, str_within, next_str};
+
+use crate::joined::{Joined, alone, apart};
+use crate::names::module_name_of;
+use crate::seals::{maybe_seal, seals};
+use crate::str_decs::str_decs;
+use cm_base::{Boxed, List, Text};
+use core_parser::binders::single;
+use core_parser::fixity::Fixities;
+use core_parser::infix_decs::{is_strid, strid_of};
+use core_parser::lexemes::Lexemes;
+use core_parser::stop::Stop;
+use core_parser::tall::Tall;
+use core_parser::type_decs::above;
+use core_parser::{Word, lexeme};
+use sml_lexer::Lexeme;
+use sml_syntax::{At, FullStrBind, FullStrExp, LongName, Name};
+use std::alloc::Global;
+
+/// Whether a structure expression begins with the lexeme.
+fn starts_str(lexeme: &Lexeme) -> bool
+    ensures { result ≡ starts_str lexeme.now }
+{
+    lexeme::is(Word::Struct, lexeme) || (lexeme::is(Word::Let, lexeme) || is_strid(lexeme))
+}
+
+/// The next lexeme, if a structure expression begins with it.
+fn next_str<'a>(lexemes: &Lexemes<'a>) -> Option<&'a Lexeme>
+    ensures { option_copied result ≡ next_str (head_or lexemes.now.rest.now None) }
+{
+    match lexemes.peek() {
+        Some(next) if starts_str(next) => Some(next),
+        _ => None,
+    }
+}
+
+/// A structure expression of at most so many levels.
+#[cycle(strs)]
+#[tactic(auto, using(crate::proofs::StrSteps::str_steps))]
+pub fn str_exp(
+    alloc: Global,
+    lexemes: &mut Lexemes<'_>,
+    fixities: &mut Fixities,
+    levels: u32,
+) -> Result<Joined<FullStrExp>, Stop>
+    ensures same { OnOk result (fixities.new ≡ fixities.old) }
+    ensures reads { Reads (str (str_level levels) fixities.old) lexemes.old.rest.now result lexemes.new.rest.now }
+{
+    let Some(first) = next_str(lexemes) else {
+        return Err(Stop::Refused);
+    };
+    lexemes.take();
+    str_after(alloc, lexemes, fixities, levels, first)
+}
+
+/// A structure expression of at most so many levels, behind its first lexeme.
+#[cycle(strs)]
+#[tactic(auto, using(crate::proofs::StrSteps::after_steps))]
+fn str_after(
+    alloc: Global,
+    lexemes: &mut Lexemes<'_>,
+    fixities: &mut Fixities,
+    levels: u32,
+    first: &Lexeme,
+) -> Result<Joined<FullStrExp>, Stop>
+    ensures same { OnOk result (fixities.new ≡ fixities.old) }
+    ensures reads { Reads ((str_level levels).str_after fixities.old first.now) lexemes.old.rest.now
+        result lexemes.new.rest.now }
+{
+    if levels == 0 {
+        return Err(Stop::TooDeep);
+    }
+    str_within(alloc, lexemes, fixities, levels, first)
+}
+
+/// A structure expression behind its first lexeme, which opened one of its levels.
+#[cycle(strs)]
+#[tactic(auto, unfolding(crate::specs::Structures::str_within))]
+fn str_within(
+    alloc: Global,
+    lexemes: &mut Lexemes<'_>,
+    fixities: &mut Fixities,
+    levels: u32,
+    first: &Lexeme,
+) -> Result<Joined<FullStrExp>, Stop>
+    requires { 0 < levels }
+    ensures same { OnOk result (fixities.new ≡ fixities.old) }
+    ensures reads { Reads (str_within levels (str_level (levels - 1)) fixities.old first.now) lexemes.old.rest.now
+        result lexemes.new.rest.now }
+{
+    let atom = str_atom(alloc, lexemes, fixities, levels - 1, first)?;
+    seals(alloc, lexemes, levels, lexeme::at(first), apart(atom))
+}
+
+/// A structure expression without a signature behind it, behind its first lexeme.
+#[cycle(strs)]
+fn str_atom(
+    alloc: Global,
+    lexemes: &mut Lexemes<'_>,
+    fixities: &mut Fixities,
+    levels: u32,
+    first: &Lexeme,
+) -> Result<Tall<FullStrExp>, Stop>
+    ensures same { OnOk result (fixities.new ≡ fixities.old) }
+    ensures reads { Reads (str_atom (str_level levels) fixities.old first.now) lexemes.old.rest.now
+        result lexemes.new.rest.now }
+{
+    let place = lexeme::at(first);
+    if lexeme::is(Word::Struct, first) {
+        return struct_str(alloc, lexemes, fixities, levels, place);
+    }
+    if lexeme::is(Word::Let, first) {
+        return let_str(alloc, lexemes, fixities, levels, place);
+    }
+    match module_name_of(first)? {
+        Some(text) => short_named(alloc, lexemes, fixities, levels, first, text),
+        None => long_named(lexemes, first),
+    }
+}
+
+/// A structure of these parts, at a lexeme.
+fn str_name(first: &Lexeme, parts: List<Text>) -> Tall<FullStrExp>
+    ensures { result ≡ str_name first.now parts }
+{
+    let long = LongName {
+        parts,
+        line: first.line,
+        col: first.col,
+    };
+    Tall {
+        tree: FullStrExp::Named(long, lexeme::at(first)),
+        height: 1,
+    }
+}
+
+/// The structure that a lexeme names.
+fn long_named(lexemes: &Lexemes<'_>, first: &Lexeme) -> Result<Tall<FullStrExp>, Stop>
+    ensures { Reads (made (str_name first.now) (strid_of first.now)) lexemes.now.rest.now result
+        lexemes.now.rest.now }
+{
+    let Some(parts) = strid_of(first)? else {
+        return Err(Stop::Refused);
+    };
+    Ok(str_name(first, parts))
+}
+
+/// A name without structures before it: that of a functor where a parenthesis stands behind it, else of a structure.
+#[cycle(strs)]
+#[tactic(auto, using(core_parser::proofs::BindingSteps::mark_steps))]
+fn short_named(
+    alloc: Global,
+    lexemes: &mut Lexemes<'_>,
+    fixities: &mut Fixities,
+    levels: u32,
+    first: &Lexeme,
+    text: Text,
+) -> Result<Tall<FullStrExp>, Stop>
+    ensures same { OnOk result (fixities.new ≡ fixities.old) }
+    ensures reads { Reads (str_named (str_level levels) fixities.old first.now (Some text)) lexemes.old.rest.now
+        result lexemes.new.rest.now }
+{
+    if lexemes.sees(Word::Open) {
+        lexemes.take();
+        let name = Name {
+            text,
+            line: first.line,
+            col: first.col,
+        };
+        return argument(alloc, lexemes, fixities, levels, name, lexeme::at(first));
+    }
+    Ok(str_name(first, single(alloc, text)?))
+}
+
+/// A functor's argument, behind the parenthesis.
+#[cycle(strs)]
+#[tactic(auto, using(crate::proofs::StrSteps::argument_steps))]
+fn argument(
+    alloc: Global,
+    lexemes: &mut Lexemes<'_>,
+    fixities: &mut Fixities,
+    levels: u32,
+    name: Name,
+    place: At,
+) -> Result<Tall<FullStrExp>, Stop>
+    ensures same { OnOk result (fixities.new ≡ fixities.old) }
+    ensures reads { Reads (argument (str_level levels) fixities.old name place) lexemes.old.rest.now
+        result lexemes.new.rest.now }
+{
+    if let Some(first) = next_str(lexemes) {
+        lexemes.take();
+        return of_str(alloc, lexemes, fixities, levels, first, name, place);
+    }
+    of_decs(alloc, lexemes, fixities, levels, name, place)
+}
+
+/// `funid ( strexp )`, behind the first lexeme of the argument.
+#[cycle(strs)]
+#[tactic(auto, unfolding(crate::specs::Structures::of_str, crate::specs::Joined::alone))]
+fn of_str(
+    alloc: Global,
+    lexemes: &mut Lexemes<'_>,
+    fixities: &mut Fixities,
+    levels: u32,
+    first: &Lexeme,
+    name: Name,
+    place: At,
+) -> Result<Tall<FullStrExp>, Stop>
+    ensures same { OnOk result (fixities.new ≡ fixities.old) }
+    ensures reads { Reads (of_str ((str_level levels).str_after fixities.old first.now) name place)
+        lexemes.old.rest.now result lexemes.new.rest.now }
+{
+    let whole = str_after(alloc, lexemes, fixities, levels, first)?;
+    let found = alone(lexemes, whole)?;
+    lexemes.expect(Word::Close)?;
+    Ok(Tall {
+        height: above(found.height)?,
+        tree: FullStrExp::Functor(name, Boxed::new(alloc, found.tree)?, place),
+    })
+}
+
+/// `funid ( strdec )`, behind the parenthesis.
+#[cycle(strs)]
+#[tactic(auto, unfolding(crate::specs::Structures::of_decs))]
+fn of_decs(
+    alloc: Global,
+    lexemes: &mut Lexemes<'_>,
+    fixities: &mut Fixities,
+    levels: u32,
+    name: Name,
+    place: At,
+) -> Result<Tall<FullStrExp>, Stop>
+    ensures same { OnOk result (fixities.new ≡ fixities.old) }
+    ensures reads { Reads (of_decs (str_level levels) fixities.old name place) lexemes.old.rest.now
+        result lexemes.new.rest.now }
+{
+    let start = fixities.len();
+    let inner = str_decs(alloc, lexemes, fixities, levels)?;
+    lexemes.expect(Word::Close)?;
+    fixities.truncate(start);
+    Ok(Tall {
+        height: above(inner.height)?,
+        tree: FullStrExp::FunctorOfDecs(name, inner.tree, place),
+    })
+}
+
+/// `struct strdec end`, behind `struct`.
+#[cycle(strs)]
+#[tactic(auto, unfolding(crate::specs::Structures::struct_str))]
+fn struct_str(
+    alloc: Global,
+    lexemes: &mut Lexemes<'_>,
+    fixities: &mut Fixities,
+    levels: u32,
+    place: At,
+) -> Result<Tall<FullStrExp>, Stop>
+    ensures same { OnOk result (fixities.new ≡ fixities.old) }
+    ensures reads { Reads (struct_str (str_level levels) fixities.old place) lexemes.old.rest.now
+        result lexemes.new.rest.now }
+{
+    let start = fixities.len();
+    let inner = str_decs(alloc, lexemes, fixities, levels)?;
+    lexemes.expect(Word::End)?;
+    fixities.truncate(start);
+    Ok(Tall {
+        height: above(inner.height)?,
+        tree: FullStrExp::Struct(inner.tree, place),
+    })
+}
+
+/// `let strdec in strexp end`, behind `let`.
+#[cycle(strs)]
+#[tactic(auto, unfolding(crate::specs::Structures::let_str, crate::specs::Joined::alone))]
+fn let_str(
+    alloc: Global,
+    lexemes: &mut Lexemes<'_>,
+    fixities: &mut Fixities,
+    levels: u32,
+    place: At,
+) -> Result<Tall<FullStrExp>, Stop>
+    ensures same { OnOk result (fixities.new ≡ fixities.old) }
+    ensures reads { Reads (let_str (str_level levels) fixities.old place) lexemes.old.rest.now
+        result lexemes.new.rest.now }
+{
+    let start = fixities.len();
+    let inner = str_decs(alloc, lexemes, fixities, levels)?;
+    lexemes.expect(Word::In)?;
+    let whole = str_exp(alloc, lexemes, fixities, levels)?;
+    let body = alone(lexemes, whole)?;
+    lexemes.expect(Word::End)?;
+    fixities.truncate(start);
+    Ok(Tall {
+        height: above(inner.height.max(body.height))?,
+        tree: FullStrExp::Within(inner.tree, Boxed::new(alloc, body.tree)?, place),
+    })
+}
+
+/// `strid [ : sigexp | :> sigexp ] = strexp`, behind the name, over parts of so many levels.
+#[cycle(strs)]
+#[tactic(auto, unfolding(crate::specs::Structures::str_bind))]
+pub fn str_bind(
+    alloc: Global,
+    lexemes: &mut Lexemes<'_>,
+    fixities: &mut Fixities,
+    levels: u32,
+    name: Name,
+) -> Result<Joined<FullStrBind>, Stop>
+    ensures same { OnOk result (fixities.new ≡ fixities.old) }
+    ensures reads { Reads (str_bind levels (str_level levels) fixities.old name) lexemes.old.rest.now
+        result lexemes.new.rest.now }
+{
+    let seal = maybe_seal(alloc, lexemes, levels)?;
+    lexemes.expect(Word::Equals)?;
+    let Joined { made, joined } = str_exp(alloc, lexemes, fixities, levels)?;
+    let Tall { tree, height } = made;
+    Ok(Joined {
+        made: Tall {
+            tree: FullStrBind {
+                name,
+                seal: seal.tree,
+                body: tree,
+            },
+            height: seal.height.max(height),
+        },
+        joined,
+    })
+}
