@@ -1,5 +1,5 @@
 -- Cursors: places in lexemes, the mark of a scope, and what the public calls answer.
-use Rattle.std.proofs.Common.{◌≡◌, ℕ, zero, suc, ◌+◌, ◌-◌, ◌++◌, ◌<◌, ◌≤◌, ◌⊎◌, inl, inr, List, [], ◌∷◌, Option, Some, None, Result, Ok, Err, OnOk, refl, ap, sym, subst, ◌∙◌, drop, take, length, set, slice_index_or, length-append, slice_get, append_assoc, arith}
+use Rattle.std.proofs.Common.{◌≡◌, ℕ, zero, suc, ◌+◌, ◌-◌, ◌++◌, ◌<◌, ◌≤◌, inl, inr, List, [], ◌∷◌, Option, Some, None, Result, Ok, Err, OnOk, refl, ap, sym, subst, ◌∙◌, drop, take, length, set, slice_index_or, length-append, slice_get, append_assoc, arith}
 use Rattle.std.proofs.lemmas.List.{take-append-drop, drop_at, drop_all, drop-drop}
 use Rattle.cm_base.specs.declared.fault.Fault.{Fault}
 use Rattle.cm_base.specs.declared.fault.Fault.TheVariants as fault
@@ -10,19 +10,17 @@ use Rattle.grammars.proofs.Fronts.{place}
 use Rattle.sml_lexer.specs.declared.lexeme.Lexeme.{Lexeme}
 use Rattle.sml_syntax.specs.declared.full_exp.FullDec.{FullDec}
 use Rattle.core_parser.specs.Answers.{Answers, AnswersDec, LongestRun, Refuses, refusal, place_of}
-use Rattle.core_parser.specs.Bindings.{declares}
+use Rattle.core_phrases.specs.Bindings.{declares}
 use Rattle.core_parser.specs.Cursors.{CursorState, before, mark_last, marked, fault_of, failure_of, refused_before, refused_at, scoped, FailsBefore, FailsWith, Settles, ParsesHere, ParsesDecHere}
-use Rattle.core_parser.specs.Fixities.{Fixities}
-use Rattle.core_parser.specs.Level.{Decs}
-use Rattle.core_parser.specs.Reads.{Reads, Stops}
-use Rattle.core_parser.specs.ReadsDec.{ReadsDec}
-use Rattle.core_parser.specs.Words.{g}
+use Rattle.core_phrases.specs.Fixities.{Fixities}
+use Rattle.core_phrases.specs.Level.{Decs}
+use Rattle.core_phrases.specs.Reads.{Reads, Stops}
+use Rattle.core_phrases.specs.ReadsDec.{ReadsDec}
+use Rattle.core_phrases.specs.Words.{g}
 use Rattle.core_parser.specs.declared.cursor.Scope.{Scope}
-use Rattle.core_parser.specs.declared.failure.Failure.{Failure}
-use Rattle.core_parser.specs.declared.failure.Failure.TheVariants as why
-use Rattle.core_parser.specs.declared.stop.Stop.{Stop}
-use Rattle.core_parser.specs.declared.stop.Stop.TheVariants as stop
-use Rattle.core_parser.specs.declared.tall.Tall.{Tall}
+use Rattle.core_phrases.specs.declared.stop.Stop.{Stop}
+use Rattle.core_phrases.specs.declared.stop.Stop.TheVariants as stop
+use Rattle.core_phrases.specs.declared.tall.Tall.{Tall}
 
 -- ---- places
 

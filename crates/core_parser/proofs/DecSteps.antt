@@ -1,18 +1,17 @@
--- How declarations are read, a step at a time, and what they leave of infix status.
-use Rattle.std.proofs.Common.{◌≡◌, ℕ, zero, suc, ◌+◌, ◌-◌, ◌<◌, ◌≤◌, ◌∷◌, [], ◌++◌, List, Option, Some, None, Bool, true, false, refl, sym, ap, subst, ◌∙◌, take, drop, length, min, arith, nat_lt}
-use Rattle.std.proofs.lemmas.List.{length-take, take-take, take_at}
+-- How declarations are read, a step at a time.
+use Rattle.std.proofs.Common.{◌≡◌, ℕ, zero, suc, ◌-◌, ◌<◌, ◌∷◌, [], List, Some, None, Bool, true, false, refl, sym, ap, subst, ◌∙◌, drop, length, arith, nat_lt}
 use Rattle.std.proofs.lemmas.Bool.{lt-ltb}
 use Rattle.grammars.specs.Grammar.{Grammar, End, begins, head_or}
 use Rattle.grammars.specs.Reading.{Out, chain, read}
 use Rattle.grammars.proofs.Complete.{goes, stops}
 use Rattle.grammars.proofs.Rounds.{many_go, many_end, not_longer}
 use Rattle.sml_lexer.specs.declared.lexeme.Lexeme.{Lexeme}
-use Rattle.sml_syntax.specs.declared.name.At.{At}
-use Rattle.core_parser.specs.Declarations.{dec_of, dec_word, decs_of, decs_from, round, one_round, starts_round, next_round}
-use Rattle.core_parser.specs.Fixities.{Fixities, left_over}
-use Rattle.core_parser.specs.Level.{Decs, Level, opened}
+use Rattle.core_parser.specs.Declarations.{dec_word, decs_from, round, one_round, starts_round, next_round}
+use Rattle.core_phrases.specs.Fixities.{Fixities}
+use Rattle.core_phrases.specs.Level.{Decs, Level, opened}
 use Rattle.core_parser.specs.Levels.{level, below}
-use Rattle.core_parser.specs.Words.{g, word, at}
+use Rattle.core_phrases.specs.Words.{g, word, at}
+use Rattle.core_phrases.proofs.Kept.{kept_then}
 
 -- ---- levels
 
@@ -51,30 +50,6 @@ dec_deep zero fs x xs h = refl
 dec_deep (suc n) fs x xs h = absurd (cc)
 
 pub ruleset dec_steps = (dec_go, dec_deep)
-
--- ---- what declarations leave of infix status
-
--- what is declared behind others leaves those
-pub kept_more : (a more : Fixities) → take (length a) (a ++ more) ≡ a
-kept_more a more = take_at a more (length a) refl
-
-kept_length : (a b : Fixities) → take (length a) b ≡ a → length a ≤ length b
-kept_length a b h =
-    let e : min (length a) (length b) ≡ length a = sym (length-take (length a) b) ∙ ap length h in grind (arith, e)
-
--- what leaves what was left leaves it
-pub kept_then : (a b c : Fixities) → take (length a) b ≡ a → take (length b) c ≡ b → take (length a) c ≡ a
-kept_then a b c h k =
-    sym (take-take (length a) (length b) c (kept_length a b h)) ∙ ap (λ (l : Fixities). take (length a) l) k ∙ h
-
--- what a `local` leaves
-pub kept_over : (a b c : Fixities) → take (length a) b ≡ a → take (length b) c ≡ b
-    → take (length a) (left_over (length a) (length b) c) ≡ a
-kept_over a b c h k =
-    let same : take (length a) c ≡ a = kept_then a b c h k in
-    take_at (take (length a) c) (drop (length b - length a) (drop (length a) c)) (length a) (ap length same) ∙ same
-
-pub ruleset kept_steps = (kept_more, kept_then, kept_over)
 
 -- ---- sequences
 

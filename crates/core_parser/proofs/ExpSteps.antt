@@ -1,11 +1,11 @@
 -- How expressions are read, a step at a time: the equations that code is proved with.
-use Rattle.std.proofs.Common.{◌≡◌, ℕ, zero, suc, ◌+◌, ◌-◌, ◌<◌, ◌≤◌, List, [], ◌∷◌, Option, Some, None, Result, Ok, Err, Bool, true, false, refl, ap, sym, subst, ◌∙◌, drop, length, arith, add-one, nat_lt}
+use Rattle.std.proofs.Common.{◌≡◌, ℕ, ◌+◌, ◌-◌, ◌<◌, ◌≤◌, List, [], ◌∷◌, Option, Some, None, Result, Ok, Err, Bool, true, false, refl, ap, sym, subst, ◌∙◌, drop, length, arith, add-one, nat_lt}
 use Rattle.std.proofs.lemmas.Bool.{lt-ltb, le-ltb}
-use Rattle.grammars.specs.Grammar.{Grammar, End, begins, head_or}
-use Rattle.grammars.specs.Reading.{Out, Reader, chain as then, read}
+use Rattle.grammars.specs.Grammar.{End, begins, head_or}
+use Rattle.grammars.specs.Reading.{Out, chain as then, read}
 use Rattle.grammars.proofs.Complete.{goes, stops}
 use Rattle.grammars.proofs.Rounds.{many_go, many_end, not_longer}
-use Rattle.core_parser.proofs.Steps.{one_less}
+use Rattle.core_phrases.proofs.Steps.{one_less}
 use Rattle.sml_lexer.specs.declared.lexeme.Lexeme.{Lexeme}
 use Rattle.sml_syntax.specs.declared.full_exp.FullExp.{FullExp}
 use Rattle.sml_syntax.specs.declared.full_exp.FullExp.TheVariants as e
@@ -13,21 +13,20 @@ use Rattle.sml_syntax.specs.declared.full_exp.FullRule.{FullRule}
 use Rattle.sml_syntax.specs.declared.full_pat.Fixity.{Fixity}
 use Rattle.sml_syntax.specs.declared.full_ty.FullTy.{FullTy}
 use Rattle.sml_syntax.specs.declared.name.At.{At}
-use Rattle.core_parser.specs.Expressions.{starts_prefix, beginning, infix_name, record_fields, record_exp, several, tuple_exp, sequence_exp, paren_exp, parens_from, parens, bracket_items, bracket, atexp_after, atexp_of, goes_on, atom, behind_operator, with_operator, step_by, step_with, step, one_step, steps, whole_run, run_with, run_from, run_of, constraint, constraints, typed_of, rules_of, prefix_after, operand_by, operand_after, chain_word, link, side, beside, chained, handle_exp, handled}
-use Rattle.core_parser.specs.Fixities.{Fixities, fixity_of}
+use Rattle.core_parser.specs.Expressions.{starts_prefix, beginning, infix_name, record_fields, record_exp, tuple_exp, sequence_exp, paren_exp, parens_from, parens, bracket_items, bracket, atexp_after, atexp_of, goes_on, atom, behind_operator, with_operator, step_by, step_with, step, one_step, steps, whole_run, run_with, run_from, constraint, constraints, typed_of, rules_of, prefix_after, operand_by, operand_after, chain_word, link, side, beside, chained, handle_exp, handled}
+use Rattle.core_phrases.specs.Fixities.{Fixities, fixity_of}
 use Rattle.std.specs.Result.{IsErrAnd}
-use Rattle.core_parser.specs.Level.{Level}
-use Rattle.core_parser.specs.Reads.{Reads, Stops}
-use Rattle.core_parser.specs.declared.stop.Stop.{Stop}
-use Rattle.core_parser.specs.declared.stop.Stop.TheVariants as stop
-use Rattle.core_parser.specs.Levels.{no_level, below, level}
-use Rattle.core_parser.specs.Sized.{leaf, over, over_two, one, more}
-use Rattle.core_parser.specs.Words.{g, is, word, at, named, token}
+use Rattle.core_phrases.specs.Level.{Level}
+use Rattle.core_phrases.specs.Reads.{Reads, Stops}
+use Rattle.core_phrases.specs.declared.stop.Stop.{Stop}
+use Rattle.core_phrases.specs.declared.stop.Stop.TheVariants as stop
+use Rattle.core_parser.specs.Levels.{below, level}
+use Rattle.core_phrases.specs.Sized.{leaf, over_two, more}
+use Rattle.core_phrases.specs.Words.{g, is, word, named}
 use Rattle.core_parser.specs.declared.chain.Chain.{Chain}
 use Rattle.core_parser.specs.declared.run.Run.{Run}
-use Rattle.core_parser.specs.declared.tall.Tall.{Tall}
-use Rattle.core_parser.specs.declared.words.Word.{Word}
-use Rattle.core_parser.specs.declared.words.Word.TheVariants as w
+use Rattle.core_phrases.specs.declared.tall.Tall.{Tall}
+use Rattle.core_phrases.specs.declared.words.Word.TheVariants as w
 
 -- ---- levels
 

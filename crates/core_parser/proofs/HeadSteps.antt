@@ -1,29 +1,29 @@
 -- How heads of clauses are read, a step at a time.
-use Rattle.std.proofs.Common.{◌≡◌, ℕ, ◌+◌, ◌&&◌, ◌-◌, ◌∷◌, [], ◌<◌, ◌≤◌, max, List, Option, Some, None, Bool, true, false, refl, ap, sym, subst, ◌∙◌, drop, length, arith, nat_lt}
+use Rattle.std.proofs.Common.{◌≡◌, ℕ, ◌+◌, ◌&&◌, ◌-◌, ◌∷◌, [], ◌<◌, ◌≤◌, max, List, Some, None, Bool, true, false, refl, ap, sym, subst, ◌∙◌, drop, length, arith, nat_lt}
 use Rattle.std.proofs.lemmas.Bool.{lt-ltb}
 use Rattle.std.proofs.lemmas.Bool.Decides.{nat_tests}
 use Rattle.grammars.specs.Grammar.{Grammar, End, begins, head_or}
-use Rattle.grammars.specs.Reading.{Out, Reader, chain, read}
+use Rattle.grammars.specs.Reading.{Out, chain, read}
 use Rattle.grammars.proofs.Choices.{on_go, on_stop}
 use Rattle.grammars.proofs.Complete.{goes, stops}
 use Rattle.grammars.proofs.Rounds.{many_go, many_end, chain_pure, not_longer}
 use Rattle.sml_lexer.specs.declared.lexeme.Lexeme.{Lexeme}
 use Rattle.sml_syntax.specs.declared.full_pat.FullPat.{FullPat}
 use Rattle.sml_syntax.specs.declared.name.At.{At}
-use Rattle.core_parser.specs.Bindings.{either}
+use Rattle.core_phrases.specs.Bindings.{either}
 use Rattle.core_parser.specs.Clauses.{atom, argument, takes_more, arguments_from, ends_or_goes_on, too_high, behind_run, closed_head, pair_run, pair_behind, pair_pattern, is_named, parens_behind, parens_pattern}
 use Rattle.core_parser.specs.Expressions.{beginning}
-use Rattle.core_parser.specs.Patterns.{starts_atpat, operand_height, start, goes_on, whole_run, typed, run_step, run_part, run_of, run_from, run_rest, behind_operand, pat_level}
-use Rattle.core_parser.specs.Types.{ty}
-use Rattle.core_parser.specs.declared.operand.Run.{Run}
+use Rattle.core_phrases.specs.Patterns.{starts_atpat, operand_height, start, goes_on, whole_run, typed, run_step, run_part, run_of, run_from, run_rest, behind_operand, pat_level}
+use Rattle.core_phrases.specs.Types.{ty}
+use Rattle.core_phrases.specs.declared.operand.Run.{Run}
 use Rattle.core_parser.specs.declared.paren_head.Left.{Left}
 use Rattle.core_parser.specs.declared.paren_head.Pair.{Pair}
-use Rattle.core_parser.specs.Fixities.{Fixities}
-use Rattle.core_parser.proofs.Steps.{lower_go}
-use Rattle.core_parser.specs.Sized.{more, lower}
-use Rattle.core_parser.specs.Words.{g}
+use Rattle.core_phrases.specs.Fixities.{Fixities}
+use Rattle.core_phrases.proofs.Steps.{lower_go}
+use Rattle.core_phrases.specs.Sized.{more, lower}
+use Rattle.core_phrases.specs.Words.{g}
 use Rattle.core_parser.specs.declared.heads.Wanted.{Wanted}
-use Rattle.core_parser.specs.declared.tall.Tall.{Tall}
+use Rattle.core_phrases.specs.declared.tall.Tall.{Tall}
 
 both : (a b : Bool) → a && b ≡ true → b ≡ true
 both true b h = h

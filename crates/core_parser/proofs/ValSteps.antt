@@ -1,25 +1,24 @@
 -- How bindings of values are read, a step at a time.
-use Rattle.std.proofs.Common.{◌≡◌, ℕ, zero, suc, ◌+◌, ◌-◌, ◌<◌, ◌∷◌, [], List, Option, None, Some, Bool, true, false, refl, ap, ◌∙◌, ◌≤◌, drop, arith}
+use Rattle.std.proofs.Common.{◌≡◌, ℕ, zero, suc, ◌+◌, ◌-◌, ◌<◌, ◌∷◌, [], List, None, Some, Bool, true, false, refl, ap, ◌∙◌, ◌≤◌, drop, arith}
 use Rattle.std.proofs.lemmas.Bool.{lt-ltb}
-use Rattle.core_parser.specs.Bindings.{either, marked, if_marked}
+use Rattle.core_phrases.specs.Bindings.{either, marked, if_marked}
 use Rattle.core_parser.specs.Expressions.{fn_of}
 use Rattle.core_parser.specs.Levels.{below, level}
-use Rattle.core_parser.specs.declared.tall.Tall.{Tall}
-use Rattle.core_parser.proofs.BindingSteps.{marked_go, marked_stop}
+use Rattle.core_phrases.specs.declared.tall.Tall.{Tall}
+use Rattle.core_phrases.proofs.BindingSteps.{marked_go, marked_stop}
 use Rattle.core_parser.proofs.DecSteps.{opened_go, opened_deep, below_less}
 use Rattle.sml_syntax.specs.declared.full_exp.FullExp.{FullExp}
 use Rattle.grammars.specs.Grammar.{Grammar, End, begins, head_or}
 use Rattle.grammars.specs.Reading.{Out, chain, read}
 use Rattle.grammars.proofs.Rounds.{many_go, many_end, chain_pure, not_longer}
 use Rattle.sml_lexer.specs.declared.lexeme.Lexeme.{Lexeme}
-use Rattle.sml_syntax.specs.declared.full_exp.FullValBind.{FullValBind}
 use Rattle.core_parser.specs.Values.{fn_exp_of, fn_parens, right_side, recs_from, val_bind, val_binds_from, with_bind}
-use Rattle.core_parser.specs.Fixities.{Fixities}
-use Rattle.core_parser.specs.Level.{Level, opened}
-use Rattle.core_parser.specs.Words.{g, is, at}
+use Rattle.core_phrases.specs.Fixities.{Fixities}
+use Rattle.core_phrases.specs.Level.{Level, opened}
+use Rattle.core_phrases.specs.Words.{g, is, at}
 use Rattle.core_parser.specs.declared.binds.Binds.{Binds}
-use Rattle.core_parser.specs.declared.words.Word.TheVariants as w
-use Rattle.core_parser.proofs.Steps.{one_less}
+use Rattle.core_phrases.specs.declared.words.Word.TheVariants as w
+use Rattle.core_phrases.proofs.Steps.{one_less}
 
 pub recs_go : (recs : ℕ) (xs : List Lexeme) → begins (is w.Rec) (head_or xs None) ≡ true
     → read (recs_from recs) xs ≡ read (recs_from (recs + 1)) (drop 1 xs)

@@ -6,14 +6,14 @@ use Rattle.cm_base.specs.declared.diag.Place.{Place}
 use Rattle.cm_base.specs.declared.fault.Fault.{Fault}
 use Rattle.cm_base.specs.declared.fault.Fault.TheVariants as fault
 use Rattle.sml_lexer.specs.declared.lexeme.Lexeme.{Lexeme}
-use Rattle.grammars.specs.Grammar.{End, head_or, Ends, Phrase}
+use Rattle.grammars.specs.Grammar.{End, head_or, Ends}
 use Rattle.grammars.specs.Front.{FirstNoFront}
 use Rattle.sml_syntax.specs.declared.full_exp.FullDec.{FullDec}
-use Rattle.core_parser.specs.Bindings.{declares}
-use Rattle.core_parser.specs.Fixities.{Fixities}
-use Rattle.core_parser.specs.Level.{Decs}
-use Rattle.core_parser.specs.Words.{g}
-use Rattle.core_parser.specs.declared.tall.Tall.{Tall}
+use Rattle.core_phrases.specs.Bindings.{declares}
+use Rattle.core_phrases.specs.Fixities.{Fixities}
+use Rattle.core_phrases.specs.Level.{Decs}
+use Rattle.core_phrases.specs.Words.{g}
+use Rattle.core_phrases.specs.declared.tall.Tall.{Tall}
 
 -- the place of a lexeme, or the whole file where there is none
 abbrev pub place_of : List ℕ → Option Lexeme → Place

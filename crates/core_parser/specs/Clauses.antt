@@ -13,9 +13,9 @@
 -- pattern that itself stands before an infix name. What both may begin with, a pattern, an infix name, a pattern and
 -- the closing parenthesis, is read with the levels of the head, since it has more of them. Where it turns out to be
 -- part of a pattern, that lexeme opens the levels that are above it.
-use Rattle.std.specs.Prelude.{ℕ, zero, suc, ◌+◌, ◌-◌, ◌++◌, ◌==◌, ◌&&◌, ◌||◌, max, length, Bool, true, false, not, Option, None, Some, is_some, List, [], ◌∷◌, nat_lt, if◌then◌else◌}
+use Rattle.std.specs.Prelude.{ℕ, ◌+◌, ◌-◌, ◌==◌, ◌&&◌, ◌||◌, max, length, Bool, true, false, not, Option, None, Some, is_some, List, [], ◌∷◌, nat_lt, if◌then◌else◌}
 use Rattle.std.specs.Str.{bytes_eq}
-use Rattle.grammars.specs.Grammar.{Grammar, fold, ◌>>=◌, ◌>>◌}
+use Rattle.grammars.specs.Grammar.{◌>>=◌, ◌>>◌}
 use Rattle.grammars.specs.Grammar.Grammar.{pure, refuse, on, many, within}
 use Rattle.sml_lexer.specs.declared.lexeme.Lexeme.{Lexeme}
 use Rattle.sml_lexer.specs.declared.lexeme.LexemeKind.{LexemeKind}
@@ -23,36 +23,34 @@ use Rattle.sml_lexer.specs.declared.lexeme.LexemeKind.TheVariants as k
 use Rattle.sml_syntax.specs.declared.full_exp.FullClause.{FullClause, out-FullClause, roll-FullClause}
 use Rattle.sml_syntax.specs.declared.full_exp.FullDec.{FullDec}
 use Rattle.sml_syntax.specs.declared.full_exp.FullDec.TheVariants as d
-use Rattle.sml_syntax.specs.declared.full_exp.FullExp.{FullExp}
 use Rattle.sml_syntax.specs.declared.full_exp.FullFunBind.{FullFunBind, roll-FullFunBind}
 use Rattle.sml_syntax.specs.declared.full_exp.FullHead.{FullHead}
 use Rattle.sml_syntax.specs.declared.full_exp.FullHead.TheVariants as h
 use Rattle.sml_syntax.specs.declared.full_pat.Fixity.{Fixity}
 use Rattle.sml_syntax.specs.declared.full_pat.FullPat.{FullPat}
 use Rattle.sml_syntax.specs.declared.full_pat.FullPat.TheVariants as p
-use Rattle.sml_syntax.specs.declared.full_ty.OpLong.{OpLong}
 use Rattle.sml_syntax.specs.declared.full_ty.OpName.{OpName}
 use Rattle.sml_syntax.specs.declared.name.At.{At}
 use Rattle.sml_syntax.specs.declared.name.LongName.{LongName}
 use Rattle.sml_syntax.specs.declared.name.Name.{Name}
-use Rattle.core_parser.specs.Patterns.{starts_atpat, plain, operand_height, start, with_operand, goes_on, whole_run, typed, run_from, behind_operand, behind_first, simple, pat_level, pat}
-use Rattle.core_parser.specs.declared.operand.Operand.{Operand}
-use Rattle.core_parser.specs.declared.operand.Operand.TheVariants as o
-use Rattle.core_parser.specs.declared.operand.Run.{Run}
-use Rattle.core_parser.specs.Types.{ty}
-use Rattle.core_parser.specs.Bindings.{either, if_mark, if_marked, if_taken, if_tyvar, tyvar_list}
+use Rattle.core_phrases.specs.Patterns.{starts_atpat, plain, operand_height, start, with_operand, goes_on, whole_run, typed, run_from, behind_operand, behind_first, simple, pat_level, pat}
+use Rattle.core_phrases.specs.declared.operand.Operand.{Operand}
+use Rattle.core_phrases.specs.declared.operand.Operand.TheVariants as o
+use Rattle.core_phrases.specs.declared.operand.Run.{Run}
+use Rattle.core_phrases.specs.Types.{ty}
+use Rattle.core_phrases.specs.Bindings.{either, if_mark, if_marked, if_taken, if_tyvar, tyvar_list}
 use Rattle.core_parser.specs.Expressions.{beginning}
-use Rattle.core_parser.specs.Fixities.{Fixities, fixity_of, if_name}
-use Rattle.core_parser.specs.Level.{Level}
-use Rattle.core_parser.specs.Sized.{leaf, over, part, one, more, lower, further, maybe}
-use Rattle.core_parser.specs.Words.{g, is, word, word_of, only, name_of, long_of, and_then, at, named, long_named, taken, token}
-use Rattle.core_parser.specs.declared.tall.Tall.{Tall}
+use Rattle.core_phrases.specs.Fixities.{Fixities, fixity_of}
+use Rattle.core_phrases.specs.Level.{Level}
+use Rattle.core_phrases.specs.Sized.{leaf, over, part, one, more, lower, further, maybe}
+use Rattle.core_phrases.specs.Words.{g, is, word, word_of, only, name_of, long_of, and_then, at, named, long_named, taken, token}
+use Rattle.core_phrases.specs.declared.tall.Tall.{Tall}
 use Rattle.core_parser.specs.declared.paren_head.Left.{Left}
 use Rattle.core_parser.specs.declared.paren_head.Pair.{Pair}
 use Rattle.core_parser.specs.declared.heads.Wanted.{Wanted}
 use Rattle.core_parser.specs.declared.heads.Wanted.TheVariants as wanted
-use Rattle.core_parser.specs.declared.words.Word.{Word}
-use Rattle.core_parser.specs.declared.words.Word.TheVariants as w
+use Rattle.core_phrases.specs.declared.words.Word.{Word}
+use Rattle.core_phrases.specs.declared.words.Word.TheVariants as w
 
 -- ---- what the clauses before ask of a clause
 

@@ -8,19 +8,19 @@ use Rattle.cm_base.specs.declared.fault.Fault.TheVariants as fault
 use Rattle.sml_lexer.specs.declared.lexeme.Lexeme.{Lexeme}
 use Rattle.sml_syntax.specs.declared.full_exp.FullDec.{FullDec}
 use Rattle.core_parser.specs.Answers.{Answers, AnswersDec}
-use Rattle.core_parser.specs.Fixities.{Fixities, initial, left_over}
-use Rattle.core_parser.specs.Level.{Decs}
-use Rattle.core_parser.specs.Reads.{Reads}
-use Rattle.core_parser.specs.ReadsDec.{ReadsDec}
-use Rattle.core_parser.specs.Words.{g}
+use Rattle.core_phrases.specs.Fixities.{Fixities, initial, left_over}
+use Rattle.core_phrases.specs.Level.{Decs}
+use Rattle.core_phrases.specs.Reads.{Reads}
+use Rattle.core_phrases.specs.ReadsDec.{ReadsDec}
+use Rattle.core_phrases.specs.Words.{g}
 use Rattle.core_parser.specs.declared.cursor.Cursor.{Cursor}
 use Rattle.core_parser.specs.declared.failure.Failure.{Failure}
 use Rattle.core_parser.specs.declared.failure.Failure.TheVariants as why
 use Rattle.core_parser.specs.declared.cursor.Scope.{Scope}
 use Rattle.core_parser.specs.declared.parsing.Reading.{Reading}
-use Rattle.core_parser.specs.declared.stop.Stop.{Stop}
-use Rattle.core_parser.specs.declared.stop.Stop.TheVariants as stop
-use Rattle.core_parser.specs.declared.tall.Tall.{Tall}
+use Rattle.core_phrases.specs.declared.stop.Stop.{Stop}
+use Rattle.core_phrases.specs.declared.stop.Stop.TheVariants as stop
+use Rattle.core_phrases.specs.declared.tall.Tall.{Tall}
 
 -- a place in a source, with what is known there
 pub record CursorState : Type 0 where

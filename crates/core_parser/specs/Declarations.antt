@@ -14,25 +14,23 @@
 --
 -- A declaration is read behind its first word, which decides its form, has its place and opens its level. What stands
 -- in it is one level down, in `parts`.
-use Rattle.std.specs.Prelude.{ℕ, zero, suc, ◌+◌, ◌++◌, max, length, Bool, true, false, Option, None, Some, List, [], ◌∷◌}
-use Rattle.grammars.specs.Grammar.{Grammar, ◌>>=◌, ◌>>◌}
+use Rattle.std.specs.Prelude.{ℕ, zero, suc, ◌+◌, ◌++◌, max, length, Bool, true, false, Option, None, Some, []}
+use Rattle.grammars.specs.Grammar.{◌>>=◌, ◌>>◌}
 use Rattle.grammars.specs.Grammar.Grammar.{pure, refuse, on, many, within}
 use Rattle.sml_lexer.specs.declared.lexeme.Lexeme.{Lexeme}
 use Rattle.sml_syntax.specs.declared.full_exp.FullDec.{FullDec}
 use Rattle.sml_syntax.specs.declared.full_exp.FullDec.TheVariants as d
-use Rattle.sml_syntax.specs.declared.full_exp.FullExp.{FullExp}
-use Rattle.sml_syntax.specs.declared.full_exp.FullExp.TheVariants as e
 use Rattle.sml_syntax.specs.declared.name.At.{At}
 use Rattle.core_parser.specs.Values.{val_dec}
-use Rattle.core_parser.specs.Bindings.{type_dec, datatype_dec, exception_dec, open_dec, infix_dec, nonfix_dec, declares, either}
+use Rattle.core_phrases.specs.Bindings.{type_dec, datatype_dec, exception_dec, open_dec, infix_dec, nonfix_dec, declares, either}
 use Rattle.core_parser.specs.Clauses.{fun_dec}
-use Rattle.core_parser.specs.Fixities.{Fixities, left_over}
-use Rattle.core_parser.specs.Level.{Decs, Level}
-use Rattle.core_parser.specs.Types.{ty}
-use Rattle.core_parser.specs.Words.{g, is, word, at, token}
-use Rattle.core_parser.specs.declared.tall.Tall.{Tall}
-use Rattle.core_parser.specs.declared.words.Word.{Word}
-use Rattle.core_parser.specs.declared.words.Word.TheVariants as w
+use Rattle.core_phrases.specs.Fixities.{Fixities, left_over}
+use Rattle.core_phrases.specs.Level.{Decs, Level}
+use Rattle.core_phrases.specs.Types.{ty}
+use Rattle.core_phrases.specs.Words.{g, is, word, at, token}
+use Rattle.core_phrases.specs.declared.tall.Tall.{Tall}
+use Rattle.core_phrases.specs.declared.words.Word.{Word}
+use Rattle.core_phrases.specs.declared.words.Word.TheVariants as w
 
 -- local decs in decs end
 unfoldable pub local_dec : Level → Fixities → At → g Decs

@@ -21,34 +21,32 @@
 -- A phrase is read behind its first lexeme x, which decides its form and has its place. What stands in it is one level
 -- down, in `parts`; levels are opened as `Level` says. Operators stay in the order in which they are written.
 use Rattle.std.specs.Prelude.{ℕ, ◌+◌, ◌||◌, ◌++◌, max, Bool, true, false, not, Option, None, Some, is_some, List, [], ◌∷◌}
-use Rattle.grammars.specs.Grammar.{Grammar, expect, ◌>>=◌, ◌>>◌}
-use Rattle.grammars.specs.Grammar.Grammar.{pure, refuse, on, many, within}
+use Rattle.grammars.specs.Grammar.{expect, ◌>>=◌, ◌>>◌}
+use Rattle.grammars.specs.Grammar.Grammar.{pure, refuse, on, many}
 use Rattle.sml_lexer.specs.declared.lexeme.Lexeme.{Lexeme}
 use Rattle.sml_lexer.specs.declared.lexeme.LexemeKind.{LexemeKind}
 use Rattle.sml_lexer.specs.declared.lexeme.LexemeKind.TheVariants as k
 use Rattle.sml_syntax.specs.declared.full_exp.FullExp.{FullExp}
 use Rattle.sml_syntax.specs.declared.full_exp.FullExp.TheVariants as e
 use Rattle.sml_syntax.specs.declared.full_exp.FullExpField.{FullExpField, roll-FullExpField}
-use Rattle.sml_syntax.specs.declared.full_exp.FullExpItem.{FullExpItem}
 use Rattle.sml_syntax.specs.declared.full_exp.FullExpItem.TheVariants as item
 use Rattle.sml_syntax.specs.declared.full_exp.FullRule.{FullRule, roll-FullRule}
 use Rattle.sml_syntax.specs.declared.full_pat.Constant.TheVariants as c
 use Rattle.sml_syntax.specs.declared.full_pat.Fixity.{Fixity}
 use Rattle.sml_syntax.specs.declared.full_ty.FullTy.{FullTy}
-use Rattle.sml_syntax.specs.declared.full_ty.OpLong.{OpLong}
 use Rattle.sml_syntax.specs.declared.name.At.{At}
 use Rattle.sml_syntax.specs.declared.name.Name.{Name}
-use Rattle.core_parser.specs.Fixities.{Fixities, fixity_of, if_name, open_after, clash}
-use Rattle.core_parser.specs.Level.{Level, opened}
-use Rattle.core_parser.specs.Patterns.{starts_atpat}
-use Rattle.core_parser.specs.Sized.{leaf, over, over_two, part, one, more, lower, further}
-use Rattle.core_parser.specs.Words.{g, is, word, word_of, only, at, long_named, named, taken, label, token}
+use Rattle.core_phrases.specs.Fixities.{Fixities, fixity_of, if_name, open_after, clash}
+use Rattle.core_phrases.specs.Level.{Level, opened}
+use Rattle.core_phrases.specs.Patterns.{starts_atpat}
+use Rattle.core_phrases.specs.Sized.{leaf, over, over_two, part, one, more, lower, further}
+use Rattle.core_phrases.specs.Words.{g, is, word, word_of, only, at, long_named, named, taken, label, token}
 use Rattle.core_parser.specs.declared.chain.Chain.{Chain}
 use Rattle.core_parser.specs.declared.chain.Chain.TheVariants as chain
 use Rattle.core_parser.specs.declared.run.Run.{Run}
-use Rattle.core_parser.specs.declared.tall.Tall.{Tall}
-use Rattle.core_parser.specs.declared.words.Word.{Word}
-use Rattle.core_parser.specs.declared.words.Word.TheVariants as w
+use Rattle.core_phrases.specs.declared.tall.Tall.{Tall}
+use Rattle.core_phrases.specs.declared.words.Word.{Word}
+use Rattle.core_phrases.specs.declared.words.Word.TheVariants as w
 
 -- ---- first lexemes
 

@@ -5,13 +5,13 @@ use Rattle.grammars.specs.Grammar.Grammar.{refuse}
 use Rattle.sml_syntax.specs.declared.full_exp.FullExp.{FullExp}
 use Rattle.core_parser.specs.Expressions.{beginning, exp_of, conjunction_of, operand_of, atexp_of}
 use Rattle.core_parser.specs.Declarations.{starts_dec, decs_of, dec_of}
-use Rattle.core_parser.specs.Fixities.{Fixities}
-use Rattle.core_parser.specs.Level.{Decs, Level}
-use Rattle.core_parser.specs.Patterns.{pat_behind}
+use Rattle.core_phrases.specs.Fixities.{Fixities}
+use Rattle.core_phrases.specs.Level.{Decs, Level}
+use Rattle.core_phrases.specs.Patterns.{pat_behind}
 use Rattle.core_parser.specs.Values.{fn_exp_of}
-use Rattle.core_parser.specs.Types.{ty}
-use Rattle.core_parser.specs.Words.{g}
-use Rattle.core_parser.specs.declared.tall.Tall.{Tall}
+use Rattle.core_phrases.specs.Types.{ty}
+use Rattle.core_phrases.specs.Words.{g}
+use Rattle.core_phrases.specs.declared.tall.Tall.{Tall}
 
 -- all phrases with so many levels left
 abbrev pub level_of : ℕ → Level → Level

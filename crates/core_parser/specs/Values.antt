@@ -6,43 +6,27 @@
 -- From the first `rec` of a `val` on each right side is a `fn_exp`. A declaration is read behind its first word, which
 -- has its place. What stands in it is one level down, in `parts`. Behind `val (` a type variable begins a list of such,
 -- and anything else a pattern.
-use Rattle.std.specs.Prelude.{ℕ, zero, suc, ◌+◌, ◌-◌, ◌++◌, ◌==◌, ◌&&◌, ◌||◌, max, map, length, Bool, true, false, Option, None, Some, is_some, List, [], ◌∷◌, nat_lt, if◌then◌else◌, ℤ, pos, negsuc}
-use Rattle.grammars.specs.Grammar.{Grammar, expect, fold, ◌>>=◌, ◌>>◌}
-use Rattle.grammars.specs.Grammar.Grammar.{pure, refuse, on, many, within}
-use Rattle.cm_base.specs.Derived.{is_letter}
+use Rattle.std.specs.Prelude.{ℕ, ◌+◌, max, List, [], ◌∷◌, nat_lt}
+use Rattle.grammars.specs.Grammar.{◌>>=◌, ◌>>◌}
+use Rattle.grammars.specs.Grammar.Grammar.{pure, refuse, many}
 use Rattle.sml_lexer.specs.declared.lexeme.Lexeme.{Lexeme}
-use Rattle.sml_lexer.specs.declared.lexeme.LexemeKind.{LexemeKind}
-use Rattle.sml_lexer.specs.declared.lexeme.LexemeKind.TheVariants as k
 use Rattle.sml_syntax.specs.declared.full_exp.FullDec.{FullDec}
 use Rattle.sml_syntax.specs.declared.full_exp.FullDec.TheVariants as d
 use Rattle.sml_syntax.specs.declared.full_exp.FullExp.{FullExp}
 use Rattle.sml_syntax.specs.declared.full_exp.FullExp.TheVariants as e
 use Rattle.sml_syntax.specs.declared.full_exp.FullValBind.{FullValBind, out-FullValBind, roll-FullValBind}
-use Rattle.sml_syntax.specs.declared.full_pat.Fixity.{Fixity}
 use Rattle.sml_syntax.specs.declared.full_pat.FullPat.{FullPat}
-use Rattle.sml_syntax.specs.declared.full_ty.FullConBind.{FullConBind}
-use Rattle.sml_syntax.specs.declared.full_ty.FullDatBind.{FullDatBind}
-use Rattle.sml_syntax.specs.declared.full_ty.FullExBind.{FullExBind}
-use Rattle.sml_syntax.specs.declared.full_ty.FullExBody.{FullExBody}
-use Rattle.sml_syntax.specs.declared.full_ty.FullExBody.TheVariants as body
-use Rattle.sml_syntax.specs.declared.full_ty.FullTy.{FullTy}
-use Rattle.sml_syntax.specs.declared.full_ty.FullTypBind.{FullTypBind}
-use Rattle.sml_syntax.specs.declared.full_ty.OpLong.{OpLong}
-use Rattle.sml_syntax.specs.declared.full_ty.OpName.{OpName}
 use Rattle.sml_syntax.specs.declared.name.At.{At}
-use Rattle.sml_syntax.specs.declared.name.LongName.{LongName}
 use Rattle.sml_syntax.specs.declared.name.Name.{Name}
 use Rattle.core_parser.specs.Expressions.{beginning, starts_pat, fn_of, constraints}
-use Rattle.core_parser.specs.Fixities.{Fixities, left_over}
-use Rattle.core_parser.specs.Level.{Decs, Level, opened}
-use Rattle.core_parser.specs.Sized.{leaf, over, part, one, more, further, maybe}
-use Rattle.core_parser.specs.Words.{g, is, word, word_of, name_of, long_of, tyvar_of, is_star_text, last_part, if_not, and_then, at, named, long_named, made, taken, name, tyvar, long, tycon, token}
-use Rattle.core_parser.specs.declared.fixity.Status.{Status}
-use Rattle.core_parser.specs.declared.tall.Tall.{Tall}
+use Rattle.core_phrases.specs.Fixities.{Fixities}
+use Rattle.core_phrases.specs.Level.{Level, opened}
+use Rattle.core_phrases.specs.Sized.{over, one, more}
+use Rattle.core_phrases.specs.Words.{g, is, at, token}
+use Rattle.core_phrases.specs.declared.tall.Tall.{Tall}
 use Rattle.core_parser.specs.declared.binds.Binds.{Binds}
-use Rattle.core_parser.specs.declared.words.Word.{Word}
-use Rattle.core_parser.specs.declared.words.Word.TheVariants as w
-use Rattle.core_parser.specs.Bindings.{either, if_mark, if_marked, if_taken, if_tyvar, tyvar_list}
+use Rattle.core_phrases.specs.declared.words.Word.TheVariants as w
+use Rattle.core_phrases.specs.Bindings.{either, if_marked, if_tyvar, tyvar_list}
 
 -- ---- values
 

@@ -3,20 +3,20 @@
 ghost use Rattle.std.specs.Prelude.{◌≡◌, IfOk, OnOk, false};
 ghost use Rattle.core_parser.specs.Expressions.{atexp_after, atexp_word, op_exp, long_exp, record_exp, record_fields, field, fields, parens, parens_from, paren_exp, tuple_exp, sequence_exp, several, exps, exp_list, bracket, bracket_items, let_exp};
 ghost use Rattle.core_parser.specs.Levels.{level};
-ghost use Rattle.core_parser.specs.Reads.{Reads};
-ghost use Rattle.core_parser.specs.Words.{at};
+ghost use Rattle.core_phrases.specs.Reads.{Reads};
+ghost use Rattle.core_phrases.specs.Words.{at};
 
 use crate::decs::decs;
 use crate::exp::exp;
 use crate::exp_starts::op_parts;
-use crate::fixity::Fixities;
-use crate::lexeme::{at, copy_parts};
-use crate::lexemes::Lexemes;
 use crate::nodes::{above, in_parens, leaf};
-use crate::stop::Stop;
-use crate::tall::{Tall, both, more, one, two};
-use crate::words::Word;
 use cm_base::{List, NoMemory, Text};
+use core_phrases::fixity::Fixities;
+use core_phrases::lexeme::{at, copy_parts};
+use core_phrases::lexemes::Lexemes;
+use core_phrases::stop::Stop;
+use core_phrases::tall::{Tall, both, more, one, two};
+use core_phrases::words::Word;
 use sml_lexer::{Lexeme, LexemeKind};
 use sml_syntax::{At, Constant, FullExp, FullExpField, LongName, OpLong};
 use std::alloc::Global;
@@ -46,7 +46,7 @@ fn plain_name(lexeme: &Lexeme, parts: &List<Text>) -> Result<Tall<FullExp>, NoMe
 }
 
 /// `op longvid`, behind `op`.
-#[tactic(auto, using(crate::proofs::Steps::taken_steps), unfolding(crate::specs::Expressions::op_exp))]
+#[tactic(auto, using(core_phrases::proofs::Steps::taken_steps), unfolding(crate::specs::Expressions::op_exp))]
 fn op_exp(alloc: Global, lexemes: &mut Lexemes<'_>, at: At) -> Result<Tall<FullExp>, Stop>
     ensures { Reads (op_exp at) lexemes.old.rest.now result lexemes.new.rest.now }
 {
@@ -213,7 +213,7 @@ fn field(
 
 /// Further fields of a record.
 #[cycle(phrases)]
-#[tactic(auto, using(crate::proofs::Steps::further_steps))]
+#[tactic(auto, using(core_phrases::proofs::Steps::further_steps))]
 fn fields(
     alloc: Global,
     lexemes: &mut Lexemes<'_>,
@@ -365,7 +365,7 @@ fn several(
 
 /// Further expressions, each behind such a mark.
 #[cycle(phrases)]
-#[tactic(auto, using(crate::proofs::Steps::further_steps))]
+#[tactic(auto, using(core_phrases::proofs::Steps::further_steps))]
 fn exps(
     alloc: Global,
     lexemes: &mut Lexemes<'_>,

@@ -1,7 +1,7 @@
 //! The bindings of a `val`, while they are read.
 
-use crate::tall::Tall;
 use cm_base::List;
+use core_phrases::tall::Tall;
 use sml_syntax::FullValBind;
 
 /// The bindings that were read, and how many `rec` stand before the last of them.

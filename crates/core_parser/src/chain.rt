@@ -3,7 +3,7 @@
 ghost use Rattle.std.specs.Prelude.{◌≡◌};
 ghost use Rattle.core_parser.specs.Expressions.{chain_word};
 
-use crate::words::Word;
+use core_phrases::words::Word;
 
 /// A chain of operands.
 #[derive(Clone, Copy, Debug, PartialEq, Eq)]

@@ -6,8 +6,8 @@ ghost use Rattle.grammars.specs.Grammar.{head_or};
 ghost use Rattle.core_parser.specs.Cursors.{state, at_first, before, under, scoped, begun, mark_last, Closes};
 
 use crate::failure::Failure;
-use crate::fixity::Fixities;
 use cm_base::{List, NoMemory, Text};
+use core_phrases::fixity::Fixities;
 use sml_lexer::Lexeme;
 use std::alloc::Global;
 

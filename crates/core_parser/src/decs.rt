@@ -3,31 +3,31 @@
 ghost use Rattle.std.specs.Prelude.{◌≡◌, None, Some, OnOk, take, length};
 ghost use Rattle.std.specs.Option.{option_copied};
 ghost use Rattle.grammars.specs.Grammar.{begins, head_or};
-ghost use Rattle.core_parser.specs.DecReads.{ReadsDecs, declared};
-ghost use Rattle.core_parser.specs.ReadsDec.{ReadsDec};
+ghost use Rattle.core_phrases.specs.DecReads.{ReadsDecs, declared};
+ghost use Rattle.core_phrases.specs.ReadsDec.{ReadsDec};
 ghost use Rattle.core_parser.specs.Levels.{below, level};
 ghost use Rattle.core_parser.specs.Declarations.{local_dec, starts_dec_word, dec_word, is_round, starts_round, next_round, round, one_round};
 
-use crate::datatype_decs::datatype_dec;
-use crate::exception_decs::exception_dec;
-use crate::fixity::Fixities;
 use crate::fun_decs::fun_dec;
-use crate::infix_decs::{infix_dec, nonfix_dec, open_dec};
-use crate::lexeme;
-use crate::lexemes::Lexemes;
-use crate::stop::Stop;
-use crate::tall::{Tall, more};
-use crate::type_decs::{above, type_dec};
 use crate::val_decs::val_dec;
-use crate::words::Word;
 use cm_base::List;
+use core_phrases::datatype_decs::datatype_dec;
+use core_phrases::exception_decs::exception_dec;
+use core_phrases::fixity::Fixities;
+use core_phrases::infix_decs::{infix_dec, nonfix_dec, open_dec};
+use core_phrases::lexeme;
+use core_phrases::lexemes::Lexemes;
+use core_phrases::stop::Stop;
+use core_phrases::tall::{Tall, more};
+use core_phrases::type_decs::{above, type_dec};
+use core_phrases::words::Word;
 use sml_lexer::Lexeme;
 use sml_syntax::{At, FullDec};
 use std::alloc::Global;
 
 /// `local decs in decs end`
 #[cycle(phrases)]
-#[tactic(auto, using(crate::proofs::DecSteps::kept_steps), unfolding(crate::specs::Declarations::local_dec))]
+#[tactic(auto, using(core_phrases::proofs::Kept::kept_steps), unfolding(crate::specs::Declarations::local_dec))]
 fn local_dec(
     alloc: Global,
     lexemes: &mut Lexemes<'_>,
@@ -54,7 +54,7 @@ fn local_dec(
 
 /// A declaration behind its first word, over parts of so many levels.
 #[cycle(phrases)]
-#[tactic(auto, using(crate::proofs::DecSteps::kept_steps), unfolding(crate::specs::Declarations::plain))]
+#[tactic(auto, using(core_phrases::proofs::Kept::kept_steps), unfolding(crate::specs::Declarations::plain))]
 fn dec_word(
     alloc: Global,
     lexemes: &mut Lexemes<'_>,
@@ -150,7 +150,7 @@ pub fn starts_dec_word(word: Option<Word>) -> bool
 
 /// One more round, behind its lexeme.
 #[cycle(phrases)]
-#[tactic(auto, using(crate::proofs::DecSteps::kept_steps), unfolding(crate::specs::Declarations::next_dec))]
+#[tactic(auto, using(core_phrases::proofs::Kept::kept_steps), unfolding(crate::specs::Declarations::next_dec))]
 fn round(
     alloc: Global,
     lexemes: &mut Lexemes<'_>,

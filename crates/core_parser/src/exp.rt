@@ -3,22 +3,22 @@
 ghost use Rattle.std.specs.Prelude.{◌≡◌, OnOk};
 ghost use Rattle.core_parser.specs.Expressions.{disjunction_after, conjunction_after, operand_after, chained, beside, side, typed_of, handled, handle_exp, prefix_word, raise_exp, exp_behind, rules_behind, if_exp, while_exp, case_exp, fn_of, rules_of, more_rules, rule};
 ghost use Rattle.core_parser.specs.Levels.{below, level};
-ghost use Rattle.core_parser.specs.Reads.{Reads};
+ghost use Rattle.core_phrases.specs.Reads.{Reads};
 
 use crate::atexp::atexp;
 use crate::chain::Chain;
 use crate::exp_constraints::constraints;
 use crate::exp_starts::{first_of_exp, starts_prefix};
-use crate::fixity::Fixities;
-use crate::lexeme::{at, word};
-use crate::lexemes::Lexemes;
 use crate::nodes::{above, branched, cased, guarded, linked, raised, repeated};
 use crate::rule_pats::{first_of_pat, pat_after};
 use crate::run::run_from;
-use crate::stop::Stop;
-use crate::tall::{Tall, both, lower, more, one};
-use crate::words::Word;
 use cm_base::List;
+use core_phrases::fixity::Fixities;
+use core_phrases::lexeme::{at, word};
+use core_phrases::lexemes::Lexemes;
+use core_phrases::stop::Stop;
+use core_phrases::tall::{Tall, both, lower, more, one};
+use core_phrases::words::Word;
 use sml_lexer::Lexeme;
 use sml_syntax::{At, FullExp, FullRule};
 use std::alloc::Global;
@@ -456,7 +456,7 @@ pub fn rules(
 
 /// Further rules of a match.
 #[cycle(phrases)]
-#[tactic(auto, using(crate::proofs::Steps::further_steps))]
+#[tactic(auto, using(core_phrases::proofs::Steps::further_steps))]
 fn more_rules(
     alloc: Global,
     lexemes: &mut Lexemes<'_>,

@@ -3,14 +3,14 @@
 ghost use Rattle.std.specs.Prelude.{◌≡◌};
 ghost use Rattle.core_parser.specs.Expressions.{constraint, constraints};
 ghost use Rattle.core_parser.specs.Levels.{below};
-ghost use Rattle.core_parser.specs.Reads.{Reads};
+ghost use Rattle.core_phrases.specs.Reads.{Reads};
 
-use crate::lexemes::Lexemes;
 use crate::nodes::typed;
-use crate::stop::Stop;
-use crate::tall::{Tall, both, lower};
-use crate::types::ty;
-use crate::words::Word;
+use core_phrases::lexemes::Lexemes;
+use core_phrases::stop::Stop;
+use core_phrases::tall::{Tall, both, lower};
+use core_phrases::types::ty;
+use core_phrases::words::Word;
 use sml_syntax::{At, FullExp};
 use std::alloc::Global;
 

@@ -4,17 +4,17 @@ ghost use Rattle.std.specs.Prelude.{◌≡◌, None, Some, true, false, IfOk, Ma
 ghost use Rattle.std.specs.Option.{option_copied};
 ghost use Rattle.grammars.specs.Grammar.{End, begins, head_or};
 ghost use Rattle.grammars.specs.Reading.{Out, read};
-ghost use Rattle.core_parser.specs.Reads.{Stops};
+ghost use Rattle.core_phrases.specs.Reads.{Stops};
 ghost use Rattle.core_parser.specs.Declarations.{starts_dec};
 ghost use Rattle.core_parser.specs.Expressions.{beginning, starts_atexp_word, starts_atexp, starts_prefix, starts_exp, if_equals, alone, op_parts, infix_name, exp_operator, goes_on};
 
 use crate::decs::starts_dec_word;
-use crate::fixity::{Fixities, clash};
-use crate::lexeme::{copy_parts, word};
-use crate::lexemes::Lexemes;
-use crate::stop::Stop;
-use crate::words::Word;
 use cm_base::{List, NoMemory, Text};
+use core_phrases::fixity::{Fixities, clash};
+use core_phrases::lexeme::{copy_parts, word};
+use core_phrases::lexemes::Lexemes;
+use core_phrases::stop::Stop;
+use core_phrases::words::Word;
 use sml_lexer::{Lexeme, LexemeKind};
 use sml_syntax::Fixity;
 use std::alloc::Global;

@@ -4,8 +4,8 @@ ghost use Rattle.std.specs.Prelude.{◌≡◌, IfOk};
 ghost use Rattle.std.specs.Option.{option_copied};
 ghost use Rattle.core_parser.specs.Cursors.{fault_of, failure_of, refused, refused_before, refused_at, IsFault};
 
-use crate::stop::Stop;
 use cm_base::{Diag, Fault, List, NoMemory, Place, Text};
+use core_phrases::stop::Stop;
 use sml_lexer::Lexeme;
 use std::alloc::Global;
 

@@ -3,24 +3,24 @@
 ghost use Rattle.std.specs.Prelude.{◌≡◌, ◌∷◌, [], OnOk, MatchResult};
 ghost use Rattle.grammars.specs.Grammar.{End, expect};
 ghost use Rattle.grammars.specs.Reading.{Out, read};
-ghost use Rattle.core_parser.specs.Reads.{Reads, Stops};
+ghost use Rattle.core_phrases.specs.Reads.{Reads, Stops};
 ghost use Rattle.core_parser.specs.Levels.{level};
-ghost use Rattle.core_parser.specs.Sized.{further};
+ghost use Rattle.core_phrases.specs.Sized.{further};
 ghost use Rattle.core_parser.specs.Clauses.{starts_head, wanted_by, clause_of, clause, function_by, function_from, function_of, function, fun_from, fun_of, fun_vars, fun_head, fun_parens, fun_dec};
 
-use crate::binders::{marked, sees_tyvar, single, tyvar_list};
 use crate::exp::exp;
-use crate::fixity::Fixities;
 use crate::head::head_after;
 use crate::heads::{Wanted, first_of_head};
-use crate::lexeme;
-use crate::lexemes::Lexemes;
 use crate::paren_head::parens_head;
-use crate::stop::Stop;
-use crate::tall::{Tall, both, more, one};
-use crate::type_decs::{above, of_ty};
-use crate::words::Word;
 use cm_base::List;
+use core_phrases::binders::{marked, sees_tyvar, single, tyvar_list};
+use core_phrases::fixity::Fixities;
+use core_phrases::lexeme;
+use core_phrases::lexemes::Lexemes;
+use core_phrases::stop::Stop;
+use core_phrases::tall::{Tall, both, more, one};
+use core_phrases::type_decs::{above, of_ty};
+use core_phrases::words::Word;
 use sml_lexer::Lexeme;
 use sml_syntax::{At, FullClause, FullDec, FullFunBind, FullHead, Name};
 use std::alloc::Global;
@@ -75,7 +75,7 @@ fn clause(
 
 /// Further clauses, each behind a `|`.
 #[cycle(phrases)]
-#[tactic(auto, using(crate::proofs::Steps::further_steps))]
+#[tactic(auto, using(core_phrases::proofs::Steps::further_steps))]
 fn clauses(
     alloc: Global,
     lexemes: &mut Lexemes<'_>,
@@ -184,7 +184,7 @@ fn function(
 
 /// Further functions, each behind an `and`.
 #[cycle(phrases)]
-#[tactic(auto, using(crate::proofs::Steps::further_steps))]
+#[tactic(auto, using(core_phrases::proofs::Steps::further_steps))]
 fn functions(
     alloc: Global,
     lexemes: &mut Lexemes<'_>,
@@ -279,7 +279,7 @@ fn fun_head(
 
 /// A `fun` behind a parenthesis: type variables, or the head that begins with it.
 #[cycle(phrases)]
-#[tactic(auto, using(crate::proofs::BindingSteps::if_taken_steps), unfolding(crate::specs::Clauses::fun_parens, crate::specs::Clauses::fun_vars))]
+#[tactic(auto, using(core_phrases::proofs::BindingSteps::if_taken_steps), unfolding(crate::specs::Clauses::fun_parens, crate::specs::Clauses::fun_vars))]
 fn fun_parens(
     alloc: Global,
     lexemes: &mut Lexemes<'_>,
@@ -302,7 +302,7 @@ fn fun_parens(
 
 /// `fun tyvars function and ..`
 #[cycle(phrases)]
-#[tactic(auto, using(crate::proofs::BindingSteps::if_taken_steps, crate::proofs::BindingSteps::marked_steps), unfolding(crate::specs::Clauses::fun_dec))]
+#[tactic(auto, using(core_phrases::proofs::BindingSteps::if_taken_steps, core_phrases::proofs::BindingSteps::marked_steps), unfolding(crate::specs::Clauses::fun_dec))]
 pub(crate) fn fun_dec(
     alloc: Global,
     lexemes: &mut Lexemes<'_>,

@@ -4,22 +4,22 @@ ghost use Rattle.std.specs.Prelude.{◌≡◌, ◌+◌, IfOk, MatchResult, lengt
 ghost use Rattle.grammars.specs.Grammar.{End, begins, head_or};
 ghost use Rattle.grammars.specs.Reading.{Out, read};
 ghost use Rattle.core_parser.specs.Expressions.{beginning};
-ghost use Rattle.core_parser.specs.Patterns.{starts_atpat};
-ghost use Rattle.core_parser.specs.Reads.{Reads, Stops};
+ghost use Rattle.core_phrases.specs.Patterns.{starts_atpat};
+ghost use Rattle.core_phrases.specs.Reads.{Reads, Stops};
 ghost use Rattle.core_parser.specs.Clauses.{atom, argument, infix_head, infix_from, atom_head, takes_more, arguments_from, arguments, prefix_name, prefix_head, long_pat, long_head, short_head, named_head, op_head, head_word, head_after};
 
-use crate::fixity::Fixities;
 use crate::heads::{Wanted, bare, long_behind_op, sees_bare};
-use crate::lexeme;
-use crate::lexemes::Lexemes;
-use crate::operand::plain;
 use crate::paren_head::parens_head;
-use crate::pat_starts::starts_atpat;
-use crate::patterns::operand_after;
-use crate::stop::Stop;
-use crate::tall::{Tall, both, more};
-use crate::words::Word;
 use cm_base::{List, NoMemory, Text};
+use core_phrases::fixity::Fixities;
+use core_phrases::lexeme;
+use core_phrases::lexemes::Lexemes;
+use core_phrases::operand::plain;
+use core_phrases::pat_starts::starts_atpat;
+use core_phrases::patterns::operand_after;
+use core_phrases::stop::Stop;
+use core_phrases::tall::{Tall, both, more};
+use core_phrases::words::Word;
 use sml_lexer::{Lexeme, LexemeKind};
 use sml_syntax::{At, FullHead, FullPat, LongName, Name, OpLong, OpName};
 use std::alloc::Global;
@@ -262,7 +262,7 @@ fn long_head(
 }
 
 /// What begins with a name that may be the function's: an infix head, or one of the first form.
-#[tactic(auto, using(crate::proofs::BindingSteps::if_taken_steps), unfolding(crate::specs::Clauses::short_head))]
+#[tactic(auto, using(core_phrases::proofs::BindingSteps::if_taken_steps), unfolding(crate::specs::Clauses::short_head))]
 fn short_head(
     alloc: Global,
     lexemes: &mut Lexemes<'_>,

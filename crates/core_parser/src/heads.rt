@@ -4,16 +4,16 @@ ghost use Rattle.std.specs.Prelude.{◌≡◌, ◌+◌, IfOk, MatchResult, is_so
 ghost use Rattle.grammars.specs.Grammar.{End, begins, head_or};
 ghost use Rattle.grammars.specs.Reading.{Out, read};
 ghost use Rattle.core_parser.specs.Expressions.{beginning};
-ghost use Rattle.core_parser.specs.Reads.{Reads, Stops};
-ghost use Rattle.core_parser.specs.Words.{taken, named, long_named};
+ghost use Rattle.core_phrases.specs.Reads.{Reads, Stops};
+ghost use Rattle.core_phrases.specs.Words.{taken, named, long_named};
 ghost use Rattle.core_parser.specs.Clauses.{bare, may_be, may_go_on, may_end, may_be_infix, may_be_bare, wanted_by, if_infix, operator_in, bare_operator, if_prefix, prefix_name, if_head, behind_op, starts_head_kind, starts_head};
 
-use crate::fixity::Fixities;
-use crate::lexemes::Lexemes;
-use crate::pat_starts::starts_atpat;
-use crate::stop::Stop;
-use crate::words::Word;
 use cm_base::{List, NoMemory, Text};
+use core_phrases::fixity::Fixities;
+use core_phrases::lexemes::Lexemes;
+use core_phrases::pat_starts::starts_atpat;
+use core_phrases::stop::Stop;
+use core_phrases::words::Word;
 use sml_lexer::{Lexeme, LexemeKind};
 use sml_syntax::{FullHead, LongName, Name};
 
@@ -150,7 +150,7 @@ fn bare_operator(
 }
 
 /// Takes an infix name of which the clause may be.
-#[tactic(auto, using(crate::proofs::Steps::taken_steps))]
+#[tactic(auto, using(core_phrases::proofs::Steps::taken_steps))]
 pub(crate) fn operator(
     lexemes: &mut Lexemes<'_>,
     fixities: &Fixities,
@@ -174,7 +174,7 @@ pub(crate) fn operator(
 }
 
 /// Takes an infix name behind which the head may end with one more pattern.
-#[tactic(auto, using(crate::proofs::Steps::taken_steps))]
+#[tactic(auto, using(core_phrases::proofs::Steps::taken_steps))]
 pub(crate) fn bare(
     lexemes: &mut Lexemes<'_>,
     fixities: &Fixities,
@@ -215,7 +215,7 @@ fn behind_op(
 }
 
 /// Takes a name behind an `op` at the beginning of a head.
-#[tactic(auto, using(crate::proofs::Steps::taken_steps))]
+#[tactic(auto, using(core_phrases::proofs::Steps::taken_steps))]
 pub(crate) fn long_behind_op(
     lexemes: &mut Lexemes<'_>,
     fixities: &Fixities,

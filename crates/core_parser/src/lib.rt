@@ -1,50 +1,26 @@
-//! The core of Standard ML, read from its lexemes: types, patterns, expressions and declarations, as they are written.
+//! The core of Standard ML, read from its lexemes: expressions and declarations as they are written, and the public calls
+//! that read a phrase at a cursor.
 #![tactic(auto)]
 
 mod atexp;
-mod atpats;
-pub mod binders;
 mod binds;
 mod chain;
-mod constraints;
-mod constructors;
 mod cursor;
-pub mod datatype_decs;
 pub mod decs;
-mod exception_decs;
 pub mod exp;
 mod exp_constraints;
 mod exp_starts;
 mod failure;
-pub mod fixity;
-mod fixity_table;
 mod fun_decs;
 mod head;
 mod heads;
-pub mod infix_decs;
-mod laws;
-mod layers;
-pub mod lexeme;
-pub mod lexemes;
 mod nodes;
-mod operand;
 mod paren_head;
 mod parsing;
-mod pat_fields;
-mod pat_starts;
-pub mod patterns;
 mod rule_pats;
 mod run;
-mod starts;
-pub mod stop;
-pub mod tall;
-pub mod type_decs;
-pub mod types;
 mod val_decs;
-mod words;
 
 pub use cursor::{Cursor, Scope};
 pub use failure::Failure;
-pub use laws::operators_clash_by_rule;
 pub use parsing::{parse_dec, parse_exp, parse_pat, parse_ty};
-pub use words::Word;

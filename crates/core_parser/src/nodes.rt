@@ -1,13 +1,13 @@
 //! Nodes of expressions, with their heights.
 
 ghost use Rattle.std.specs.Prelude.{◌≡◌, ◌+◌, IfOk};
-ghost use Rattle.core_parser.specs.Sized.{leaf, over, over_two};
+ghost use Rattle.core_phrases.specs.Sized.{leaf, over, over_two};
 ghost use Rattle.core_parser.specs.Expressions.{branched, link};
 ghost use Rattle.sml_syntax.specs.declared.full_exp.FullExp.TheVariants as e;
 
 use crate::chain::Chain;
-use crate::tall::{Tall, boxed, boxed_first, boxed_three, boxed_two, one_above};
 use cm_base::{List, NoMemory};
+use core_phrases::tall::{Tall, boxed, boxed_first, boxed_three, boxed_two, one_above};
 use sml_syntax::{At, FullExp, FullRule, FullTy};
 use std::alloc::Global;
 

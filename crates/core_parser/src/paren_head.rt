@@ -2,28 +2,28 @@
 
 ghost use Rattle.std.specs.Prelude.{◌≡◌, ◌<◌, ◌≤◌, None, IfOk, MatchResult};
 ghost use Rattle.sml_syntax.specs.declared.full_pat.FullPat.TheVariants.{Paren};
-ghost use Rattle.core_parser.specs.Fixities.{fixity_of};
-ghost use Rattle.core_parser.specs.Reads.{Reads};
+ghost use Rattle.core_phrases.specs.Fixities.{fixity_of};
+ghost use Rattle.core_phrases.specs.Reads.{Reads};
 ghost use Rattle.grammars.specs.Grammar.{begins, head_or};
-ghost use Rattle.core_parser.specs.Sized.{over};
-ghost use Rattle.core_parser.specs.Patterns.{operand_height, start};
+ghost use Rattle.core_phrases.specs.Sized.{over};
+ghost use Rattle.core_phrases.specs.Patterns.{operand_height, start};
 ghost use Rattle.core_parser.specs.Clauses.{closes, ends_or_goes_on, too_high, closed_head, pair_run, pair_arguments, pair_left, pair_head, behind_run, pair_behind, pair_from, left_from, pair_of, is_named, parens_behind, parens_from, parens_some, unit_head, parens_head};
 
-use crate::atpats::behind_first;
-use crate::constraints::typed;
-use crate::fixity::Fixities;
 use crate::head::{arguments, first_of_atpat, infix_from, infix_head};
 use crate::heads::{Wanted, bare, operator, sees_bare, sees_operator};
-use crate::lexeme;
-use crate::lexemes::Lexemes;
-use crate::operand::{Operand, Run, plain, start, with_operand};
-use crate::pat_starts::{going, takes_up};
-use crate::patterns::{behind_operand, operand_after, run_of};
-use crate::stop::Stop;
-use crate::tall::{Tall, both, boxed, lower, one_above};
-use crate::type_decs::above;
-use crate::words::Word;
 use cm_base::NoMemory;
+use core_phrases::atpats::behind_first;
+use core_phrases::constraints::typed;
+use core_phrases::fixity::Fixities;
+use core_phrases::lexeme;
+use core_phrases::lexemes::Lexemes;
+use core_phrases::operand::{Operand, Run, plain, start, with_operand};
+use core_phrases::pat_starts::{going, takes_up};
+use core_phrases::patterns::{behind_operand, operand_after, run_of};
+use core_phrases::stop::Stop;
+use core_phrases::tall::{Tall, both, boxed, lower, one_above};
+use core_phrases::type_decs::above;
+use core_phrases::words::Word;
 use sml_syntax::{At, Fixity, FullHead, FullPat, Name};
 use std::alloc::Global;
 
@@ -176,7 +176,7 @@ fn pair_left(
 }
 
 /// Behind the parenthesis that closes an infix head: an infix name, or further arguments.
-#[tactic(auto, using(crate::proofs::BindingSteps::if_taken_steps), unfolding(crate::specs::Clauses::pair_head))]
+#[tactic(auto, using(core_phrases::proofs::BindingSteps::if_taken_steps), unfolding(crate::specs::Clauses::pair_head))]
 fn pair_head(
     alloc: Global,
     lexemes: &mut Lexemes<'_>,
@@ -245,7 +245,7 @@ fn pair_behind(
 }
 
 /// Behind both patterns: the closing parenthesis, or more of a pattern.
-#[tactic(auto, using(crate::proofs::BindingSteps::mark_steps), unfolding(crate::specs::Clauses::pair_from))]
+#[tactic(auto, using(core_phrases::proofs::BindingSteps::mark_steps), unfolding(crate::specs::Clauses::pair_from))]
 fn pair_from(
     alloc: Global,
     lexemes: &mut Lexemes<'_>,
@@ -375,7 +375,7 @@ fn parens_behind(
 }
 
 /// Behind a parenthesis and an atomic pattern: an infix name, or more of a pattern.
-#[tactic(auto, using(crate::proofs::BindingSteps::if_taken_steps), unfolding(crate::specs::Clauses::parens_from))]
+#[tactic(auto, using(core_phrases::proofs::BindingSteps::if_taken_steps), unfolding(crate::specs::Clauses::parens_from))]
 fn parens_from(
     alloc: Global,
     lexemes: &mut Lexemes<'_>,
@@ -441,7 +441,7 @@ fn unit_head(
 }
 
 /// A head behind the parenthesis that it begins with.
-#[tactic(auto, using(crate::proofs::BindingSteps::mark_steps), unfolding(crate::specs::Clauses::parens_head))]
+#[tactic(auto, using(core_phrases::proofs::BindingSteps::mark_steps), unfolding(crate::specs::Clauses::parens_head))]
 pub(crate) fn parens_head(
     alloc: Global,
     lexemes: &mut Lexemes<'_>,

@@ -2,17 +2,17 @@
 
 ghost use Rattle.std.specs.Prelude.{◌≡◌, IfOk, OnOk};
 ghost use Rattle.core_parser.specs.Levels.{below, level};
-ghost use Rattle.core_parser.specs.Reads.{Reads};
+ghost use Rattle.core_phrases.specs.Reads.{Reads};
 ghost use Rattle.core_parser.specs.Expressions.{run_of, with_atom, with_operator, run_exp, run_from, whole_run, steps, one_step, step, behind_operator, atom};
 
 use crate::atexp::atexp;
 use crate::exp_starts::{first_of_atexp, first_of_more, goes_on_next, infix_name, next_of_run};
-use crate::fixity::{Fixities, open_after};
-use crate::lexemes::Lexemes;
 use crate::nodes::above;
-use crate::stop::Stop;
-use crate::tall::{Tall, lower};
 use cm_base::{List, NoMemory};
+use core_phrases::fixity::{Fixities, open_after};
+use core_phrases::lexemes::Lexemes;
+use core_phrases::stop::Stop;
+use core_phrases::tall::{Tall, lower};
 use sml_lexer::Lexeme;
 use sml_syntax::{At, Fixity, FullExp, FullExpItem, Name};
 use std::alloc::Global;

@@ -2,27 +2,27 @@
 
 ghost use Rattle.std.specs.Prelude.{◌≡◌, ◌+◌, ◌-◌, ◌<◌, ◌∷◌, [], None, Some, OnOk, is_some, nat_lt, MatchResult};
 ghost use Rattle.grammars.specs.Grammar.{begins, head_or};
-ghost use Rattle.core_parser.specs.Reads.{Reads};
+ghost use Rattle.core_phrases.specs.Reads.{Reads};
 ghost use Rattle.core_parser.specs.Levels.{below, level};
-ghost use Rattle.core_parser.specs.Sized.{over};
+ghost use Rattle.core_phrases.specs.Sized.{over};
 ghost use Rattle.sml_syntax.specs.declared.full_exp.FullExp.TheVariants.{Paren};
-ghost use Rattle.core_parser.specs.Bindings.{marked};
+ghost use Rattle.core_phrases.specs.Bindings.{marked};
 ghost use Rattle.core_parser.specs.Values.{recs_from, right_side, bound_exp, val_bind_of, val_bind, with_bind, val_binds_from, val_from, val_of, val_vars, val_pat, val_parens, val_dec, fn_parens, fn_exp_of};
 
-use crate::binders::{marked, sees_tyvar, single, tyvar_list};
 use crate::binds::Binds;
 use crate::exp::{exp, fn_of};
 use crate::exp_constraints::constraints;
-use crate::fixity::Fixities;
-use crate::lexeme;
-use crate::lexemes::Lexemes;
 use crate::nodes::in_parens;
 use crate::rule_pats::{first_of_pat, pat_after};
-use crate::stop::Stop;
-use crate::tall::{Tall, both, more, one};
-use crate::type_decs::above;
-use crate::words::Word;
 use cm_base::List;
+use core_phrases::binders::{marked, sees_tyvar, single, tyvar_list};
+use core_phrases::fixity::Fixities;
+use core_phrases::lexeme;
+use core_phrases::lexemes::Lexemes;
+use core_phrases::stop::Stop;
+use core_phrases::tall::{Tall, both, more, one};
+use core_phrases::type_decs::above;
+use core_phrases::words::Word;
 use sml_lexer::Lexeme;
 use sml_syntax::{At, FullDec, FullExp, FullPat, FullValBind, Name};
 use std::alloc::Global;
@@ -244,7 +244,7 @@ fn val_pat(
 
 /// A `val` behind a parenthesis: type variables, or the pattern that begins with it.
 #[cycle(phrases)]
-#[tactic(auto, using(crate::proofs::BindingSteps::if_taken_steps), unfolding(crate::specs::Values::val_parens, crate::specs::Values::val_vars))]
+#[tactic(auto, using(core_phrases::proofs::BindingSteps::if_taken_steps), unfolding(crate::specs::Values::val_parens, crate::specs::Values::val_vars))]
 fn val_parens(
     alloc: Global,
     lexemes: &mut Lexemes<'_>,
@@ -267,7 +267,7 @@ fn val_parens(
 
 /// `val tyvars valbind and ..`
 #[cycle(phrases)]
-#[tactic(auto, using(crate::proofs::BindingSteps::if_taken_steps, crate::proofs::BindingSteps::marked_steps), unfolding(crate::specs::Values::val_dec))]
+#[tactic(auto, using(core_phrases::proofs::BindingSteps::if_taken_steps, core_phrases::proofs::BindingSteps::marked_steps), unfolding(crate::specs::Values::val_dec))]
 pub(crate) fn val_dec(
     alloc: Global,
     lexemes: &mut Lexemes<'_>,

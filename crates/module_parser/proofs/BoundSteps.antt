@@ -6,13 +6,13 @@ use Rattle.grammars.proofs.Complete.{goes, stops}
 use Rattle.grammars.proofs.Rounds.{many_go, many_end, not_longer}
 use Rattle.sml_lexer.specs.declared.lexeme.Lexeme.{Lexeme}
 use Rattle.sml_syntax.specs.declared.name.Name.{Name}
-use Rattle.core_parser.specs.Reads.{Stops}
-use Rattle.core_parser.specs.Words.{g, is, made, named}
-use Rattle.core_parser.specs.declared.stop.Stop.{Stop}
-use Rattle.core_parser.specs.declared.stop.Stop.TheVariants as stop
-use Rattle.core_parser.specs.declared.words.Word.TheVariants as w
-use Rattle.core_parser.proofs.BindingSteps.{if_taken_go, if_taken_stop, if_mark_go, if_mark_stop}
-use Rattle.core_parser.specs.Bindings.{if_taken, if_mark}
+use Rattle.core_phrases.specs.Reads.{Stops}
+use Rattle.core_phrases.specs.Words.{g, is, made, named}
+use Rattle.core_phrases.specs.declared.stop.Stop.{Stop}
+use Rattle.core_phrases.specs.declared.stop.Stop.TheVariants as stop
+use Rattle.core_phrases.specs.declared.words.Word.TheVariants as w
+use Rattle.core_phrases.proofs.BindingSteps.{if_taken_go, if_taken_stop, if_mark_go, if_mark_stop}
+use Rattle.core_phrases.specs.Bindings.{if_taken, if_mark}
 use Rattle.module_parser.specs.Bound.{next_name}
 use Rattle.module_parser.specs.Joined.{module_name_of, is_module_name, module_name, goes_on, next_name_after, next_binding, bindings_from, joined_more}
 use Rattle.module_parser.specs.declared.joined.Joined.{Joined}

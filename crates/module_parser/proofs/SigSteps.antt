@@ -14,17 +14,17 @@ use Rattle.sml_syntax.specs.declared.full_sig.FullSpec.{FullSpec}
 use Rattle.sml_syntax.specs.declared.full_sig.FullWhere.{FullWhere}
 use Rattle.sml_syntax.specs.declared.full_ty.FullTy.{FullTy}
 use Rattle.sml_syntax.specs.declared.name.At.{At}
-use Rattle.core_parser.specs.Bindings.{marked}
-use Rattle.core_parser.specs.Sized.{lower}
-use Rattle.core_parser.specs.Reads.{Stops}
-use Rattle.core_parser.specs.Words.{g, is, word, at}
-use Rattle.core_parser.specs.declared.stop.Stop.{Stop}
-use Rattle.core_parser.specs.declared.stop.Stop.TheVariants as stop
-use Rattle.core_parser.specs.declared.tall.Tall.{Tall}
-use Rattle.core_parser.specs.declared.words.Word.{Word}
-use Rattle.core_parser.specs.declared.words.Word.TheVariants as w
-use Rattle.core_parser.proofs.BindingSteps.{marked_go, marked_stop}
-use Rattle.core_parser.proofs.Steps.{lower_go, one_less}
+use Rattle.core_phrases.specs.Bindings.{marked}
+use Rattle.core_phrases.specs.Sized.{lower}
+use Rattle.core_phrases.specs.Reads.{Stops}
+use Rattle.core_phrases.specs.Words.{g, is, word, at}
+use Rattle.core_phrases.specs.declared.stop.Stop.{Stop}
+use Rattle.core_phrases.specs.declared.stop.Stop.TheVariants as stop
+use Rattle.core_phrases.specs.declared.tall.Tall.{Tall}
+use Rattle.core_phrases.specs.declared.words.Word.{Word}
+use Rattle.core_phrases.specs.declared.words.Word.TheVariants as w
+use Rattle.core_phrases.proofs.BindingSteps.{marked_go, marked_stop}
+use Rattle.core_phrases.proofs.Steps.{lower_go, one_less}
 use Rattle.module_parser.specs.Rounds.{next_begin, if_begins}
 use Rattle.module_parser.specs.SigLevels.{sig_level, sig_below}
 use Rattle.module_parser.specs.Signatures.{SigLevel, starts_sig, sig_behind, sig_within, goes_on_with, where_bind, where_type, where_types_from, one_type, and_type, wheres, where_behind}

@@ -10,20 +10,21 @@ use Rattle.sml_syntax.specs.declared.full_exp.FullStrExp.{FullStrExp}
 use Rattle.sml_syntax.specs.declared.full_sig.FullSigExp.{FullSigExp}
 use Rattle.sml_syntax.specs.declared.name.At.{At}
 use Rattle.sml_syntax.specs.declared.name.Name.{Name}
-use Rattle.core_parser.specs.Bindings.{if_marked, marked, flat}
+use Rattle.core_phrases.specs.Bindings.{if_marked, marked, flat}
 use Rattle.std.specs.Result.{IsErrAnd}
 use Rattle.sml_syntax.specs.declared.full_exp.FullDec.{FullDec}
-use Rattle.core_parser.specs.DecReads.{declared}
-use Rattle.core_parser.specs.declared.tall.Tall.{Tall}
-use Rattle.core_parser.specs.Fixities.{Fixities}
-use Rattle.core_parser.specs.Level.{Decs}
-use Rattle.core_parser.specs.Reads.{Stops}
-use Rattle.core_parser.specs.Words.{g, is, word}
-use Rattle.core_parser.specs.declared.stop.Stop.{Stop}
-use Rattle.core_parser.specs.declared.stop.Stop.TheVariants as stop
-use Rattle.core_parser.specs.declared.words.Word.TheVariants as w
-use Rattle.core_parser.proofs.BindingSteps.{marked_go, marked_stop}
-use Rattle.core_parser.proofs.DecSteps.{opened_go, opened_deep, kept_then}
+use Rattle.core_phrases.specs.DecReads.{declared}
+use Rattle.core_phrases.specs.declared.tall.Tall.{Tall}
+use Rattle.core_phrases.specs.Fixities.{Fixities}
+use Rattle.core_phrases.specs.Level.{Decs}
+use Rattle.core_phrases.specs.Reads.{Stops}
+use Rattle.core_phrases.specs.Words.{g, is, word}
+use Rattle.core_phrases.specs.declared.stop.Stop.{Stop}
+use Rattle.core_phrases.specs.declared.stop.Stop.TheVariants as stop
+use Rattle.core_phrases.specs.declared.words.Word.TheVariants as w
+use Rattle.core_phrases.proofs.BindingSteps.{marked_go, marked_stop}
+use Rattle.core_parser.proofs.DecSteps.{opened_go, opened_deep}
+use Rattle.core_phrases.proofs.Kept.{kept_then}
 use Rattle.module_parser.specs.Rounds.{next_begin}
 use Rattle.module_parser.specs.StrLevels.{str_level, str_below}
 use Rattle.module_parser.specs.Structures.{StrLevel, starts_str, if_str, next_str, str, seal_behind, maybe_seal, str_within, str_dec_of, str_dec_word, is_str_round, str_round, str_decs_from, of_str, of_decs, argument, seals_on, if_seal, next_seal, seals, seal_of}

@@ -10,12 +10,12 @@ use Rattle.sml_syntax.specs.declared.full_unit.FullParam.{FullParam}
 use Rattle.sml_syntax.specs.declared.full_unit.FullParam.TheVariants as param
 use Rattle.sml_syntax.specs.declared.full_unit.FullTopDec.{FullTopDec}
 use Rattle.sml_syntax.specs.declared.name.Name.{Name}
-use Rattle.core_parser.specs.Reads.{Stops}
-use Rattle.core_parser.specs.Sized.{part}
-use Rattle.core_parser.specs.Words.{is, word}
-use Rattle.core_parser.specs.declared.stop.Stop.{Stop}
-use Rattle.core_parser.specs.declared.tall.Tall.{Tall}
-use Rattle.core_parser.specs.declared.words.Word.TheVariants as w
+use Rattle.core_phrases.specs.Reads.{Stops}
+use Rattle.core_phrases.specs.Sized.{part}
+use Rattle.core_phrases.specs.Words.{is, word}
+use Rattle.core_phrases.specs.declared.stop.Stop.{Stop}
+use Rattle.core_phrases.specs.declared.tall.Tall.{Tall}
+use Rattle.core_phrases.specs.declared.words.Word.TheVariants as w
 use Rattle.module_parser.specs.Functors.{begin_at, specs_at, spec_param}
 use Rattle.module_parser.specs.Rounds.{next_begin, if_begins}
 use Rattle.module_parser.specs.SigLevels.{sig_level, sig_below}

@@ -16,11 +16,11 @@ use Rattle.sml_lexer.specs.declared.lexeme.Lexeme.{Lexeme}
 use Rattle.sml_syntax.specs.declared.full_unit.FullTopDec.{FullTopDec}
 use Rattle.sml_syntax.specs.declared.full_unit.FullUnit.{FullUnit}
 use Rattle.core_parser.specs.Answers.{LongestRun, refusal}
-use Rattle.core_parser.specs.Reads.{Stops}
-use Rattle.core_parser.specs.Words.{g}
-use Rattle.core_parser.specs.declared.stop.Stop.{Stop}
-use Rattle.core_parser.specs.declared.stop.Stop.TheVariants as stop
-use Rattle.core_parser.specs.declared.tall.Tall.{Tall}
+use Rattle.core_phrases.specs.Reads.{Stops}
+use Rattle.core_phrases.specs.Words.{g}
+use Rattle.core_phrases.specs.declared.stop.Stop.{Stop}
+use Rattle.core_phrases.specs.declared.stop.Stop.TheVariants as stop
+use Rattle.core_phrases.specs.declared.tall.Tall.{Tall}
 use Rattle.module_parser.specs.Answers.{AnswersLexemes, AnswersUnit, StopsWith}
 use Rattle.module_parser.specs.Laws.{OneUnit, UnitHasNoDiagnostic, OneDiagnostic, UnitsAreParsed, DiagnosticsAreParsed}
 use Rattle.module_parser.specs.Parsing.{parsed, parsed_lexemes, parsed_unit}

@@ -3,9 +3,9 @@ use Rattle.std.specs.Prelude.{Bool, true, false, Option, None, Some}
 use Rattle.grammars.specs.Grammar.{Grammar, ◌>>=◌, ◌>>◌}
 use Rattle.grammars.specs.Grammar.Grammar.{pure}
 use Rattle.sml_syntax.specs.declared.name.Name.{Name}
-use Rattle.core_parser.specs.Bindings.{if_mark, if_taken}
-use Rattle.core_parser.specs.Words.{g, named}
-use Rattle.core_parser.specs.declared.words.Word.TheVariants as w
+use Rattle.core_phrases.specs.Bindings.{if_mark, if_taken}
+use Rattle.core_phrases.specs.Words.{g, named}
+use Rattle.core_phrases.specs.declared.words.Word.TheVariants as w
 use Rattle.module_parser.specs.Joined.{module_name_of, module_name}
 
 -- the name of another binding, if one goes on, where the `and` before it was taken or not

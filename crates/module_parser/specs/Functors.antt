@@ -20,12 +20,12 @@ use Rattle.sml_syntax.specs.declared.full_unit.FullParam.{FullParam}
 use Rattle.sml_syntax.specs.declared.full_unit.FullParam.TheVariants as param
 use Rattle.sml_syntax.specs.declared.name.At.{At}
 use Rattle.sml_syntax.specs.declared.name.Name.{Name}
-use Rattle.core_parser.specs.Bindings.{if_taken}
-use Rattle.core_parser.specs.Fixities.{initial}
-use Rattle.core_parser.specs.Sized.{part}
-use Rattle.core_parser.specs.Words.{g, word, at, named, token}
-use Rattle.core_parser.specs.declared.tall.Tall.{Tall}
-use Rattle.core_parser.specs.declared.words.Word.TheVariants as w
+use Rattle.core_phrases.specs.Bindings.{if_taken}
+use Rattle.core_phrases.specs.Fixities.{initial}
+use Rattle.core_phrases.specs.Sized.{part}
+use Rattle.core_phrases.specs.Words.{g, word, at, named, token}
+use Rattle.core_phrases.specs.declared.tall.Tall.{Tall}
+use Rattle.core_phrases.specs.declared.words.Word.TheVariants as w
 use Rattle.module_parser.specs.Joined.{module_name_of, module_name, alone}
 use Rattle.module_parser.specs.SigLevels.{sig_level, sig_below}
 use Rattle.module_parser.specs.Specifications.{is_spec_round, spec_round, specs_from, no_specs}

@@ -9,11 +9,11 @@ use Rattle.grammars.specs.Grammar.{Grammar, ◌>>=◌, ◌>>◌}
 use Rattle.grammars.specs.Grammar.Grammar.{pure, refuse, on, many, within}
 use Rattle.sml_lexer.specs.declared.lexeme.Lexeme.{Lexeme}
 use Rattle.sml_syntax.specs.declared.name.Name.{Name}
-use Rattle.core_parser.specs.Bindings.{begins_with_letter, either}
-use Rattle.core_parser.specs.Sized.{part, over_two, one, more}
-use Rattle.core_parser.specs.Words.{g, is, name_of, and_then, named, made, taken}
-use Rattle.core_parser.specs.declared.tall.Tall.{Tall}
-use Rattle.core_parser.specs.declared.words.Word.TheVariants as w
+use Rattle.core_phrases.specs.Bindings.{begins_with_letter, either}
+use Rattle.core_phrases.specs.Sized.{part, over_two, one, more}
+use Rattle.core_phrases.specs.Words.{g, is, name_of, and_then, named, made, taken}
+use Rattle.core_phrases.specs.declared.tall.Tall.{Tall}
+use Rattle.core_phrases.specs.declared.words.Word.TheVariants as w
 use Rattle.module_parser.specs.declared.joined.Joined.{Joined}
 
 -- ---- names of structures, signatures and functors

@@ -11,7 +11,7 @@ use Rattle.sml_lexer.specs.declared.lexeme.Lexeme.{Lexeme}
 use Rattle.sml_syntax.specs.declared.full_unit.FullTopDec.{FullTopDec}
 use Rattle.sml_syntax.specs.declared.full_unit.FullUnit.{FullUnit}
 use Rattle.core_parser.specs.Answers.{refusal}
-use Rattle.core_parser.specs.declared.tall.Tall.{Tall}
+use Rattle.core_phrases.specs.declared.tall.Tall.{Tall}
 use Rattle.module_parser.specs.Units.{topdecs, top_refusal}
 
 -- What the reading of all lexemes of a file gives: a unit where none is left behind it; 21 or 20 at one that stands

@@ -1,8 +1,8 @@
 -- The lexeme that begins one more round of a sequence, by its word.
 use Rattle.std.specs.Prelude.{Bool, true, false, Option, None, Some}
 use Rattle.sml_lexer.specs.declared.lexeme.Lexeme.{Lexeme}
-use Rattle.core_parser.specs.Words.{word}
-use Rattle.core_parser.specs.declared.words.Word.{Word}
+use Rattle.core_phrases.specs.Words.{word}
+use Rattle.core_phrases.specs.declared.words.Word.{Word}
 
 abbrev pub if_begins : Bool → Lexeme → Option Lexeme
 if_begins true x = Some x

@@ -17,14 +17,14 @@ use Rattle.sml_syntax.specs.declared.full_sig.FullWhere.{FullWhere}
 use Rattle.sml_syntax.specs.declared.full_ty.FullTy.{FullTy}
 use Rattle.sml_syntax.specs.declared.name.At.{At}
 use Rattle.sml_syntax.specs.declared.name.Name.{Name}
-use Rattle.core_parser.specs.Bindings.{either, if_marked, tyvars}
-use Rattle.core_parser.specs.Level.{opened}
-use Rattle.core_parser.specs.Sized.{leaf, over, part, one, more, lower}
-use Rattle.core_parser.specs.Types.{ty}
-use Rattle.core_parser.specs.Words.{g, is, at, named, made, tycon, token}
-use Rattle.core_parser.specs.declared.tall.Tall.{Tall}
-use Rattle.core_parser.specs.declared.words.Word.{Word}
-use Rattle.core_parser.specs.declared.words.Word.TheVariants as w
+use Rattle.core_phrases.specs.Bindings.{either, if_marked, tyvars}
+use Rattle.core_phrases.specs.Level.{opened}
+use Rattle.core_phrases.specs.Sized.{leaf, over, part, one, more, lower}
+use Rattle.core_phrases.specs.Types.{ty}
+use Rattle.core_phrases.specs.Words.{g, is, at, named, made, tycon, token}
+use Rattle.core_phrases.specs.declared.tall.Tall.{Tall}
+use Rattle.core_phrases.specs.declared.words.Word.{Word}
+use Rattle.core_phrases.specs.declared.words.Word.TheVariants as w
 use Rattle.module_parser.specs.Joined.{module_name_of, is_module_name, apart, joined_part, joined_over}
 use Rattle.module_parser.specs.declared.joined.Joined.{Joined}
 

@@ -31,14 +31,14 @@ use Rattle.sml_syntax.specs.declared.full_ty.FullValDesc.{FullValDesc}
 use Rattle.sml_syntax.specs.declared.name.At.{At}
 use Rattle.sml_syntax.specs.declared.name.Name.{Name}
 use Rattle.sml_syntax.specs.declared.ty.TypDesc.{TypDesc}
-use Rattle.core_parser.specs.Bindings.{either, if_mark, if_taken, taken_from, tyvars, short_tycon, replication, has_none, name_with}
-use Rattle.core_parser.specs.Level.{opened}
-use Rattle.core_parser.specs.Sized.{leaf, over, part, one, more, further, maybe}
-use Rattle.core_parser.specs.Types.{ty}
-use Rattle.core_parser.specs.Words.{g, is, word, at, named, name, tycon, token}
-use Rattle.core_parser.specs.declared.tall.Tall.{Tall}
-use Rattle.core_parser.specs.declared.words.Word.{Word}
-use Rattle.core_parser.specs.declared.words.Word.TheVariants as w
+use Rattle.core_phrases.specs.Bindings.{either, if_mark, if_taken, taken_from, tyvars, short_tycon, replication, has_none, name_with}
+use Rattle.core_phrases.specs.Level.{opened}
+use Rattle.core_phrases.specs.Sized.{leaf, over, part, one, more, further, maybe}
+use Rattle.core_phrases.specs.Types.{ty}
+use Rattle.core_phrases.specs.Words.{g, is, word, at, named, name, tycon, token}
+use Rattle.core_phrases.specs.declared.tall.Tall.{Tall}
+use Rattle.core_phrases.specs.declared.words.Word.{Word}
+use Rattle.core_phrases.specs.declared.words.Word.TheVariants as w
 use Rattle.module_parser.specs.Joined.{module_name_of, alone, bindings}
 use Rattle.module_parser.specs.Signatures.{SigLevel, where_behind, wheres, sig_bind}
 

@@ -30,16 +30,16 @@ use Rattle.sml_syntax.specs.declared.full_sig.FullSeal.{FullSeal}
 use Rattle.sml_syntax.specs.declared.full_sig.FullSigExp.{FullSigExp}
 use Rattle.sml_syntax.specs.declared.name.At.{At}
 use Rattle.sml_syntax.specs.declared.name.Name.{Name}
-use Rattle.core_parser.specs.Bindings.{either, if_mark, if_marked, declares, flat, strid_of}
+use Rattle.core_phrases.specs.Bindings.{either, if_mark, if_marked, declares, flat, strid_of}
 use Rattle.core_parser.specs.Declarations.{plain, starts_dec_word, with_dec}
-use Rattle.core_parser.specs.Fixities.{Fixities, left_over}
-use Rattle.core_parser.specs.Level.{Decs, opened}
+use Rattle.core_phrases.specs.Fixities.{Fixities, left_over}
+use Rattle.core_phrases.specs.Level.{Decs, opened}
 use Rattle.core_parser.specs.Levels.{level}
-use Rattle.core_parser.specs.Sized.{leaf, over, part, lower}
-use Rattle.core_parser.specs.Words.{g, is, word, at, named, long_named, made, token}
-use Rattle.core_parser.specs.declared.tall.Tall.{Tall}
-use Rattle.core_parser.specs.declared.words.Word.{Word}
-use Rattle.core_parser.specs.declared.words.Word.TheVariants as w
+use Rattle.core_phrases.specs.Sized.{leaf, over, part, lower}
+use Rattle.core_phrases.specs.Words.{g, is, word, at, named, long_named, made, token}
+use Rattle.core_phrases.specs.declared.tall.Tall.{Tall}
+use Rattle.core_phrases.specs.declared.words.Word.{Word}
+use Rattle.core_phrases.specs.declared.words.Word.TheVariants as w
 use Rattle.module_parser.specs.Joined.{module_name_of, apart, alone, joined_over, bindings}
 use Rattle.module_parser.specs.SigLevels.{sig_level}
 use Rattle.module_parser.specs.declared.joined.Joined.{Joined}

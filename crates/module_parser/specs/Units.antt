@@ -24,12 +24,12 @@ use Rattle.sml_syntax.specs.declared.full_unit.FullUnit.{FullUnit}
 use Rattle.sml_syntax.specs.declared.name.At.{At}
 use Rattle.core_parser.specs.Answers.{LongestRun, place_of, refusal}
 use Rattle.core_parser.specs.Declarations.{starts_dec_word}
-use Rattle.core_parser.specs.Fixities.{initial}
-use Rattle.core_parser.specs.Sized.{over, more}
-use Rattle.core_parser.specs.Words.{g, is, word, at}
-use Rattle.core_parser.specs.declared.tall.Tall.{Tall}
-use Rattle.core_parser.specs.declared.words.Word.{Word}
-use Rattle.core_parser.specs.declared.words.Word.TheVariants as w
+use Rattle.core_phrases.specs.Fixities.{initial}
+use Rattle.core_phrases.specs.Sized.{over, more}
+use Rattle.core_phrases.specs.Words.{g, is, word, at}
+use Rattle.core_phrases.specs.declared.tall.Tall.{Tall}
+use Rattle.core_phrases.specs.declared.words.Word.{Word}
+use Rattle.core_phrases.specs.declared.words.Word.TheVariants as w
 use Rattle.module_parser.specs.Functors.{fun_bind, funsig_bind}
 use Rattle.module_parser.specs.Joined.{bindings}
 use Rattle.module_parser.specs.SigLevels.{sig_level}

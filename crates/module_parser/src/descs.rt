@@ -1,21 +1,21 @@
 //! Specifications of values, types, datatypes and exceptions.
 
 ghost use Rattle.std.specs.Prelude.{◌≡◌, None, Some, true, false};
-ghost use Rattle.core_parser.specs.Bindings.{has_none, name_with};
-ghost use Rattle.core_parser.specs.Reads.{Reads};
-ghost use Rattle.core_parser.specs.Sized.{further, part};
-ghost use Rattle.core_parser.specs.Types.{ty};
+ghost use Rattle.core_phrases.specs.Bindings.{has_none, name_with};
+ghost use Rattle.core_phrases.specs.Reads.{Reads};
+ghost use Rattle.core_phrases.specs.Sized.{further, part};
+ghost use Rattle.core_phrases.specs.Types.{ty};
 ghost use Rattle.module_parser.specs.Specifications.{val_desc, val_spec, typ_desc, type_spec, eq_desc, eqtype_spec, con_desc, dat_desc_of, dat_desc, datatype_descs, replication_spec, datatype_from, datatype_spec, exception_spec};
 
 use cm_base::List;
-use core_parser::Word;
-use core_parser::binders::{short_tycon, tyvars};
-use core_parser::datatype_decs::has_none;
-use core_parser::lexemes::Lexemes;
-use core_parser::stop::Stop;
-use core_parser::tall::{Tall, more, one};
-use core_parser::type_decs::{above, of_ty};
-use core_parser::types::ty;
+use core_phrases::Word;
+use core_phrases::binders::{short_tycon, tyvars};
+use core_phrases::datatype_decs::has_none;
+use core_phrases::lexemes::Lexemes;
+use core_phrases::stop::Stop;
+use core_phrases::tall::{Tall, more, one};
+use core_phrases::type_decs::{above, of_ty};
+use core_phrases::types::ty;
 use sml_syntax::{
     At, FullConBind, FullDatBind, FullSpec, FullTypDesc, FullValDesc, Name, OpName, TypDesc,
 };
@@ -43,7 +43,7 @@ fn val_desc(
 }
 
 /// Further values, each behind an `and`.
-#[tactic(auto, using(core_parser::proofs::Steps::further_steps))]
+#[tactic(auto, using(core_phrases::proofs::Steps::further_steps))]
 fn val_descs(
     alloc: Global,
     lexemes: &mut Lexemes<'_>,
@@ -103,7 +103,7 @@ fn typ_desc(
 }
 
 /// Further types, each behind an `and`.
-#[tactic(auto, using(core_parser::proofs::Steps::further_steps))]
+#[tactic(auto, using(core_phrases::proofs::Steps::further_steps))]
 fn typ_descs(
     alloc: Global,
     lexemes: &mut Lexemes<'_>,
@@ -154,7 +154,7 @@ fn eq_desc(alloc: Global, lexemes: &mut Lexemes<'_>) -> Result<Tall<TypDesc>, St
 }
 
 /// Further types that admit equality, each behind an `and`.
-#[tactic(auto, using(core_parser::proofs::Steps::further_steps))]
+#[tactic(auto, using(core_phrases::proofs::Steps::further_steps))]
 fn eq_descs(
     alloc: Global,
     lexemes: &mut Lexemes<'_>,
@@ -189,7 +189,7 @@ pub fn eqtype_spec(
 }
 
 /// `vid [ of ty ]`
-#[tactic(auto, unfolding(crate::specs::Specifications::con_desc, core_parser::specs::Bindings::name_with))]
+#[tactic(auto, unfolding(crate::specs::Specifications::con_desc, core_phrases::specs::Bindings::name_with))]
 fn con_desc(
     alloc: Global,
     lexemes: &mut Lexemes<'_>,
@@ -209,7 +209,7 @@ fn con_desc(
 }
 
 /// Further constructors, each behind this mark.
-#[tactic(auto, using(core_parser::proofs::Steps::further_steps))]
+#[tactic(auto, using(core_phrases::proofs::Steps::further_steps))]
 fn con_descs(
     alloc: Global,
     lexemes: &mut Lexemes<'_>,
@@ -268,7 +268,7 @@ fn dat_desc(
 }
 
 /// Further datatypes, each behind an `and`.
-#[tactic(auto, using(core_parser::proofs::Steps::further_steps))]
+#[tactic(auto, using(core_phrases::proofs::Steps::further_steps))]
 fn dat_descs(
     alloc: Global,
     lexemes: &mut Lexemes<'_>,
@@ -324,7 +324,7 @@ fn replication_spec(
 }
 
 /// Behind the first `=`: without type variables it may be another datatype.
-#[tactic(auto, using(core_parser::proofs::BindingSteps::mark_steps), unfolding(crate::specs::Specifications::datatype_from))]
+#[tactic(auto, using(core_phrases::proofs::BindingSteps::mark_steps), unfolding(crate::specs::Specifications::datatype_from))]
 fn datatype_from(
     alloc: Global,
     lexemes: &mut Lexemes<'_>,

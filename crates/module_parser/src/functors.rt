@@ -2,9 +2,9 @@
 
 ghost use Rattle.std.specs.Prelude.{◌≡◌, None, Some, IfOk};
 ghost use Rattle.grammars.specs.Grammar.{head_or};
-ghost use Rattle.core_parser.specs.Fixities.{initial};
-ghost use Rattle.core_parser.specs.Reads.{Reads};
-ghost use Rattle.core_parser.specs.Words.{named};
+ghost use Rattle.core_phrases.specs.Fixities.{initial};
+ghost use Rattle.core_phrases.specs.Reads.{Reads};
+ghost use Rattle.core_phrases.specs.Words.{named};
 ghost use Rattle.module_parser.specs.Functors.{begin_at, named_param, specs_at, spec_param, functor_param, fun_bind, funsig_bind};
 ghost use Rattle.module_parser.specs.Joined.{bindings, bindings_from};
 ghost use Rattle.module_parser.specs.Rounds.{next_begin};
@@ -19,11 +19,11 @@ use crate::seals::maybe_seal;
 use crate::sig_exps::{sig, specs};
 use crate::str_exps::str_exp;
 use cm_base::List;
-use core_parser::fixity::Fixities;
-use core_parser::lexemes::Lexemes;
-use core_parser::stop::Stop;
-use core_parser::tall::Tall;
-use core_parser::{Word, lexeme};
+use core_phrases::fixity::Fixities;
+use core_phrases::lexemes::Lexemes;
+use core_phrases::stop::Stop;
+use core_phrases::tall::Tall;
+use core_phrases::{Word, lexeme};
 use sml_syntax::{At, FullFunctorBind, FullFunsigBind, FullParam, FullStrExp, Name};
 use std::alloc::Global;
 
@@ -78,7 +78,7 @@ fn spec_param(
 }
 
 /// What a functor takes.
-#[tactic(auto, using(core_parser::proofs::BindingSteps::if_taken_steps), unfolding(crate::specs::Functors::functor_param))]
+#[tactic(auto, using(core_phrases::proofs::BindingSteps::if_taken_steps), unfolding(crate::specs::Functors::functor_param))]
 fn functor_param(
     alloc: Global,
     lexemes: &mut Lexemes<'_>,

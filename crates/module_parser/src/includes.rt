@@ -1,9 +1,9 @@
 //! `include` with names of signatures.
 
 ghost use Rattle.std.specs.Prelude.{◌≡◌, ◌∷◌, [], IfOk};
-ghost use Rattle.core_parser.specs.Bindings.{taken_from};
-ghost use Rattle.core_parser.specs.Words.{named};
-ghost use Rattle.core_parser.specs.Reads.{Reads};
+ghost use Rattle.core_phrases.specs.Bindings.{taken_from};
+ghost use Rattle.core_phrases.specs.Words.{named};
+ghost use Rattle.core_phrases.specs.Reads.{Reads};
 ghost use Rattle.module_parser.specs.Joined.{module_name_of};
 ghost use Rattle.module_parser.specs.Specifications.{include_names, include_where, include_one, include_from, named_sig};
 
@@ -11,12 +11,12 @@ use crate::joined::{Joined, alone, apart};
 use crate::names::{module_name, module_names_from, sees_module_name};
 use crate::wheres::{where_behind, wheres};
 use cm_base::{Boxed, List, NoMemory};
-use core_parser::Word;
-use core_parser::binders::single;
-use core_parser::lexemes::Lexemes;
-use core_parser::stop::Stop;
-use core_parser::tall::Tall;
-use core_parser::type_decs::above;
+use core_phrases::Word;
+use core_phrases::binders::single;
+use core_phrases::lexemes::Lexemes;
+use core_phrases::stop::Stop;
+use core_phrases::tall::Tall;
+use core_phrases::type_decs::above;
 use sml_syntax::{At, FullSigExp, FullSpec, Name};
 use std::alloc::Global;
 
@@ -65,7 +65,7 @@ fn include_where(
 }
 
 /// Behind one name: `where`, or nothing.
-#[tactic(auto, using(core_parser::proofs::BindingSteps::mark_steps), unfolding(crate::specs::Specifications::include_one))]
+#[tactic(auto, using(core_phrases::proofs::BindingSteps::mark_steps), unfolding(crate::specs::Specifications::include_one))]
 fn include_one(
     alloc: Global,
     lexemes: &mut Lexemes<'_>,
@@ -95,7 +95,7 @@ fn two(alloc: Global, first: Name, second: Name) -> Result<List<Name>, NoMemory>
 }
 
 /// Behind the first name: another one, `where`, or nothing.
-#[tactic(auto, using(core_parser::proofs::BindingSteps::if_taken_steps), unfolding(crate::specs::Specifications::include_from))]
+#[tactic(auto, using(core_phrases::proofs::BindingSteps::if_taken_steps), unfolding(crate::specs::Specifications::include_from))]
 pub fn include_from(
     alloc: Global,
     lexemes: &mut Lexemes<'_>,

@@ -1,16 +1,16 @@
 //! Phrases behind which an `and` of the phrase around may have been taken.
 
 ghost use Rattle.std.specs.Prelude.{◌≡◌, IfOk};
-ghost use Rattle.core_parser.specs.Reads.{Reads};
+ghost use Rattle.core_phrases.specs.Reads.{Reads};
 ghost use Rattle.module_parser.specs.Joined.{apart, alone_of, joined_one, joined_more};
 ghost use Rattle.module_parser.specs.Bound.{next_name};
 
 use crate::names::{module_name, sees_module_name};
 use cm_base::{List, NoMemory};
-use core_parser::Word;
-use core_parser::lexemes::Lexemes;
-use core_parser::stop::Stop;
-use core_parser::tall::{Tall, more, one};
+use core_phrases::Word;
+use core_phrases::lexemes::Lexemes;
+use core_phrases::stop::Stop;
+use core_phrases::tall::{Tall, more, one};
 use sml_syntax::Name;
 use std::alloc::Global;
 

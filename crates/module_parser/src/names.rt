@@ -3,14 +3,14 @@
 ghost use Rattle.std.specs.Prelude.{◌≡◌, None, IfOk};
 ghost use Rattle.cm_base.specs.Derived.{is_letter};
 ghost use Rattle.grammars.specs.Grammar.{begins, head_or};
-ghost use Rattle.core_parser.specs.Bindings.{begins_with_letter, strid_of, tyvars_from, taken_from};
-ghost use Rattle.core_parser.specs.Reads.{Reads};
-ghost use Rattle.core_parser.specs.Words.{named, is_star};
+ghost use Rattle.core_phrases.specs.Bindings.{begins_with_letter, strid_of, tyvars_from, taken_from};
+ghost use Rattle.core_phrases.specs.Reads.{Reads};
+ghost use Rattle.core_phrases.specs.Words.{named, is_star};
 ghost use Rattle.module_parser.specs.Joined.{module_name, module_name_of, is_module_name, module_name_text};
 
 use cm_base::{List, NoMemory, Text};
-use core_parser::lexemes::Lexemes;
-use core_parser::stop::Stop;
+use core_phrases::lexemes::Lexemes;
+use core_phrases::stop::Stop;
 use sml_lexer::{Lexeme, LexemeKind};
 use sml_syntax::Name;
 
@@ -61,7 +61,7 @@ pub fn sees_module_name(lexemes: &Lexemes<'_>) -> bool
 }
 
 /// Takes the name of a structure, signature or functor.
-#[tactic(auto, using(core_parser::proofs::Steps::taken_steps))]
+#[tactic(auto, using(core_phrases::proofs::Steps::taken_steps))]
 pub fn module_name(lexemes: &mut Lexemes<'_>) -> Result<Name, Stop>
     ensures { Reads module_name lexemes.old.rest.now result lexemes.new.rest.now }
 {
@@ -80,7 +80,7 @@ pub fn module_name(lexemes: &mut Lexemes<'_>) -> Result<Name, Stop>
 }
 
 /// Further names of signatures.
-#[tactic(auto, using(core_parser::proofs::BindingSteps::taken_from_steps))]
+#[tactic(auto, using(core_phrases::proofs::BindingSteps::taken_from_steps))]
 pub fn module_names_from(lexemes: &mut Lexemes<'_>, found: List<Name>) -> Result<List<Name>, Stop>
     ensures { Reads (taken_from module_name_of named found) lexemes.old.rest.now result lexemes.new.rest.now }
 {

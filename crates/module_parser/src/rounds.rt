@@ -6,8 +6,8 @@ ghost use Rattle.grammars.specs.Grammar.{head_or};
 ghost use Rattle.module_parser.specs.Rounds.{next_begin};
 ghost use Rattle.module_parser.specs.Specifications.{is_spec_round};
 
-use core_parser::lexemes::Lexemes;
-use core_parser::{Word, lexeme};
+use core_phrases::lexemes::Lexemes;
+use core_phrases::{Word, lexeme};
 use sml_lexer::Lexeme;
 
 /// Whether a specification begins with this word, or it is a semicolon.

@@ -3,20 +3,20 @@
 ghost use Rattle.std.specs.Prelude.{◌≡◌, ◌-◌, true, false, None, IfOk};
 ghost use Rattle.std.specs.Option.{option_copied};
 ghost use Rattle.grammars.specs.Grammar.{begins, head_or};
-ghost use Rattle.core_parser.specs.Reads.{Reads};
-ghost use Rattle.core_parser.specs.Words.{is};
+ghost use Rattle.core_phrases.specs.Reads.{Reads};
+ghost use Rattle.core_phrases.specs.Words.{is};
 ghost use Rattle.module_parser.specs.SigLevels.{sig_level};
 ghost use Rattle.module_parser.specs.Structures.{seal_behind, maybe_seal, is_seal, next_seal, sealed_tree, sealed_of, seal_of, seals};
 
 use crate::joined::{Joined, alone};
 use crate::sig_exps::sig;
 use cm_base::{Boxed, NoMemory};
-use core_parser::binders::marked;
-use core_parser::lexemes::Lexemes;
-use core_parser::stop::Stop;
-use core_parser::tall::Tall;
-use core_parser::type_decs::above;
-use core_parser::{Word, lexeme};
+use core_phrases::binders::marked;
+use core_phrases::lexemes::Lexemes;
+use core_phrases::stop::Stop;
+use core_phrases::tall::Tall;
+use core_phrases::type_decs::above;
+use core_phrases::{Word, lexeme};
 use sml_lexer::Lexeme;
 use sml_syntax::{At, FullSeal, FullSigExp, FullStrExp};
 use std::alloc::Global;

@@ -2,9 +2,9 @@
 
 ghost use Rattle.std.specs.Prelude.{◌≡◌, ◌-◌, ◌<◌, None, Some, true, false, drop, MatchResult};
 ghost use Rattle.grammars.specs.Grammar.{begins, head_or};
-ghost use Rattle.core_parser.specs.Reads.{Reads};
-ghost use Rattle.core_parser.specs.Words.{is, at, word, made};
-ghost use Rattle.core_parser.specs.Types.{ty};
+ghost use Rattle.core_phrases.specs.Reads.{Reads};
+ghost use Rattle.core_phrases.specs.Words.{is, at, word, made};
+ghost use Rattle.core_phrases.specs.Types.{ty};
 ghost use Rattle.module_parser.specs.Joined.{module_name_of, bindings, bindings_from};
 ghost use Rattle.module_parser.specs.SigLevels.{sig_level, sig_below};
 ghost use Rattle.module_parser.specs.Signatures.{starts_sig, sig_name, sig_body, sig_atom, sig_within, sig_bind};
@@ -17,11 +17,11 @@ use crate::names::{is_module_name, module_name, module_name_of, sees_module_name
 use crate::rounds::next_spec;
 use crate::wheres::wheres;
 use cm_base::{Boxed, List};
-use core_parser::lexemes::Lexemes;
-use core_parser::stop::Stop;
-use core_parser::tall::{Tall, more};
-use core_parser::type_decs::above;
-use core_parser::{Word, lexeme};
+use core_phrases::lexemes::Lexemes;
+use core_phrases::stop::Stop;
+use core_phrases::tall::{Tall, more};
+use core_phrases::type_decs::above;
+use core_phrases::{Word, lexeme};
 use sml_lexer::Lexeme;
 use sml_syntax::{At, FullSigBind, FullSigExp, FullSpec, Name};
 use std::alloc::Global;
@@ -243,7 +243,7 @@ fn include_sig(
 
 /// `include sigid sigid ..` and `include sigexp`
 #[cycle(sigs)]
-#[tactic(auto, using(core_parser::proofs::BindingSteps::if_taken_steps), unfolding(crate::specs::Specifications::include_spec))]
+#[tactic(auto, using(core_phrases::proofs::BindingSteps::if_taken_steps), unfolding(crate::specs::Specifications::include_spec))]
 fn include_spec(
     alloc: Global,
     lexemes: &mut Lexemes<'_>,

@@ -3,10 +3,10 @@
 ghost use Rattle.std.specs.Prelude.{◌≡◌, ◌-◌, ◌<◌, None, Some, OnOk, take, length};
 ghost use Rattle.std.specs.Option.{option_copied};
 ghost use Rattle.grammars.specs.Grammar.{head_or};
-ghost use Rattle.core_parser.specs.DecReads.{ReadsDecs, declared};
-ghost use Rattle.core_parser.specs.Reads.{Reads};
-ghost use Rattle.core_parser.specs.ReadsDec.{ReadsDec};
-ghost use Rattle.core_parser.specs.Words.{word};
+ghost use Rattle.core_phrases.specs.DecReads.{ReadsDecs, declared};
+ghost use Rattle.core_phrases.specs.Reads.{Reads};
+ghost use Rattle.core_phrases.specs.ReadsDec.{ReadsDec};
+ghost use Rattle.core_phrases.specs.Words.{word};
 ghost use Rattle.module_parser.specs.Joined.{bindings, bindings_from};
 ghost use Rattle.module_parser.specs.Rounds.{next_begin};
 ghost use Rattle.module_parser.specs.StrLevels.{str_level, str_below};
@@ -17,12 +17,12 @@ use crate::names::module_name;
 use crate::str_exps::str_bind;
 use cm_base::List;
 use core_parser::decs::{dec, starts_dec_word};
-use core_parser::fixity::Fixities;
-use core_parser::lexemes::Lexemes;
-use core_parser::stop::Stop;
-use core_parser::tall::{Tall, more};
-use core_parser::type_decs::above;
-use core_parser::{Word, lexeme};
+use core_phrases::fixity::Fixities;
+use core_phrases::lexemes::Lexemes;
+use core_phrases::stop::Stop;
+use core_phrases::tall::{Tall, more};
+use core_phrases::type_decs::above;
+use core_phrases::{Word, lexeme};
 use sml_lexer::Lexeme;
 use sml_syntax::{At, FullDec, FullStrBind};
 use std::alloc::Global;
@@ -113,7 +113,7 @@ fn structures(
 
 /// `local strdec in strdec end`
 #[cycle(strs)]
-#[tactic(auto, using(core_parser::proofs::DecSteps::kept_steps), unfolding(crate::specs::Structures::local_str))]
+#[tactic(auto, using(core_phrases::proofs::Kept::kept_steps), unfolding(crate::specs::Structures::local_str))]
 fn local_str(
     alloc: Global,
     lexemes: &mut Lexemes<'_>,
@@ -140,7 +140,7 @@ fn local_str(
 
 /// A declaration behind its first word, which opened one of its levels.
 #[cycle(strs)]
-#[tactic(auto, using(core_parser::proofs::DecSteps::kept_steps), unfolding(core_parser::specs::Declarations::plain))]
+#[tactic(auto, using(core_phrases::proofs::Kept::kept_steps), unfolding(core_parser::specs::Declarations::plain))]
 fn str_dec_word(
     alloc: Global,
     lexemes: &mut Lexemes<'_>,
@@ -183,7 +183,7 @@ fn str_dec(
 
 /// One more declaration behind its first word, or nothing behind a semicolon.
 #[cycle(strs)]
-#[tactic(auto, using(core_parser::proofs::DecSteps::kept_steps), unfolding(crate::specs::Structures::next_str_dec))]
+#[tactic(auto, using(core_phrases::proofs::Kept::kept_steps), unfolding(crate::specs::Structures::next_str_dec))]
 fn str_round(
     alloc: Global,
     lexemes: &mut Lexemes<'_>,

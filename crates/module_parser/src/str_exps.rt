@@ -3,9 +3,9 @@
 ghost use Rattle.std.specs.Prelude.{◌≡◌, ◌-◌, ◌<◌, None, Some, true, false, OnOk, IfOk, MatchResult, drop, is_some, take, length};
 ghost use Rattle.std.specs.Option.{option_copied};
 ghost use Rattle.grammars.specs.Grammar.{begins, head_or};
-ghost use Rattle.core_parser.specs.Bindings.{strid_of};
-ghost use Rattle.core_parser.specs.Reads.{Reads};
-ghost use Rattle.core_parser.specs.Words.{is, at, made, named};
+ghost use Rattle.core_phrases.specs.Bindings.{strid_of};
+ghost use Rattle.core_phrases.specs.Reads.{Reads};
+ghost use Rattle.core_phrases.specs.Words.{is, at, made, named};
 ghost use Rattle.module_parser.specs.Joined.{module_name_of};
 ghost use Rattle.module_parser.specs.StrLevels.{str_level};
 ghost use Rattle.module_parser.specs.Structures.{starts_str, str, str_bind, struct_str, let_str, of_str, of_decs, argument, str_name, str_named, str_atom, str_within, next_str};
@@ -15,14 +15,14 @@ use crate::names::module_name_of;
 use crate::seals::{maybe_seal, seals};
 use crate::str_decs::str_decs;
 use cm_base::{Boxed, List, Text};
-use core_parser::binders::single;
-use core_parser::fixity::Fixities;
-use core_parser::infix_decs::{is_strid, strid_of};
-use core_parser::lexemes::Lexemes;
-use core_parser::stop::Stop;
-use core_parser::tall::Tall;
-use core_parser::type_decs::above;
-use core_parser::{Word, lexeme};
+use core_phrases::binders::single;
+use core_phrases::fixity::Fixities;
+use core_phrases::infix_decs::{is_strid, strid_of};
+use core_phrases::lexemes::Lexemes;
+use core_phrases::stop::Stop;
+use core_phrases::tall::Tall;
+use core_phrases::type_decs::above;
+use core_phrases::{Word, lexeme};
 use sml_lexer::Lexeme;
 use sml_syntax::{At, FullStrBind, FullStrExp, LongName, Name};
 use std::alloc::Global;
@@ -156,7 +156,7 @@ fn long_named(lexemes: &Lexemes<'_>, first: &Lexeme) -> Result<Tall<FullStrExp>,
 
 /// A name without structures before it: that of a functor where a parenthesis stands behind it, else of a structure.
 #[cycle(strs)]
-#[tactic(auto, using(core_parser::proofs::BindingSteps::mark_steps))]
+#[tactic(auto, using(core_phrases::proofs::BindingSteps::mark_steps))]
 fn short_named(
     alloc: Global,
     lexemes: &mut Lexemes<'_>,

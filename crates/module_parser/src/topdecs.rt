@@ -3,7 +3,7 @@
 ghost use Rattle.std.specs.Prelude.{◌≡◌, None, Some};
 ghost use Rattle.std.specs.Option.{option_copied};
 ghost use Rattle.grammars.specs.Grammar.{head_or};
-ghost use Rattle.core_parser.specs.Reads.{Reads};
+ghost use Rattle.core_phrases.specs.Reads.{Reads};
 ghost use Rattle.module_parser.specs.Rounds.{next_begin};
 ghost use Rattle.module_parser.specs.Units.{starts_top, top_structures, top_signatures, top_functors, top_funsigs, top_word, semicolon, top_round, topdecs_from, topdecs};
 
@@ -11,12 +11,12 @@ use crate::functors::{fun_binds, funsig_binds};
 use crate::sig_exps::sig_binds;
 use crate::str_decs::str_binds;
 use cm_base::List;
-use core_parser::fixity::Fixities;
-use core_parser::lexemes::Lexemes;
-use core_parser::stop::Stop;
-use core_parser::tall::{Tall, more};
-use core_parser::type_decs::above;
-use core_parser::{Word, lexeme};
+use core_phrases::fixity::Fixities;
+use core_phrases::lexemes::Lexemes;
+use core_phrases::stop::Stop;
+use core_phrases::tall::{Tall, more};
+use core_phrases::type_decs::above;
+use core_phrases::{Word, lexeme};
 use sml_lexer::Lexeme;
 use sml_syntax::{At, FullTopDec};
 use std::alloc::Global;

@@ -1,18 +1,18 @@
 //! The types behind `where`.
 
 ghost use Rattle.std.specs.Prelude.{◌≡◌, None};
-ghost use Rattle.core_parser.specs.Reads.{Reads};
-ghost use Rattle.core_parser.specs.Types.{ty};
+ghost use Rattle.core_phrases.specs.Reads.{Reads};
+ghost use Rattle.core_phrases.specs.Types.{ty};
 ghost use Rattle.module_parser.specs.Signatures.{where_bind, where_type, one_type, and_type, where_types_from, where_types};
 
 use crate::joined::{Joined, apart};
 use cm_base::List;
-use core_parser::binders::{marked, tyvars};
-use core_parser::lexemes::Lexemes;
-use core_parser::stop::Stop;
-use core_parser::tall::{Tall, more, one};
-use core_parser::types::ty;
-use core_parser::{Word, lexeme};
+use core_phrases::binders::{marked, tyvars};
+use core_phrases::lexemes::Lexemes;
+use core_phrases::stop::Stop;
+use core_phrases::tall::{Tall, more, one};
+use core_phrases::types::ty;
+use core_phrases::{Word, lexeme};
 use sml_lexer::Lexeme;
 use sml_syntax::FullWhere;
 use std::alloc::Global;

@@ -1,18 +1,18 @@
 //! `where type`, around a signature expression.
 
 ghost use Rattle.std.specs.Prelude.{◌≡◌, ◌-◌};
-ghost use Rattle.core_parser.specs.Reads.{Reads};
-ghost use Rattle.core_parser.specs.Types.{ty};
+ghost use Rattle.core_phrases.specs.Reads.{Reads};
+ghost use Rattle.core_phrases.specs.Types.{ty};
 ghost use Rattle.module_parser.specs.Signatures.{where_of, where_behind, wheres};
 
 use crate::joined::Joined;
 use crate::where_types::where_types;
 use cm_base::Boxed;
-use core_parser::Word;
-use core_parser::lexemes::Lexemes;
-use core_parser::stop::Stop;
-use core_parser::tall::Tall;
-use core_parser::type_decs::above;
+use core_phrases::Word;
+use core_phrases::lexemes::Lexemes;
+use core_phrases::stop::Stop;
+use core_phrases::tall::Tall;
+use core_phrases::type_decs::above;
 use sml_syntax::{At, FullSigExp};
 use std::alloc::Global;
 

@@ -1,17 +1,17 @@
-use Rattle.std.proofs.Common.{◌≡◌, ◌∙◌, true, None, drop}
+use Rattle.std.proofs.Common.{◌≡◌, ◌∙◌, true, None}
 use Rattle.grammars.specs.Reading.{read}
 use Rattle.grammars.specs.Grammar.{begins, head_or}
 use Rattle.core_parser.specs.Clauses.{clause, function}
 use Rattle.core_parser.specs.Expressions.{beside, chain_word, field, goes_on, rule, steps}
 use Rattle.core_parser.specs.Levels.{below, level}
-use Rattle.core_parser.specs.Words.{is}
-use Rattle.core_parser.specs.declared.words.Word.TheVariants as w
-use Rattle.core_parser.specs.DecReads.{declared}
+use Rattle.core_phrases.specs.Words.{is}
+use Rattle.core_phrases.specs.declared.words.Word.TheVariants as w
+use Rattle.core_phrases.specs.DecReads.{declared}
 use Rattle.core_parser.specs.Declarations.{starts_round}
 use Rattle.core_parser.specs.Values.{val_bind}
 use Rattle.core_parser.proofs.DecSteps.{one_round_less}
 use Rattle.core_parser.proofs.ExpSteps.{step_less, steps_kept, steps_stops, passed_on}
-use Rattle.core_parser.proofs.Steps.{round_less}
+use Rattle.core_phrases.proofs.Steps.{round_less}
 use Rattle.core_parser.proofs.+phrases.Goals as goal
 
 pub exp::chained-loop-alloc-smaller : goal.exp::chained-loop-alloc-smaller

@@ -1,13 +1,13 @@
 use Rattle.std.proofs.Common.{◌≡◌, ◌+◌, ◌*◌, length, take}
 use Rattle.grammars.specs.Reading.{read}
 use Rattle.core_parser.specs.Clauses.{clause, function}
-use Rattle.core_parser.specs.DecReads.{declared}
+use Rattle.core_phrases.specs.DecReads.{declared}
 use Rattle.core_parser.specs.Declarations.{decs_from}
 use Rattle.core_parser.specs.Expressions.{chained, exps, fields, more_rules, steps}
 use Rattle.core_parser.specs.Levels.{below, level}
-use Rattle.core_parser.specs.Sized.{further}
+use Rattle.core_phrases.specs.Sized.{further}
 use Rattle.core_parser.specs.Values.{val_binds_from}
-use Rattle.core_parser.specs.declared.words.Word.TheVariants as w
+use Rattle.core_phrases.specs.declared.words.Word.TheVariants as w
 use Rattle.core_parser.proofs.+phrases.Given as goal
 
 -- Each function goes down a level, or to one that stands lower in the order of calls at one level.

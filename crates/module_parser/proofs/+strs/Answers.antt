@@ -1,8 +1,8 @@
 use Rattle.std.proofs.Common.{◌≡◌, sym, subst, take, length}
 use Rattle.grammars.specs.Reading.{read}
-use Rattle.core_parser.specs.DecReads.{declared}
-use Rattle.core_parser.specs.Fixities.{Fixities}
-use Rattle.core_parser.proofs.DecSteps.{kept_then}
+use Rattle.core_phrases.specs.DecReads.{declared}
+use Rattle.core_phrases.specs.Fixities.{Fixities}
+use Rattle.core_phrases.proofs.Kept.{kept_then}
 use Rattle.module_parser.specs.Joined.{bindings_from}
 use Rattle.module_parser.specs.StrLevels.{str_level, str_below}
 use Rattle.module_parser.specs.Structures.{str_bind, str_decs_from, argument, of_str}

@@ -1,6 +1,6 @@
 use Rattle.std.proofs.Common.{◌≡◌, ◌+◌, ◌*◌, length, take}
 use Rattle.grammars.specs.Reading.{read}
-use Rattle.core_parser.specs.DecReads.{declared}
+use Rattle.core_phrases.specs.DecReads.{declared}
 use Rattle.module_parser.specs.Joined.{bindings_from}
 use Rattle.module_parser.specs.StrLevels.{str_level, str_below}
 use Rattle.module_parser.specs.Structures.{str_bind, str_decs_from}

@@ -1,10 +1,10 @@
-use Rattle.std.proofs.Common.{◌≡◌, true, None, drop}
+use Rattle.std.proofs.Common.{◌≡◌, true, None}
 use Rattle.grammars.specs.Grammar.{begins, head_or}
 use Rattle.core_parser.specs.Expressions.{constraint}
 use Rattle.core_parser.specs.Levels.{below}
-use Rattle.core_parser.specs.Words.{is}
-use Rattle.core_parser.specs.declared.words.Word.TheVariants as w
-use Rattle.core_parser.proofs.Steps.{round_less}
+use Rattle.core_phrases.specs.Words.{is}
+use Rattle.core_phrases.specs.declared.words.Word.TheVariants as w
+use Rattle.core_phrases.proofs.Steps.{round_less}
 use Rattle.core_parser.proofs.exp_constraints.constraints.Goals as goal
 
 pub loop-alloc-smaller : goal.loop-alloc-smaller

@@ -1,9 +1,9 @@
 use Rattle.std.proofs.Common.{◌≡◌, true, None}
 use Rattle.grammars.specs.Grammar.{begins, head_or}
-use Rattle.core_parser.specs.Words.{is}
-use Rattle.core_parser.specs.Types.{ty}
-use Rattle.core_parser.specs.declared.words.Word.TheVariants as w
-use Rattle.core_parser.proofs.Steps.{round_less}
+use Rattle.core_phrases.specs.Words.{is}
+use Rattle.core_phrases.specs.Types.{ty}
+use Rattle.core_phrases.specs.declared.words.Word.TheVariants as w
+use Rattle.core_phrases.proofs.Steps.{round_less}
 use Rattle.module_parser.specs.Specifications.{dat_desc}
 use Rattle.module_parser.proofs.descs.dat_descs.Goals as goal
 

@@ -1,8 +1,8 @@
 use Rattle.std.proofs.Common.{◌≡◌, length}
 use Rattle.grammars.specs.Reading.{read}
-use Rattle.core_parser.specs.Sized.{further}
-use Rattle.core_parser.specs.Types.{ty}
-use Rattle.core_parser.specs.declared.words.Word.TheVariants as w
+use Rattle.core_phrases.specs.Sized.{further}
+use Rattle.core_phrases.specs.Types.{ty}
+use Rattle.core_phrases.specs.declared.words.Word.TheVariants as w
 use Rattle.module_parser.specs.Specifications.{typ_desc}
 use Rattle.module_parser.proofs.descs.typ_descs.Given as goal
 

@@ -1,7 +1,7 @@
 use Rattle.std.proofs.Common.{◌≡◌, length}
 use Rattle.grammars.specs.Reading.{read}
-use Rattle.core_parser.specs.Bindings.{taken_from}
-use Rattle.core_parser.specs.Words.{named}
+use Rattle.core_phrases.specs.Bindings.{taken_from}
+use Rattle.core_phrases.specs.Words.{named}
 use Rattle.module_parser.specs.Joined.{module_name_of}
 use Rattle.module_parser.proofs.names.module_names_from.Given as goal
 

@@ -1,6 +1,6 @@
 use Rattle.std.proofs.Common.{◌≡◌, ◌-◌, length}
 use Rattle.grammars.specs.Reading.{read}
-use Rattle.core_parser.specs.Types.{ty}
+use Rattle.core_phrases.specs.Types.{ty}
 use Rattle.module_parser.specs.Signatures.{wheres}
 use Rattle.module_parser.proofs.wheres.wheres.Given as goal
 

@@ -1,0 +1,12 @@
+pub mod Words
+pub mod Fixities
+pub mod Sized
+pub mod Reads
+pub mod Types
+pub mod Patterns
+pub mod Level
+pub mod Bindings
+pub mod ReadsDec
+pub mod Operators
+pub mod FixityTables
+pub mod DecReads
