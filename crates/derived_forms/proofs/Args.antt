@@ -34,19 +34,18 @@ pat_fields-append at ps p number is =
     fields-append at 1 ps p
     ∙ ap (λ k. pat_fields_from at 1 ps ++ roll-PatField (record { label = label_of at k; pat = p.pat }) ∷ []) numbers
 
--- a pattern of one argument, and of more, by the last of them
+-- the pattern of one argument, and of none or more
 pub args_pat-one : (at : At) (last : PlacedPat) → args_pat at (last ∷ []) ≡ last.pat
 args_pat-one at last = refl
 
-pub args_pat-more : (at : At) (before : List PlacedPat) (last : PlacedPat) → (before ≡ [] → ⊥)
-    → args_pat at (before ++ last ∷ [])
-    ≡ pat.Record (pat_fields_from (args_place at (before ++ last ∷ [])) 1 (before ++ last ∷ []))
-    (args_place at (before ++ last ∷ []))
-args_pat-more at [] last more = absurd (more refl)
-args_pat-more at (p ∷ []) last more = refl
-args_pat-more at (p ∷ q ∷ ps) last more = refl
+pub args_pat-others : (at : At) (args : List PlacedPat) → (length args ≡ 1 → ⊥)
+    → args_pat at args
+    ≡ pat.Record (pat_fields_from (args_place at args) 1 args) (args_place at args)
+args_pat-others at [] more = refl
+args_pat-others at (p ∷ []) more = absurd (more refl)
+args_pat-others at (p ∷ q ∷ ps) more = refl
 
-pub ruleset only_steps = (args_pat-one, args_pat-more)
+pub ruleset only_steps = (args_pat-one, args_pat-others)
 
 -- .. whose number is one more than those before it
 pub pat_fields-step : (at : At) (ps : List PlacedPat) (p : PlacedPat)

@@ -6,11 +6,11 @@ pub mod ExpLevels
 pub mod ExpNesting
 pub mod Found
 pub mod FoundDecs
-pub mod Items
 pub mod LevelLists
 pub mod Levels
 pub mod Lists
 pub mod NodeNesting
+pub mod Pairs
 pub mod PatLevels
 pub mod PatNesting
 pub mod RunFusion

@@ -9,6 +9,7 @@ ghost use Rattle.derived_forms.specs.Types.{bare_ty};
 ghost use Rattle.sml_syntax.specs.declared.exp.Exp.TheVariants as bare;
 
 use crate::fun::fun_rule;
+use crate::held::{appended, both, pushed, with};
 use crate::name::{copy_long, copy_name};
 use crate::node::{
     BareClause, CountedRule, PlacedExp, PlacedStr, and_also, case_exp, constant_exp, continued,
@@ -16,12 +17,12 @@ use crate::node::{
     sequence_exp, tuple_exp, typed_exp, unit_exp, while_exp,
 };
 use crate::part::{
-    append, clause_of, datatypes_dec, exceptions_dec, first_dec, fun_dec, functor_str, local_dec,
+    clause_of, datatypes_dec, exceptions_dec, first_dec, fun_dec, functor_str, local_dec,
     opaque_str, open_dec, place_of_exp, place_of_str, replication_dec, str_bind_of, struct_of,
     structures_dec, transparent_str, types_dec, val_dec, within_str,
 };
 use crate::pat::to_pat;
-use crate::run::Infix;
+use crate::run::operator_of;
 use cm_base::{List, NoMemory};
 use sml_syntax::{
     At, Dec, Exp, ExpField, FullClause, FullDec, FullExp, FullExpField, FullExpItem, FullFunBind,
@@ -45,12 +46,8 @@ fn to_exp(alloc: Global, exp: &FullExp) -> Result<Exp, NoMemory>
         FullExp::Paren(inner, _) => to_exp(alloc, inner.get()),
         FullExp::List(items, at) => to_list_exp(alloc, *at, items.as_slice()),
         FullExp::Let(decs, exps, at) => {
-            to_let(
-                alloc,
-                *at,
-                exps.as_slice(),
-                to_sequence(alloc, *at, decs.as_slice())?,
-            )
+            let dec = to_sequence(alloc, *at, decs.as_slice())?;
+            to_let(alloc, *at, exps.as_slice(), dec)
         }
         FullExp::Run(items, at) => to_run(alloc, *at, items.as_slice()),
         FullExp::Typed(inner, ty, at) => to_typed(alloc, *at, inner.get(), ty),
@@ -62,7 +59,8 @@ fn to_exp(alloc: Global, exp: &FullExp) -> Result<Exp, NoMemory>
         FullExp::Raise(inner, at) => to_raise(alloc, *at, inner.get()),
         FullExp::If(a, b, c, at) => {
             let test = to_exp(alloc, a.get())?;
-            to_if(alloc, *at, c.get(), test, to_exp(alloc, b.get())?)
+            let (test, first) = both(test, to_exp(alloc, b.get()))?;
+            to_if(alloc, *at, c.get(), test, first)
         }
         FullExp::While(a, b, at) => to_while(alloc, *at, b.get(), to_exp(alloc, a.get())?),
         FullExp::Case(subject, rules, at) => {
@@ -90,7 +88,8 @@ fn to_exps(alloc: Global, exps: &[FullExp]) -> Result<Vec<PlacedExp>, NoMemory>
 {
     let mut made = Vec::new(alloc);
     for exp in exps {
-        made.push(to_placed(alloc, exp)?)?;
+        let (before, exp) = both(made, to_placed(alloc, exp))?;
+        made = pushed(before, exp)?;
     }
     Ok(made)
 }
@@ -124,7 +123,7 @@ fn to_list_exp(alloc: Global, at: At, items: &[FullExp]) -> Result<Exp, NoMemory
 fn to_let(alloc: Global, at: At, exps: &[FullExp], dec: Dec) -> Result<Exp, NoMemory>
     ensures { IfOk result (λ made. made ≡ bare.Let dec (nodes.body_exp at (map spec.bare_exp exps.now)) at) }
 {
-    let body = to_exps(alloc, exps)?;
+    let (dec, body) = both(dec, to_exps(alloc, exps))?;
     let_exp(alloc, at, dec, body)
 }
 
@@ -141,7 +140,7 @@ fn to_typed(alloc: Global, at: At, inner: &FullExp, ty: &FullTy) -> Result<Exp, 
 fn to_and_also(alloc: Global, at: At, second: &FullExp, first: Exp) -> Result<Exp, NoMemory>
     ensures { IfOk result (λ made. made ≡ nodes.and_also at first (spec.bare_exp second.now).exp) }
 {
-    let second = to_exp(alloc, second)?;
+    let (first, second) = both(first, to_exp(alloc, second))?;
     and_also(alloc, at, first, second)
 }
 
@@ -150,7 +149,7 @@ fn to_and_also(alloc: Global, at: At, second: &FullExp, first: Exp) -> Result<Ex
 fn to_or_else(alloc: Global, at: At, second: &FullExp, first: Exp) -> Result<Exp, NoMemory>
     ensures { IfOk result (λ made. made ≡ nodes.or_else at first (spec.bare_exp second.now).exp) }
 {
-    let second = to_exp(alloc, second)?;
+    let (first, second) = both(first, to_exp(alloc, second))?;
     or_else(alloc, at, first, second)
 }
 
@@ -159,7 +158,7 @@ fn to_or_else(alloc: Global, at: At, second: &FullExp, first: Exp) -> Result<Exp
 fn to_handle(alloc: Global, at: At, rules: &[FullRule], inner: Exp) -> Result<Exp, NoMemory>
     ensures { IfOk result (λ made. made ≡ bare.Handle inner (map spec.bare_rule rules.now) at) }
 {
-    let rules = to_rules(alloc, rules)?;
+    let (inner, rules) = both(inner, to_rules(alloc, rules))?;
     handle_exp(alloc, at, inner, rules)
 }
 
@@ -176,7 +175,7 @@ fn to_raise(alloc: Global, at: At, inner: &FullExp) -> Result<Exp, NoMemory>
 fn to_if(alloc: Global, at: At, second: &FullExp, test: Exp, first: Exp) -> Result<Exp, NoMemory>
     ensures { IfOk result (λ made. made ≡ nodes.if_exp at test first (spec.bare_exp second.now).exp) }
 {
-    let second = to_exp(alloc, second)?;
+    let ((test, first), second) = both((test, first), to_exp(alloc, second))?;
     if_exp(alloc, at, test, first, second)
 }
 
@@ -185,7 +184,7 @@ fn to_if(alloc: Global, at: At, second: &FullExp, test: Exp, first: Exp) -> Resu
 fn to_while(alloc: Global, at: At, body: &FullExp, test: Exp) -> Result<Exp, NoMemory>
     ensures { IfOk result (λ made. made ≡ nodes.while_exp at test (spec.bare_exp body.now).exp) }
 {
-    let body = to_exp(alloc, body)?;
+    let (test, body) = both(test, to_exp(alloc, body))?;
     while_exp(alloc, at, test, body)
 }
 
@@ -194,7 +193,7 @@ fn to_while(alloc: Global, at: At, body: &FullExp, test: Exp) -> Result<Exp, NoM
 fn to_case(alloc: Global, at: At, rules: &[FullRule], subject: Exp) -> Result<Exp, NoMemory>
     ensures { IfOk result (λ made. made ≡ nodes.case_exp at subject (map spec.bare_rule rules.now)) }
 {
-    let rules = to_rules(alloc, rules)?;
+    let (subject, rules) = both(subject, to_rules(alloc, rules))?;
     case_exp(alloc, at, subject, rules)
 }
 
@@ -205,12 +204,21 @@ fn to_record(alloc: Global, at: At, fields: &[FullExpField]) -> Result<Exp, NoMe
 {
     let mut made = List::new(alloc);
     for field in fields {
-        made.add(ExpField {
-            label: copy_name(&field.label)?,
-            exp: to_exp(alloc, &field.exp)?,
-        })?;
+        let (before, field) = both(made, to_field(alloc, field))?;
+        made = with(before, field)?;
     }
     Ok(Exp::Record(made, at))
+}
+
+/// A field of a record.
+#[cycle(to_exp)]
+#[tactic(auto, using(crate::proofs::ExpLevels::field_form))]
+fn to_field(alloc: Global, field: &FullExpField) -> Result<ExpField, NoMemory>
+    ensures { IfOk result (λ made. made ≡ spec.bare_field field.now) }
+{
+    let exp = to_exp(alloc, &field.exp)?;
+    let (exp, label) = both(exp, copy_name(&field.label))?;
+    Ok(ExpField { label, exp })
 }
 
 /// What the parts of a run make.
@@ -224,14 +232,14 @@ fn to_run(alloc: Global, at: At, items: &[FullExpItem]) -> Result<Exp, NoMemory>
     for item in items {
         match item {
             FullExpItem::Atom(exp) => {
-                begun = Some(continued(alloc, begun, to_placed(alloc, exp)?)?);
+                let ((run, function), exp) = both((before, begun), to_placed(alloc, exp))?;
+                let (run, exp) = both(run, continued(alloc, function, exp))?;
+                before = run;
+                begun = Some(exp);
             }
             FullExpItem::Operator(name, fixity) => {
-                let operator = Infix {
-                    name: copy_name(name)?,
-                    fixity: *fixity,
-                };
-                before.push((operand(alloc, at, begun), operator))?;
+                let ((run, last), operator) = both((before, begun), operator_of(name, *fixity))?;
+                before = pushed(run, (operand(alloc, at, last), operator))?;
                 begun = None;
             }
         }
@@ -253,12 +261,21 @@ fn to_rules(alloc: Global, rules: &[FullRule]) -> Result<List<Rule>, NoMemory>
 {
     let mut made = List::new(alloc);
     for rule in rules {
-        made.add(Rule {
-            pat: to_pat(alloc, &rule.pat)?.pat,
-            exp: to_exp(alloc, &rule.exp)?,
-        })?;
+        let (before, rule) = both(made, to_rule(alloc, rule))?;
+        made = with(before, rule)?;
     }
     Ok(made)
+}
+
+#[cycle(to_exp)]
+#[tactic(auto, using(crate::proofs::ExpLevels::rule_form))]
+fn to_rule(alloc: Global, rule: &FullRule) -> Result<Rule, NoMemory>
+    ensures { IfOk result (λ made. made ≡ spec.bare_rule rule.now) }
+{
+    let exp = to_exp(alloc, &rule.exp)?;
+    let (exp, pat) = both(exp, to_pat(alloc, &rule.pat))?;
+    let pat = pat.pat;
+    Ok(Rule { pat, exp })
 }
 
 #[cycle(to_exp)]
@@ -267,10 +284,19 @@ fn to_clauses(alloc: Global, clauses: &[FullClause]) -> Result<Vec<BareClause>, 
 {
     let mut made = Vec::new(alloc);
     for clause in clauses {
-        let body = to_placed(alloc, &clause.body)?;
-        made.push(clause_of(alloc, &clause.head, &clause.ty, clause.at, body)?)?;
+        let (before, clause) = both(made, to_clause(alloc, clause))?;
+        made = pushed(before, clause)?;
     }
     Ok(made)
+}
+
+#[cycle(to_exp)]
+#[tactic(auto, using(crate::proofs::ExpLevels::clause_form))]
+fn to_clause(alloc: Global, clause: &FullClause) -> Result<BareClause, NoMemory>
+    ensures { IfOk result (λ made. made ≡ spec.bare_clause clause.now) }
+{
+    let body = to_placed(alloc, &clause.body)?;
+    clause_of(alloc, &clause.head, &clause.ty, clause.at, body)
 }
 
 /// The functions of a `fun`.
@@ -280,10 +306,20 @@ fn to_fun_binds(alloc: Global, binds: &[FullFunBind]) -> Result<List<Rule>, NoMe
 {
     let mut made = List::new(alloc);
     for bind in binds {
-        let clauses = to_clauses(alloc, bind.clauses.as_slice())?;
-        made.add(fun_rule(alloc, bind.at, clauses)?)?;
+        let (before, function) = both(made, to_fun_bind(alloc, bind))?;
+        made = with(before, function)?;
     }
     Ok(made)
+}
+
+/// A function of a `fun`.
+#[cycle(to_exp)]
+#[tactic(auto, using(crate::proofs::ExpLevels::fun_bind_form))]
+fn to_fun_bind(alloc: Global, bind: &FullFunBind) -> Result<Rule, NoMemory>
+    ensures { IfOk result (λ made. made ≡ spec.bare_fun_bind bind.now) }
+{
+    let clauses = to_clauses(alloc, bind.clauses.as_slice())?;
+    fun_rule(alloc, bind.at, clauses)
 }
 
 /// The bindings of a `val`.
@@ -293,14 +329,25 @@ fn to_val_binds(alloc: Global, binds: &[FullValBind]) -> Result<Vec<CountedRule>
 {
     let mut made = Vec::new(alloc);
     for bind in binds {
-        let pat = to_pat(alloc, &bind.pat)?.pat;
-        let exp = to_exp(alloc, &bind.exp)?;
-        made.push(CountedRule {
-            recs: bind.recs,
-            rule: Rule { pat, exp },
-        })?;
+        let (before, bind) = both(made, to_val_bind(alloc, bind))?;
+        made = pushed(before, bind)?;
     }
     Ok(made)
+}
+
+/// A binding of a `val`.
+#[cycle(to_exp)]
+#[tactic(auto, using(crate::proofs::ExpLevels::val_bind_form))]
+fn to_val_bind(alloc: Global, bind: &FullValBind) -> Result<CountedRule, NoMemory>
+    ensures { IfOk result (λ made. made ≡ spec.bare_val_bind bind.now) }
+{
+    let exp = to_exp(alloc, &bind.exp)?;
+    let (exp, pat) = both(exp, to_pat(alloc, &bind.pat))?;
+    let pat = pat.pat;
+    Ok(CountedRule {
+        recs: bind.recs,
+        rule: Rule { pat, exp },
+    })
 }
 
 /// Declarations one after another.
@@ -310,7 +357,8 @@ pub fn to_sequence(alloc: Global, at: At, decs: &[FullDec]) -> Result<Dec, NoMem
 {
     let mut made = Vec::new(alloc);
     for dec in decs {
-        append(&mut made, to_dec(alloc, dec)?)?;
+        let (before, more) = both(made, to_dec(alloc, dec))?;
+        made = appended(before, more)?;
     }
     Ok(Dec::Sequence(List::from_vec(made), at))
 }
@@ -344,12 +392,8 @@ fn to_dec(alloc: Global, dec: &FullDec) -> Result<List<Dec>, NoMemory>
         FullDec::Exceptions(binds, at) => exceptions_dec(alloc, *at, binds),
         FullDec::Local(hidden, decs, at) => {
             let hidden = to_sequence(alloc, *at, hidden.as_slice())?;
-            local_dec(
-                alloc,
-                *at,
-                hidden,
-                to_sequence(alloc, *at, decs.as_slice())?,
-            )
+            let (hidden, shown) = both(hidden, to_sequence(alloc, *at, decs.as_slice()))?;
+            local_dec(alloc, *at, hidden, shown)
         }
         FullDec::Open(longs, at) => open_dec(alloc, *at, longs.as_slice()),
         FullDec::Infix(_, _, _) => Ok(List::new(alloc)),
@@ -388,7 +432,8 @@ pub fn to_str(alloc: Global, str: &FullStrExp) -> Result<StrExp, NoMemory>
         }
         FullStrExp::Within(decs, inner, at) => {
             let dec = to_sequence(alloc, *at, decs.as_slice())?;
-            within_str(alloc, *at, dec, to_str(alloc, inner.get())?)
+            let (dec, body) = both(dec, to_str(alloc, inner.get()))?;
+            within_str(alloc, *at, dec, body)
         }
     }
 }
@@ -399,11 +444,18 @@ pub fn to_str_binds(alloc: Global, binds: &[FullStrBind]) -> Result<List<StrBind
 {
     let mut made = List::new(alloc);
     for bind in binds {
-        let body = PlacedStr {
-            at: place_of_str(&bind.body),
-            str: to_str(alloc, &bind.body)?,
-        };
-        made.add(str_bind_of(alloc, &bind.name, &bind.seal, body)?)?;
+        let (before, bind) = both(made, to_str_bind(alloc, bind))?;
+        made = with(before, bind)?;
     }
     Ok(made)
+}
+
+#[cycle(to_exp)]
+#[tactic(auto, using(crate::proofs::ExpLevels::str_bind_form))]
+fn to_str_bind(alloc: Global, bind: &FullStrBind) -> Result<StrBind, NoMemory>
+    ensures { IfOk result (λ made. made ≡ spec.bare_str_bind bind.now) }
+{
+    let str = to_str(alloc, &bind.body)?;
+    let at = place_of_str(&bind.body);
+    str_bind_of(alloc, &bind.name, &bind.seal, PlacedStr { at, str })
 }

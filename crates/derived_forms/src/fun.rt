@@ -1,10 +1,12 @@
 //! The parts of functions that are bound by `fun`.
 
-ghost use Rattle.std.specs.Prelude.{◌≡◌, ◌++◌, IfOk, OnOk, map};
+ghost use Rattle.std.specs.Prelude.{◌≡◌, IfOk, map};
 ghost use Rattle.derived_forms.specs.Nodes as spec;
 ghost use Rattle.derived_forms.specs.Expressions.{head_name, head_args, infix_pat};
 ghost use Rattle.derived_forms.specs.Patterns.{bare_pat, pat_fields_from};
+ghost use Rattle.derived_forms.specs.Types.{label_of};
 
+use crate::held::{appended, both, only, pushed, with};
 use crate::name::{label, long_of_name, place};
 use crate::node::{BareClause, case_exp, long_exp, long_pat, one_rule, unit_exp};
 use crate::pat::{PlacedPat, pair_pat, to_pat, to_pats};
@@ -27,12 +29,10 @@ pub fn name_of(head: &FullHead) -> &Name
 fn infix_args(alloc: Global, left: &FullPat, right: &FullPat) -> Result<PlacedPat, NoMemory>
     ensures { IfOk result (λ made. made ≡ infix_pat (bare_pat left.now) (bare_pat right.now)) }
 {
-    let left = to_pat(alloc, left)?;
-    let right = to_pat(alloc, right)?;
-    Ok(PlacedPat {
-        at: left.at,
-        pat: pair_pat(alloc, left.at, left.pat, right.pat)?,
-    })
+    let (left, right) = both(to_pat(alloc, left)?, to_pat(alloc, right))?;
+    let at = left.at;
+    let pat = pair_pat(alloc, at, left.pat, right.pat)?;
+    Ok(PlacedPat { at, pat })
 }
 
 /// The arguments of a clause.
@@ -42,27 +42,17 @@ pub fn args_of(alloc: Global, head: &FullHead) -> Result<Vec<PlacedPat>, NoMemor
     match head {
         FullHead::Prefix(_, args) => to_pats(alloc, args.as_slice()),
         FullHead::Infix(left, _, right) => {
-            let mut args = Vec::new(alloc);
-            args.push(infix_args(alloc, left, right)?)?;
-            Ok(args)
+            let args = infix_args(alloc, left, right)?;
+            pushed(Vec::new(alloc), args)
         }
         FullHead::ParenInfix(left, _, right, others) => {
-            let mut args = Vec::new(alloc);
-            args.push(infix_args(alloc, left, right)?)?;
-            add_pats(alloc, &mut args, others.as_slice())?;
-            Ok(args)
+            let args = infix_args(alloc, left, right)?;
+            let (args, others) = both(args, to_pats(alloc, others.as_slice()))?;
+            let first = pushed(Vec::new(alloc), args);
+            let (others, first) = both(others, first)?;
+            appended(first, List::from_vec(others))
         }
     }
-}
-
-/// Adds patterns.
-fn add_pats(alloc: Global, made: &mut Vec<PlacedPat>, pats: &[FullPat]) -> Result<(), NoMemory>
-    ensures { OnOk result (made.new.items ≡ made.old.items ++ map bare_pat pats.now) }
-{
-    for pat in pats {
-        made.push(to_pat(alloc, pat)?)?;
-    }
-    Ok(())
 }
 
 /// The fields of a tuple pattern of these parts.
@@ -73,9 +63,9 @@ fn fields_of(alloc: Global, at: At, parts: Vec<PlacedPat>) -> Result<List<PatFie
     let mut parts = parts;
     let mut fields = Vec::new(alloc);
     while let Some(part) = parts.pop() {
-        let label = label(alloc, at, parts.len() + 1)?;
-        let pat = part.pat;
-        fields.push(PatField { label, pat })?;
+        let label = label(alloc, at, parts.len() + 1);
+        let ((left, made, pat), label) = both((parts, fields, part.pat), label)?;
+        (parts, fields) = both(left, pushed(made, PatField { label, pat }))?;
     }
     fields.reverse();
     Ok(List::from_vec(fields))
@@ -96,16 +86,11 @@ fn args_place(at: At, args: &[PlacedPat]) -> At
 fn args_pat(alloc: Global, at: At, args: Vec<PlacedPat>) -> Result<Pat, NoMemory>
     ensures { IfOk result (λ made. made ≡ spec.args_pat at args.items) }
 {
-    let mut args = args;
     let begin = args_place(at, args.as_slice());
-    let Some(last) = args.pop() else {
-        return Ok(Pat::Record(List::new(alloc), at));
-    };
-    if args.is_empty() {
-        return Ok(last.pat);
+    match only(args) {
+        Ok(only) => Ok(only.pat),
+        Err(args) => Ok(Pat::Record(fields_of(alloc, begin, args)?, begin)),
     }
-    args.push(last)?;
-    Ok(Pat::Record(fields_of(alloc, begin, args)?, begin))
 }
 
 /// The name of an argument, which no source has.
@@ -118,6 +103,16 @@ fn arg_text(alloc: Global, number: usize) -> Result<Text, NoMemory>
     Ok(Text::from_vec(bytes))
 }
 
+/// An argument of a function as a field of a tuple, by its number.
+fn subject_field(alloc: Global, at: At, number: usize) -> Result<ExpField, NoMemory>
+    ensures { IfOk result (λ made. made ≡ spec.field (label_of at number) (spec.long_exp at (spec.arg_text number))) }
+{
+    let label = label(alloc, at, number)?;
+    let text = arg_text(alloc, number)?;
+    let exp = long_exp(alloc, at, text.as_bytes())?;
+    Ok(ExpField { label, exp })
+}
+
 /// The arguments of a function as the fields of a tuple, as many as these patterns.
 fn subject_fields(alloc: Global, at: At, args: &[PlacedPat]) -> Result<List<ExpField>, NoMemory>
     ensures { IfOk result (λ made. made ≡ spec.subject_fields at 1 args.now) }
@@ -126,11 +121,8 @@ fn subject_fields(alloc: Global, at: At, args: &[PlacedPat]) -> Result<List<ExpF
     let mut number = 1;
     for arg in args {
         let _one = arg;
-        let text = arg_text(alloc, number)?;
-        fields.add(ExpField {
-            label: label(alloc, at, number)?,
-            exp: long_exp(alloc, at, text.as_bytes())?,
-        })?;
+        let (made, field) = both(fields, subject_field(alloc, at, number))?;
+        fields = with(made, field)?;
         number += 1;
     }
     Ok(fields)
@@ -150,12 +142,19 @@ fn subject(alloc: Global, at: At, args: &[PlacedPat]) -> Result<Exp, NoMemory>
     }
 }
 
+/// The pattern of an argument, by its number.
+fn arg_pat(alloc: Global, at: At, number: usize) -> Result<Pat, NoMemory>
+    ensures { IfOk result (λ made. made ≡ spec.long_pat at (spec.arg_text number)) }
+{
+    let text = arg_text(alloc, number)?;
+    long_pat(alloc, at, text.as_bytes())
+}
+
 /// A function of one argument, by its number.
 fn arg_fn(alloc: Global, at: At, number: usize, body: Exp) -> Result<Exp, NoMemory>
     ensures { IfOk result (λ made. made ≡ spec.arg_fn at number body) }
 {
-    let text = arg_text(alloc, number)?;
-    let pat = long_pat(alloc, at, text.as_bytes())?;
+    let (body, pat) = both(body, arg_pat(alloc, at, number))?;
     Ok(Exp::Fn(one_rule(alloc, pat, body)?, at))
 }
 
@@ -173,6 +172,15 @@ fn curried(alloc: Global, at: At, count: usize, body: Exp) -> Result<Exp, NoMemo
     Ok(made)
 }
 
+/// The rule of a clause.
+fn clause_rule(alloc: Global, clause: BareClause) -> Result<Rule, NoMemory>
+    ensures { IfOk result (λ made. made ≡ spec.clause_rule clause) }
+{
+    let pat = args_pat(alloc, clause.at, clause.args.into_vec());
+    let (exp, pat) = both(clause.body, pat)?;
+    Ok(Rule { pat, exp })
+}
+
 /// The rules of a function's clauses.
 #[tactic(auto, using(crate::proofs::Args::reverse_steps))]
 fn clause_rules(alloc: Global, clauses: Vec<BareClause>) -> Result<List<Rule>, NoMemory>
@@ -182,9 +190,8 @@ fn clause_rules(alloc: Global, clauses: Vec<BareClause>) -> Result<List<Rule>, N
     left.reverse();
     let mut made = List::new(alloc);
     while let Some(clause) = left.pop() {
-        let pat = args_pat(alloc, clause.at, clause.args.into_vec())?;
-        let exp = clause.body;
-        made.add(Rule { pat, exp })?;
+        let ((rest, rules), rule) = both((left, made), clause_rule(alloc, clause))?;
+        (left, made) = both(rest, with(rules, rule))?;
     }
     Ok(made)
 }
@@ -198,10 +205,14 @@ pub fn fun_rule(alloc: Global, at: At, clauses: Vec<BareClause>) -> Result<Rule,
         let exp = Exp::Fn(List::new(alloc), at);
         return Ok(Rule { pat, exp });
     };
-    let pat = Pat::Long(long_of_name(alloc, &first.name)?, place(&first.name));
+    let begin = place(&first.name);
     let count = first.args.len();
-    let subject = subject(alloc, at, first.args.as_slice())?;
-    let chosen = case_exp(alloc, at, subject, clause_rules(alloc, clauses)?)?;
-    let exp = curried(alloc, at, count, chosen)?;
+    let name = long_of_name(alloc, &first.name);
+    let subject = subject(alloc, at, first.args.as_slice());
+    let ((clauses, subject), name) = both(both(clauses, subject)?, name)?;
+    let ((subject, name), rules) = both((subject, name), clause_rules(alloc, clauses))?;
+    let (name, chosen) = both(name, case_exp(alloc, at, subject, rules))?;
+    let (name, exp) = both(name, curried(alloc, at, count, chosen))?;
+    let pat = Pat::Long(name, begin);
     Ok(Rule { pat, exp })
 }

@@ -12,6 +12,7 @@ mod find_sig;
 mod find_ty;
 mod find_unit;
 mod fun;
+mod held;
 mod name;
 mod nest;
 mod nest_exp;

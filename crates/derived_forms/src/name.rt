@@ -4,6 +4,7 @@ ghost use Rattle.std.specs.Prelude.{◌≡◌, IfOk};
 ghost use Rattle.derived_forms.specs.Types.{label_of};
 ghost use Rattle.derived_forms.specs.Patterns.{at_name, long_name, long_at};
 
+use crate::held::both;
 use cm_base::{List, NoMemory, Text};
 use sml_syntax::{At, LongName, Name};
 use std::alloc::Global;
@@ -18,6 +19,15 @@ pub fn label(alloc: Global, at: At, number: usize) -> Result<Name, NoMemory>
         line: at.line,
         col: at.col,
     })
+}
+
+/// The labels of a pair's parts.
+pub fn pair_labels(alloc: Global, at: At) -> Result<(Name, Name), NoMemory>
+    ensures first { IfOk result (λ labels. labels.0 ≡ label_of at 1) }
+    ensures second { IfOk result (λ labels. labels.1 ≡ label_of at 2) }
+{
+    let first = label(alloc, at, 1)?;
+    both(first, label(alloc, at, 2))
 }
 
 /// Where a name stands.

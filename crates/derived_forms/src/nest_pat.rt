@@ -1,6 +1,6 @@
 //! The levels of patterns.
 
-ghost use Rattle.std.specs.Prelude.{◌≡◌, IfOk, false, map};
+ghost use Rattle.std.specs.Prelude.{◌≡◌, ◌∷◌, [], IfOk, false, map};
 ghost use Rattle.std.specs.Option.{unwrap_or};
 ghost use Rattle.derived_forms.specs.Nesting.{all_levels};
 ghost use Rattle.derived_forms.specs.NestedNodes as nodes;
@@ -8,6 +8,7 @@ ghost use Rattle.derived_forms.specs.NestedNodes.{joined_pat_levels};
 ghost use Rattle.derived_forms.specs.FullNesting as spec;
 ghost use Rattle.derived_forms.specs.Runs.{applied_to, run_of};
 
+use crate::held::both;
 use crate::name::{copy_name, place};
 use crate::nest::{Levels, PlacedLevels};
 use crate::nest_node::list_levels;
@@ -36,19 +37,26 @@ impl Operand for PatLevels {
     ) -> Result<PatLevels, NoMemory> {
         let at = left.at;
         let pair = left.levels.beside(right.levels).under(at)?;
-        placed(at, pair.under(at)?)
+        Ok(placed(at, pair.under(at)?, false))
     }
 }
 
-/// A pattern that is no long identifier.
-fn placed(at: At, levels: Levels) -> Result<PatLevels, NoMemory>
-    ensures { IfOk result (λ made. made ≡ nodes.placed_pat_levels at levels false) }
+/// A pattern with its place.
+fn placed(at: At, levels: Levels, is_long: bool) -> PatLevels
+    ensures { result ≡ nodes.placed_pat_levels at levels is_long }
 {
-    Ok(PatLevels {
+    PatLevels {
         at,
         levels,
-        is_long: false,
-    })
+        is_long,
+    }
+}
+
+/// A pattern that holds no other.
+fn leaf(alloc: Global, at: At, is_long: bool) -> Result<PatLevels, NoMemory>
+    ensures { IfOk result (λ made. made ≡ nodes.placed_pat_levels at (at ∷ []) is_long) }
+{
+    Ok(placed(at, Levels::leaf(alloc, at)?, is_long))
 }
 
 /// A constructor with its argument.
@@ -56,9 +64,9 @@ fn applied(con: PatLevels, arg: PatLevels) -> Result<PatLevels, NoMemory>
     ensures { IfOk result (λ made. made ≡ nodes.applied_pat_levels con arg) }
 {
     if con.is_long {
-        return placed(con.at, arg.levels.under(con.at)?);
+        return Ok(placed(con.at, arg.levels.under(con.at)?, false));
     }
-    placed(con.at, con.levels)
+    Ok(placed(con.at, con.levels, false))
 }
 
 /// A pattern behind what its operand has begun with.
@@ -76,7 +84,7 @@ fn operand(alloc: Global, at: At, begun: Option<PatLevels>) -> Result<PatLevels,
     ensures { IfOk result (λ made. made ≡ unwrap_or begun (nodes.missing_pat_levels at)) }
 {
     match begun {
-        None => placed(at, Levels::leaf(alloc, at)?),
+        None => leaf(alloc, at, false),
         Some(operand) => Ok(operand),
     }
 }
@@ -98,56 +106,40 @@ pub fn pat_levels(alloc: Global, pat: &FullPat) -> Result<PatLevels, NoMemory>
     ensures { IfOk result (λ made. made ≡ spec.full_pat pat.now) }
 {
     match pat {
-        FullPat::Wild(at) => placed(*at, Levels::leaf(alloc, *at)?),
-        FullPat::Constant(_, at) => placed(*at, Levels::leaf(alloc, *at)?),
-        FullPat::Long(_, at) => Ok(PatLevels {
-            at: *at,
-            levels: Levels::leaf(alloc, *at)?,
-            is_long: true,
-        }),
+        FullPat::Wild(at) => leaf(alloc, *at, false),
+        FullPat::Constant(_, at) => leaf(alloc, *at, false),
+        FullPat::Long(_, at) => leaf(alloc, *at, true),
         FullPat::Record(fields, at) => {
             let fields = pat_fields_levels(alloc, fields.as_slice())?;
-            placed(*at, fields.under(*at)?)
+            Ok(placed(*at, fields.under(*at)?, false))
         }
-        FullPat::Unit(at) => placed(*at, Levels::leaf(alloc, *at)?),
+        FullPat::Unit(at) => leaf(alloc, *at, false),
         FullPat::Tuple(parts, at) => {
             let parts = pats_levels(alloc, parts.as_slice())?;
-            placed(*at, parts.under(*at)?)
+            Ok(placed(*at, parts.under(*at)?, false))
         }
         FullPat::Paren(inner, at) => {
             let inner = pat_levels(alloc, inner.get())?;
-            Ok(PatLevels {
-                at: *at,
-                levels: inner.levels,
-                is_long: inner.is_long,
-            })
+            Ok(placed(*at, inner.levels, inner.is_long))
         }
         FullPat::List(items, at) => {
             let is_long = is_none(items.as_slice());
             let items = placed_pats(alloc, items.as_slice())?;
-            Ok(PatLevels {
-                at: *at,
-                levels: list_levels(alloc, *at, items)?,
-                is_long,
-            })
+            Ok(placed(*at, list_levels(alloc, *at, items)?, is_long))
         }
         FullPat::Run(items, at) => {
             let run = pat_run_levels(alloc, *at, items.as_slice())?;
-            Ok(PatLevels {
-                at: *at,
-                levels: run.levels,
-                is_long: run.is_long,
-            })
+            Ok(placed(*at, run.levels, run.is_long))
         }
         FullPat::Typed(inner, ty, at) => {
-            let inner = pat_levels(alloc, inner.get())?.levels;
-            let levels = inner.beside(ty_levels(alloc, ty)?);
-            placed(*at, levels.under(*at)?)
+            let inner = pat_levels(alloc, inner.get())?;
+            let (inner, ty) = both(inner.levels, ty_levels(alloc, ty))?;
+            Ok(placed(*at, inner.beside(ty).under(*at)?, false))
         }
         FullPat::As(_, ty, inner, at) => {
             let ty = optional_ty_levels(alloc, ty)?;
-            let levels = ty.beside(pat_levels(alloc, inner.get())?.levels);
-            placed(*at, levels.under(*at)?)
+            let (ty, inner) = both(ty, pat_levels(alloc, inner.get()))?;
+            Ok(placed(*at, ty.beside(inner.levels).under(*at)?, false))
         }
     }
 }

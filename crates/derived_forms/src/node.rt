@@ -1,6 +1,6 @@
 //! The nodes that derived forms of expressions are made of.
 
-ghost use Rattle.std.specs.Prelude.{◌≡◌, IfOk};
+ghost use Rattle.std.specs.Prelude.{◌≡◌, IfOk, codes};
 ghost use Rattle.std.specs.Option.{unwrap_or};
 ghost use Rattle.derived_forms.specs.Nodes as spec;
 ghost use Rattle.derived_forms.specs.Nodes.{joined_exp};
@@ -9,7 +9,8 @@ ghost use Rattle.derived_forms.specs.Runs.{applied_to};
 ghost use Rattle.derived_forms.specs.Types.{bare_ty};
 ghost use Rattle.sml_syntax.specs.declared.exp.Exp.TheVariants as bare;
 
-use crate::name::{copy_long, label, long_of_name, long_of_text, place};
+use crate::held::{both, boxed_beside, boxed_two, one, pushed, two};
+use crate::name::{copy_long, label, long_of_name, long_of_text, pair_labels, place};
 use crate::pat::PlacedPat;
 use crate::run::{Infix, Operand, bind_all};
 use crate::ty::to_ty;
@@ -57,9 +58,10 @@ impl Operand for PlacedExp {
         right: PlacedExp,
     ) -> Result<PlacedExp, NoMemory> {
         let at = left.at;
-        let pair = Boxed::new(alloc, pair_exp(alloc, at, left.exp, right.exp)?)?;
-        let function = Exp::Long(long_of_name(alloc, &operator)?, place(&operator));
-        let exp = Exp::App(Boxed::new(alloc, function)?, pair, at);
+        let pair = pair_exp(alloc, at, left.exp, right.exp)?;
+        let (pair, long) = both(pair, long_of_name(alloc, &operator))?;
+        let function = Exp::Long(long, place(&operator));
+        let exp = app_exp(alloc, at, function, pair)?;
         Ok(PlacedExp { at, exp })
     }
 }
@@ -94,19 +96,27 @@ pub fn unit_exp(alloc: Global, at: At) -> Exp
     Exp::Record(List::new(alloc), at)
 }
 
+/// A function with its argument.
+fn app_exp(alloc: Global, at: At, function: Exp, arg: Exp) -> Result<Exp, NoMemory>
+    ensures { IfOk result (λ made. made ≡ bare.App function arg at) }
+{
+    let (function, arg) = boxed_two(alloc, function, arg)?;
+    Ok(Exp::App(function, arg, at))
+}
+
 fn pair_exp(alloc: Global, at: At, first: Exp, second: Exp) -> Result<Exp, NoMemory>
     ensures { IfOk result (λ made. made ≡ spec.pair_exp at first second) }
 {
-    let mut fields = List::new(alloc);
-    fields.add(ExpField {
-        label: label(alloc, at, 1)?,
+    let ((first, second), labels) = both((first, second), pair_labels(alloc, at))?;
+    let first = ExpField {
+        label: labels.0,
         exp: first,
-    })?;
-    fields.add(ExpField {
-        label: label(alloc, at, 2)?,
+    };
+    let second = ExpField {
+        label: labels.1,
         exp: second,
-    })?;
-    Ok(Exp::Record(fields, at))
+    };
+    Ok(Exp::Record(two(alloc, first, second)?, at))
 }
 
 /// `(first, .., last)`
@@ -117,9 +127,9 @@ pub fn tuple_exp(alloc: Global, at: At, parts: Vec<PlacedExp>) -> Result<Exp, No
     let mut parts = parts;
     let mut fields = Vec::new(alloc);
     while let Some(part) = parts.pop() {
-        let label = label(alloc, at, parts.len() + 1)?;
-        let exp = part.exp;
-        fields.push(ExpField { label, exp })?;
+        let label = label(alloc, at, parts.len() + 1);
+        let ((left, made, exp), label) = both((parts, fields, part.exp), label)?;
+        (parts, fields) = both(left, pushed(made, ExpField { label, exp }))?;
     }
     fields.reverse();
     Ok(Exp::Record(List::from_vec(fields), at))
@@ -129,28 +139,39 @@ pub fn tuple_exp(alloc: Global, at: At, parts: Vec<PlacedExp>) -> Result<Exp, No
 pub fn one_rule(alloc: Global, pat: Pat, exp: Exp) -> Result<List<Rule>, NoMemory>
     ensures { IfOk result (λ made. made ≡ spec.one_rule pat exp) }
 {
-    let mut rules = List::new(alloc);
-    rules.add(Rule { pat, exp })?;
-    Ok(rules)
+    one(alloc, Rule { pat, exp })
 }
 
 /// `case subject of rules`
 pub fn case_exp(alloc: Global, at: At, subject: Exp, rules: List<Rule>) -> Result<Exp, NoMemory>
     ensures { IfOk result (λ made. made ≡ spec.case_exp at subject rules) }
 {
-    let function = Boxed::new(alloc, Exp::Fn(rules, at))?;
-    Ok(Exp::App(function, Boxed::new(alloc, subject)?, at))
+    app_exp(alloc, at, Exp::Fn(rules, at), subject)
+}
+
+/// The patterns `true` and `false`.
+fn test_pats(alloc: Global, at: At) -> Result<(Pat, Pat), NoMemory>
+    ensures yes { IfOk result (λ pats. pats.0 ≡ spec.long_pat at (codes "true")) }
+    ensures no { IfOk result (λ pats. pats.1 ≡ spec.long_pat at (codes "false")) }
+{
+    let yes = long_pat(alloc, at, b"true")?;
+    both(yes, long_pat(alloc, at, b"false"))
 }
 
 /// `if test then first else second`
 pub fn if_exp(alloc: Global, at: At, test: Exp, first: Exp, second: Exp) -> Result<Exp, NoMemory>
     ensures { IfOk result (λ made. made ≡ spec.if_exp at test first second) }
 {
-    let mut rules = one_rule(alloc, long_pat(alloc, at, b"true")?, first)?;
-    rules.add(Rule {
-        pat: long_pat(alloc, at, b"false")?,
+    let ((test, first, second), pats) = both((test, first, second), test_pats(alloc, at))?;
+    let yes = Rule {
+        pat: pats.0,
+        exp: first,
+    };
+    let no = Rule {
+        pat: pats.1,
         exp: second,
-    })?;
+    };
+    let (test, rules) = both(test, two(alloc, yes, no))?;
     case_exp(alloc, at, test, rules)
 }
 
@@ -158,7 +179,7 @@ pub fn if_exp(alloc: Global, at: At, test: Exp, first: Exp, second: Exp) -> Resu
 pub fn or_else(alloc: Global, at: At, a: Exp, b: Exp) -> Result<Exp, NoMemory>
     ensures { IfOk result (λ made. made ≡ spec.or_else at a b) }
 {
-    let yes = long_exp(alloc, at, b"true")?;
+    let ((a, b), yes) = both((a, b), long_exp(alloc, at, b"true"))?;
     if_exp(alloc, at, a, yes, b)
 }
 
@@ -166,7 +187,7 @@ pub fn or_else(alloc: Global, at: At, a: Exp, b: Exp) -> Result<Exp, NoMemory>
 pub fn and_also(alloc: Global, at: At, a: Exp, b: Exp) -> Result<Exp, NoMemory>
     ensures { IfOk result (λ made. made ≡ spec.and_also at a b) }
 {
-    let no = long_exp(alloc, at, b"false")?;
+    let ((a, b), no) = both((a, b), long_exp(alloc, at, b"false"))?;
     if_exp(alloc, at, a, b, no)
 }
 
@@ -174,7 +195,7 @@ pub fn and_also(alloc: Global, at: At, a: Exp, b: Exp) -> Result<Exp, NoMemory>
 fn then_exp(alloc: Global, at: At, a: Exp, b: Exp) -> Result<Exp, NoMemory>
     ensures { IfOk result (λ made. made ≡ spec.then_exp at a b) }
 {
-    let rules = one_rule(alloc, Pat::Wild(at), b)?;
+    let (a, rules) = both(a, one_rule(alloc, Pat::Wild(at), b))?;
     case_exp(alloc, at, a, rules)
 }
 
@@ -182,15 +203,16 @@ fn then_exp(alloc: Global, at: At, a: Exp, b: Exp) -> Result<Exp, NoMemory>
 fn while_call(alloc: Global, at: At) -> Result<Exp, NoMemory>
     ensures { IfOk result (λ made. made ≡ spec.while_call at) }
 {
-    let function = Boxed::new(alloc, long_exp(alloc, at, b"%0")?)?;
-    Ok(Exp::App(function, Boxed::new(alloc, unit_exp(alloc, at))?, at))
+    let function = long_exp(alloc, at, b"%0")?;
+    app_exp(alloc, at, function, unit_exp(alloc, at))
 }
 
 /// The function of a loop.
 fn while_body(alloc: Global, at: At, test: Exp, body: Exp) -> Result<Exp, NoMemory>
     ensures { IfOk result (λ made. made ≡ spec.while_body at test body) }
 {
-    let again = then_exp(alloc, at, body, while_call(alloc, at)?)?;
+    let ((test, body), call) = both((test, body), while_call(alloc, at))?;
+    let (test, again) = both(test, then_exp(alloc, at, body, call))?;
     let step = if_exp(alloc, at, test, again, unit_exp(alloc, at))?;
     let rules = one_rule(alloc, Pat::Record(List::new(alloc), at), step)?;
     Ok(Exp::Fn(rules, at))
@@ -201,7 +223,8 @@ fn while_dec(alloc: Global, at: At, test: Exp, body: Exp) -> Result<Dec, NoMemor
     ensures { IfOk result (λ made. made ≡ spec.while_dec at test body) }
 {
     let body = while_body(alloc, at, test, body)?;
-    let rules = one_rule(alloc, long_pat(alloc, at, b"%0")?, body)?;
+    let (body, name) = both(body, long_pat(alloc, at, b"%0"))?;
+    let rules = one_rule(alloc, name, body)?;
     Ok(Dec::Val(List::new(alloc), List::new(alloc), rules, at))
 }
 
@@ -209,19 +232,19 @@ fn while_dec(alloc: Global, at: At, test: Exp, body: Exp) -> Result<Dec, NoMemor
 pub fn while_exp(alloc: Global, at: At, test: Exp, body: Exp) -> Result<Exp, NoMemory>
     ensures { IfOk result (λ made. made ≡ spec.while_exp at test body) }
 {
-    let mut decs = List::new(alloc);
-    decs.add(while_dec(alloc, at, test, body)?)?;
-    let decs = Boxed::new(alloc, Dec::Sequence(decs, at))?;
-    Ok(Exp::Let(decs, Boxed::new(alloc, while_call(alloc, at)?)?, at))
+    let decs = one(alloc, while_dec(alloc, at, test, body)?)?;
+    let (decs, call) = both(Dec::Sequence(decs, at), while_call(alloc, at))?;
+    let (decs, call) = boxed_two(alloc, decs, call)?;
+    Ok(Exp::Let(decs, call, at))
 }
 
 /// `first :: rest`, of which the `::` isn't written.
 fn cons_exp(alloc: Global, at: At, first: Exp, rest: Exp) -> Result<Exp, NoMemory>
     ensures { IfOk result (λ made. made ≡ spec.cons_exp at first rest) }
 {
-    let pair = Boxed::new(alloc, pair_exp(alloc, at, first, rest)?)?;
-    let function = Boxed::new(alloc, long_exp(alloc, at, b"::")?)?;
-    Ok(Exp::App(function, pair, at))
+    let pair = pair_exp(alloc, at, first, rest)?;
+    let (pair, function) = both(pair, long_exp(alloc, at, b"::"))?;
+    app_exp(alloc, at, function, pair)
 }
 
 /// Where the node behind these items begins: where its item begins, or all of it if the item is the first.
@@ -239,11 +262,10 @@ fn node_place(at: At, before: &[PlacedExp], item: At) -> At
 pub fn list_exp(alloc: Global, at: At, items: Vec<PlacedExp>) -> Result<Exp, NoMemory>
     ensures { IfOk result (λ made. made ≡ spec.list_exp at items.items) }
 {
-    let mut items = items;
-    let mut rest = long_exp(alloc, at, b"nil")?;
+    let (mut items, mut rest) = both(items, long_exp(alloc, at, b"nil"))?;
     while let Some(item) = items.pop() {
         let begin = node_place(at, items.as_slice(), item.at);
-        rest = cons_exp(alloc, begin, item.exp, rest)?;
+        (items, rest) = both(items, cons_exp(alloc, begin, item.exp, rest))?;
     }
     Ok(rest)
 }
@@ -260,7 +282,7 @@ pub fn sequence_exp(alloc: Global, at: At, items: Vec<PlacedExp>) -> Result<Exp,
     let mut rest = last.exp;
     while let Some(item) = items.pop() {
         let begin = node_place(at, items.as_slice(), item.at);
-        rest = then_exp(alloc, begin, item.exp, rest)?;
+        (items, rest) = both(items, then_exp(alloc, begin, item.exp, rest))?;
     }
     Ok(rest)
 }
@@ -288,8 +310,7 @@ fn applied_exp(alloc: Global, function: PlacedExp, arg: PlacedExp) -> Result<Pla
     ensures { IfOk result (λ made. made ≡ spec.applied_exp function arg) }
 {
     let at = function.at;
-    let function = Boxed::new(alloc, function.exp)?;
-    let exp = Exp::App(function, Boxed::new(alloc, arg.exp)?, at);
+    let exp = app_exp(alloc, at, function.exp, arg.exp)?;
     Ok(PlacedExp { at, exp })
 }
 
@@ -344,8 +365,8 @@ pub fn named_exp(alloc: Global, at: At, long: &LongName) -> Result<Exp, NoMemory
 pub fn let_exp(alloc: Global, at: At, dec: Dec, body: Vec<PlacedExp>) -> Result<Exp, NoMemory>
     ensures { IfOk result (λ made. made ≡ bare.Let dec (spec.body_exp at body.items) at) }
 {
-    let dec = Boxed::new(alloc, dec)?;
-    let body = Boxed::new(alloc, body_exp(alloc, at, body)?)?;
+    let (dec, body) = both(dec, body_exp(alloc, at, body))?;
+    let (dec, body) = boxed_two(alloc, dec, body)?;
     Ok(Exp::Let(dec, body, at))
 }
 
@@ -353,15 +374,17 @@ pub fn let_exp(alloc: Global, at: At, dec: Dec, body: Vec<PlacedExp>) -> Result<
 pub fn typed_exp(alloc: Global, at: At, inner: Exp, ty: &FullTy) -> Result<Exp, NoMemory>
     ensures { IfOk result (λ made. made ≡ bare.Typed inner (bare_ty ty.now) at) }
 {
-    let inner = Boxed::new(alloc, inner)?;
-    Ok(Exp::Typed(inner, to_ty(alloc, ty)?, at))
+    let (inner, ty) = both(inner, to_ty(alloc, ty))?;
+    let (inner, ty) = boxed_beside(alloc, inner, ty)?;
+    Ok(Exp::Typed(inner, ty, at))
 }
 
 /// `inner handle rules`
 pub fn handle_exp(alloc: Global, at: At, inner: Exp, rules: List<Rule>) -> Result<Exp, NoMemory>
     ensures { IfOk result (λ made. made ≡ bare.Handle inner rules at) }
 {
-    Ok(Exp::Handle(Boxed::new(alloc, inner)?, rules, at))
+    let (inner, rules) = boxed_beside(alloc, inner, rules)?;
+    Ok(Exp::Handle(inner, rules, at))
 }
 
 /// `raise inner`

@@ -1,6 +1,6 @@
 //! Parts of declarations and structures that stand beside their trees.
 
-ghost use Rattle.std.specs.Prelude.{◌≡◌, ◌∷◌, ◌++◌, [], IfOk, OnOk, map};
+ghost use Rattle.std.specs.Prelude.{◌≡◌, ◌∷◌, [], IfOk, map};
 ghost use Rattle.derived_forms.specs.Expressions as spec;
 ghost use Rattle.derived_forms.specs.Signatures.{bare_sig};
 ghost use Rattle.derived_forms.specs.Types.{bare_typ_bind, bare_dat_bind, bare_ex_bind};
@@ -9,10 +9,10 @@ ghost use Rattle.sml_syntax.specs.declared.exp.StrExp.TheVariants as str;
 
 use crate::bare::to_list;
 use crate::fun::{args_of, name_of};
+use crate::held::{both, boxed_beside, boxed_two, one, with};
 use crate::name::{copy_long, copy_longs, copy_name, copy_names};
-use crate::node::{BareClause, CountedRule, PlacedExp, PlacedStr};
+use crate::node::{BareClause, CountedRule, PlacedExp, PlacedStr, typed_exp};
 use crate::sig::to_sig;
-use crate::ty::to_ty;
 use cm_base::{Boxed, List, NoMemory};
 use sml_syntax::{
     At, Dec, Exp, FullDatBind, FullDec, FullExBind, FullExp, FullHead, FullSeal, FullSigExp,
@@ -28,8 +28,7 @@ fn result_exp(alloc: Global, ty: &Option<FullTy>, body: PlacedExp) -> Result<Exp
         None => Ok(body.exp),
         Some(ty) => {
             let at = body.at;
-            let exp = Boxed::new(alloc, body.exp)?;
-            Ok(Exp::Typed(exp, to_ty(alloc, ty)?, at))
+            typed_exp(alloc, at, body.exp, ty)
         }
     }
 }
@@ -41,13 +40,10 @@ pub fn sealed(alloc: Global, seal: &Option<FullSeal>, body: PlacedStr) -> Result
     let Some(seal) = seal else {
         return Ok(body.str);
     };
-    let at = body.at;
-    let str = Boxed::new(alloc, body.str)?;
-    let sig = to_sig(alloc, &seal.sig)?;
     if seal.opaque {
-        return Ok(StrExp::Opaque(str, sig, at));
+        return opaque_str(alloc, body.at, body.str, &seal.sig);
     }
-    Ok(StrExp::Transparent(str, sig, at))
+    transparent_str(alloc, body.at, body.str, &seal.sig)
 }
 
 /// A clause of a function.
@@ -60,10 +56,13 @@ pub fn clause_of(
 ) -> Result<BareClause, NoMemory>
     ensures { IfOk result (λ made. made ≡ spec.clause_of head.now ty.now at body) }
 {
+    let body = result_exp(alloc, ty, body)?;
+    let (body, args) = both(body, args_of(alloc, head))?;
+    let ((body, args), name) = both((body, args), copy_name(name_of(head)))?;
     Ok(BareClause {
-        name: copy_name(name_of(head))?,
-        args: List::from_vec(args_of(alloc, head)?),
-        body: result_exp(alloc, ty, body)?,
+        name,
+        args: List::from_vec(args),
+        body,
         at,
     })
 }
@@ -77,10 +76,9 @@ pub fn str_bind_of(
 ) -> Result<StrBind, NoMemory>
     ensures { IfOk result (λ made. made ≡ spec.str_bind_of name.now seal.now body) }
 {
-    Ok(StrBind {
-        name: copy_name(name)?,
-        body: sealed(alloc, seal, body)?,
-    })
+    let body = sealed(alloc, seal, body)?;
+    let (body, name) = both(body, copy_name(name))?;
+    Ok(StrBind { name, body })
 }
 
 /// The bindings of a `val` before its first `rec`, and those from it on.
@@ -96,12 +94,12 @@ fn split_rules(alloc: Global, binds: Vec<CountedRule>) -> Result<(List<Rule>, Li
     let mut begun = false;
     while let Some(bind) = left.pop() {
         if begun {
-            recs.add(bind.rule)?;
+            ((left, plain), recs) = both((left, plain), with(recs, bind.rule))?;
         } else if bind.recs == 0 {
-            plain.add(bind.rule)?;
+            ((left, recs), plain) = both((left, recs), with(plain, bind.rule))?;
         } else {
             begun = true;
-            recs.add(bind.rule)?;
+            ((left, plain), recs) = both((left, plain), with(recs, bind.rule))?;
         }
     }
     Ok((plain, recs))
@@ -117,8 +115,8 @@ pub fn val_dec(
     ensures { IfOk result
         (λ made. made ≡ dec.Val tyvars.now (spec.plain_rules binds.items) (spec.rec_rules binds.items) at ∷ []) }
 {
-    let (plain, recs) = split_rules(alloc, binds)?;
-    one(alloc, Dec::Val(copy_names(alloc, tyvars)?, plain, recs, at))
+    let (rules, tyvars) = both(split_rules(alloc, binds)?, copy_names(alloc, tyvars))?;
+    one(alloc, Dec::Val(tyvars, rules.0, rules.1, at))
 }
 
 /// `val tyvars rec rules`
@@ -130,7 +128,7 @@ pub fn fun_dec(
 ) -> Result<List<Dec>, NoMemory>
     ensures { IfOk result (λ made. made ≡ dec.Val tyvars.now [] rules at ∷ []) }
 {
-    let tyvars = copy_names(alloc, tyvars)?;
+    let (rules, tyvars) = both(rules, copy_names(alloc, tyvars))?;
     one(alloc, Dec::Val(tyvars, List::new(alloc), rules, at))
 }
 
@@ -188,8 +186,8 @@ pub fn structures_dec(alloc: Global, at: At, binds: List<StrBind>) -> Result<Lis
 pub fn local_dec(alloc: Global, at: At, hidden: Dec, shown: Dec) -> Result<List<Dec>, NoMemory>
     ensures { IfOk result (λ made. made ≡ dec.Local hidden shown at ∷ []) }
 {
-    let hidden = Boxed::new(alloc, hidden)?;
-    one(alloc, Dec::Local(hidden, Boxed::new(alloc, shown)?, at))
+    let (hidden, shown) = boxed_two(alloc, hidden, shown)?;
+    one(alloc, Dec::Local(hidden, shown, at))
 }
 
 /// `struct dec end`
@@ -203,8 +201,8 @@ pub fn struct_of(alloc: Global, at: At, dec: Dec) -> Result<StrExp, NoMemory>
 pub fn within_str(alloc: Global, at: At, dec: Dec, body: StrExp) -> Result<StrExp, NoMemory>
     ensures { IfOk result (λ made. made ≡ str.Within dec body at) }
 {
-    let dec = Boxed::new(alloc, dec)?;
-    Ok(StrExp::Within(dec, Boxed::new(alloc, body)?, at))
+    let (dec, body) = boxed_two(alloc, dec, body)?;
+    Ok(StrExp::Within(dec, body, at))
 }
 
 /// `body : sig`
@@ -216,16 +214,18 @@ pub fn transparent_str(
 ) -> Result<StrExp, NoMemory>
     ensures { IfOk result (λ made. made ≡ str.Transparent body (bare_sig sig.now) at) }
 {
-    let body = Boxed::new(alloc, body)?;
-    Ok(StrExp::Transparent(body, to_sig(alloc, sig)?, at))
+    let (body, sig) = both(body, to_sig(alloc, sig))?;
+    let (body, sig) = boxed_beside(alloc, body, sig)?;
+    Ok(StrExp::Transparent(body, sig, at))
 }
 
 /// `body :> sig`
 pub fn opaque_str(alloc: Global, at: At, body: StrExp, sig: &FullSigExp) -> Result<StrExp, NoMemory>
     ensures { IfOk result (λ made. made ≡ str.Opaque body (bare_sig sig.now) at) }
 {
-    let body = Boxed::new(alloc, body)?;
-    Ok(StrExp::Opaque(body, to_sig(alloc, sig)?, at))
+    let (body, sig) = both(body, to_sig(alloc, sig))?;
+    let (body, sig) = boxed_beside(alloc, body, sig)?;
+    Ok(StrExp::Opaque(body, sig, at))
 }
 
 /// Where the first declaration stands.
@@ -307,24 +307,7 @@ pub fn place_of_str(str: &FullStrExp) -> At
 pub fn functor_str(alloc: Global, at: At, name: &Name, arg: StrExp) -> Result<StrExp, NoMemory>
     ensures { IfOk result (λ made. made ≡ str.Functor name.now arg at) }
 {
-    let arg = Boxed::new(alloc, arg)?;
-    Ok(StrExp::Functor(copy_name(name)?, arg, at))
-}
-
-/// A list of one declaration.
-fn one(alloc: Global, only: Dec) -> Result<List<Dec>, NoMemory>
-    ensures { IfOk result (λ made. made ≡ only ∷ []) }
-{
-    let mut made = List::new(alloc);
-    made.add(only)?;
-    Ok(made)
-}
-
-/// Adds declarations at the end.
-pub fn append(made: &mut Vec<Dec>, more: List<Dec>) -> Result<(), NoMemory>
-    ensures { OnOk result (made.new.items ≡ made.old.items ++ more) }
-{
-    let mut more = more.into_vec();
-    made.append(&mut more)?;
-    Ok(())
+    let (arg, name) = both(arg, copy_name(name))?;
+    let (arg, name) = boxed_beside(alloc, arg, name)?;
+    Ok(StrExp::Functor(name, arg, at))
 }

@@ -6,11 +6,13 @@ ghost use Rattle.derived_forms.specs.Types.{bare_ty};
 ghost use Rattle.derived_forms.specs.Patterns as spec;
 ghost use Rattle.derived_forms.specs.Patterns.{joined_pat};
 ghost use Rattle.derived_forms.specs.Runs.{applied_to, run_of};
+ghost use Rattle.sml_syntax.specs.declared.pat.Pat.TheVariants as bare;
 
-use crate::name::{copy_long, copy_name, label, long_of_name, long_of_text, place};
-use crate::run::{Infix, Operand, bind_all};
+use crate::held::{both, boxed_beside, pushed, two, with};
+use crate::name::{copy_long, copy_name, label, long_of_name, long_of_text, pair_labels, place};
+use crate::run::{Operand, bind_all, operator_of};
 use crate::ty::{to_optional_ty, to_ty};
-use cm_base::{Boxed, List, NoMemory};
+use cm_base::{List, NoMemory};
 use sml_syntax::{At, Constant, FullPat, FullPatField, FullPatItem, FullTy, Name, Pat, PatField};
 use std::alloc::Global;
 
@@ -32,8 +34,9 @@ impl Operand for PlacedPat {
     ) -> Result<PlacedPat, NoMemory> {
         let at = left.at;
         let pair = pair_pat(alloc, at, left.pat, right.pat)?;
-        let con = long_of_name(alloc, &operator)?;
-        let pat = Pat::Con(con, Boxed::new(alloc, pair)?, at);
+        let (pair, con) = both(pair, long_of_name(alloc, &operator))?;
+        let (pair, con) = boxed_beside(alloc, pair, con)?;
+        let pat = Pat::Con(con, pair, at);
         Ok(PlacedPat { at, pat })
     }
 }
@@ -51,16 +54,16 @@ fn constant_pat(constant: &Constant, at: At) -> Result<Pat, NoMemory>
 pub fn pair_pat(alloc: Global, at: At, first: Pat, second: Pat) -> Result<Pat, NoMemory>
     ensures { IfOk result (λ made. made ≡ spec.pair_pat at first second) }
 {
-    let mut fields = List::new(alloc);
-    fields.add(PatField {
-        label: label(alloc, at, 1)?,
+    let ((first, second), labels) = both((first, second), pair_labels(alloc, at))?;
+    let first = PatField {
+        label: labels.0,
         pat: first,
-    })?;
-    fields.add(PatField {
-        label: label(alloc, at, 2)?,
+    };
+    let second = PatField {
+        label: labels.1,
         pat: second,
-    })?;
-    Ok(Pat::Record(fields, at))
+    };
+    Ok(Pat::Record(two(alloc, first, second)?, at))
 }
 
 /// `first :: rest`, of which the `::` isn't written.
@@ -68,8 +71,9 @@ fn cons_pat(alloc: Global, at: At, first: Pat, rest: Pat) -> Result<Pat, NoMemor
     ensures { IfOk result (λ made. made ≡ spec.cons_pat at first rest) }
 {
     let pair = pair_pat(alloc, at, first, rest)?;
-    let con = long_of_text(alloc, at, b"::")?;
-    Ok(Pat::Con(con, Boxed::new(alloc, pair)?, at))
+    let (pair, con) = both(pair, long_of_text(alloc, at, b"::"))?;
+    let (pair, con) = boxed_beside(alloc, pair, con)?;
+    Ok(Pat::Con(con, pair, at))
 }
 
 /// Where the `::` behind these items begins: where its item begins, or the list if it is the first.
@@ -87,11 +91,11 @@ fn cons_place(at: At, before: &[PlacedPat], item: At) -> At
 fn list_pat(alloc: Global, at: At, items: Vec<PlacedPat>) -> Result<Pat, NoMemory>
     ensures { IfOk result (λ made. made ≡ spec.list_pat at items.items) }
 {
-    let mut items = items;
-    let mut rest = Pat::Long(long_of_text(alloc, at, b"nil")?, at);
+    let (mut items, nil) = both(items, long_of_text(alloc, at, b"nil"))?;
+    let mut rest = Pat::Long(nil, at);
     while let Some(item) = items.pop() {
         let begin = cons_place(at, items.as_slice(), item.at);
-        rest = cons_pat(alloc, begin, item.pat, rest)?;
+        (items, rest) = both(items, cons_pat(alloc, begin, item.pat, rest))?;
     }
     Ok(rest)
 }
@@ -103,7 +107,8 @@ fn applied_pat(alloc: Global, con: PlacedPat, arg: PlacedPat) -> Result<PlacedPa
     let at = con.at;
     match con.pat {
         Pat::Long(long, _) => {
-            let pat = Pat::Con(long, Boxed::new(alloc, arg.pat)?, at);
+            let (arg, long) = boxed_beside(alloc, arg.pat, long)?;
+            let pat = Pat::Con(long, arg, at);
             Ok(PlacedPat { at, pat })
         }
         pat => Ok(PlacedPat { at, pat }),
@@ -133,6 +138,38 @@ fn operand(at: At, begun: Option<PlacedPat>) -> PlacedPat
     }
 }
 
+/// A pattern with its place.
+fn placed(at: At, pat: Pat) -> PlacedPat
+    ensures { result ≡ spec.placed at pat }
+{
+    PlacedPat { at, pat }
+}
+
+/// `inner : ty`
+fn typed_pat(alloc: Global, at: At, inner: Pat, ty: &FullTy) -> Result<Pat, NoMemory>
+    ensures { IfOk result (λ made. made ≡ bare.Typed inner (bare_ty ty.now) at) }
+{
+    let (inner, ty) = both(inner, to_ty(alloc, ty))?;
+    let (inner, ty) = boxed_beside(alloc, inner, ty)?;
+    Ok(Pat::Typed(inner, ty, at))
+}
+
+/// `name as inner` or `name : ty as inner`
+fn as_pat(
+    alloc: Global,
+    at: At,
+    name: &Name,
+    ty: &Option<FullTy>,
+    inner: Pat,
+) -> Result<Pat, NoMemory>
+    ensures { IfOk result (λ made. made ≡ bare.As name.now (option_map bare_ty ty.now) inner at) }
+{
+    let (inner, ty) = both(inner, to_optional_ty(alloc, ty))?;
+    let (inner, ty) = boxed_beside(alloc, inner, ty)?;
+    let ((inner, ty), name) = both((inner, ty), copy_name(name))?;
+    Ok(Pat::As(name, ty, inner, at))
+}
+
 /// A pattern without derived forms.
 #[cycle(to_pat)]
 #[tactic(auto, using(crate::proofs::PatLevels::pat_levels))]
@@ -140,56 +177,37 @@ pub fn to_pat(alloc: Global, pat: &FullPat) -> Result<PlacedPat, NoMemory>
     ensures { IfOk result (λ made. made ≡ spec.bare_pat pat.now) }
 {
     match pat {
-        FullPat::Wild(at) => Ok(PlacedPat {
-            at: *at,
-            pat: Pat::Wild(*at),
-        }),
-        FullPat::Constant(constant, at) => Ok(PlacedPat {
-            at: *at,
-            pat: constant_pat(constant, *at)?,
-        }),
-        FullPat::Long(long, at) => Ok(PlacedPat {
-            at: *at,
-            pat: Pat::Long(copy_long(alloc, &long.long)?, *at),
-        }),
-        FullPat::Record(fields, at) => Ok(PlacedPat {
-            at: *at,
-            pat: Pat::Record(to_pat_fields(alloc, fields.as_slice())?, *at),
-        }),
-        FullPat::Unit(at) => Ok(PlacedPat {
-            at: *at,
-            pat: Pat::Record(List::new(alloc), *at),
-        }),
-        FullPat::Tuple(parts, at) => Ok(PlacedPat {
-            at: *at,
-            pat: Pat::Record(to_pat_tuple(alloc, *at, parts.as_slice())?, *at),
-        }),
-        FullPat::Paren(inner, at) => Ok(PlacedPat {
-            at: *at,
-            pat: to_pat(alloc, inner.get())?.pat,
-        }),
-        FullPat::List(items, at) => Ok(PlacedPat {
-            at: *at,
-            pat: list_pat(alloc, *at, to_pats(alloc, items.as_slice())?)?,
-        }),
-        FullPat::Run(items, at) => Ok(PlacedPat {
-            at: *at,
-            pat: to_pat_run(alloc, *at, items.as_slice())?.pat,
-        }),
+        FullPat::Wild(at) => Ok(placed(*at, Pat::Wild(*at))),
+        FullPat::Constant(constant, at) => Ok(placed(*at, constant_pat(constant, *at)?)),
+        FullPat::Long(long, at) => {
+            let long = copy_long(alloc, &long.long)?;
+            Ok(placed(*at, Pat::Long(long, *at)))
+        }
+        FullPat::Record(fields, at) => {
+            let fields = to_pat_fields(alloc, fields.as_slice())?;
+            Ok(placed(*at, Pat::Record(fields, *at)))
+        }
+        FullPat::Unit(at) => Ok(placed(*at, Pat::Record(List::new(alloc), *at))),
+        FullPat::Tuple(parts, at) => {
+            let fields = to_pat_tuple(alloc, *at, parts.as_slice())?;
+            Ok(placed(*at, Pat::Record(fields, *at)))
+        }
+        FullPat::Paren(inner, at) => Ok(placed(*at, to_pat(alloc, inner.get())?.pat)),
+        FullPat::List(items, at) => {
+            let items = to_pats(alloc, items.as_slice())?;
+            Ok(placed(*at, list_pat(alloc, *at, items)?))
+        }
+        FullPat::Run(items, at) => {
+            let run = to_pat_run(alloc, *at, items.as_slice())?;
+            Ok(placed(*at, run.pat))
+        }
         FullPat::Typed(inner, ty, at) => {
-            let inner = Boxed::new(alloc, to_pat(alloc, inner.get())?.pat)?;
-            Ok(PlacedPat {
-                at: *at,
-                pat: Pat::Typed(inner, to_ty(alloc, ty)?, *at),
-            })
+            let inner = to_pat(alloc, inner.get())?;
+            Ok(placed(*at, typed_pat(alloc, *at, inner.pat, ty)?))
         }
         FullPat::As(name, ty, inner, at) => {
-            let inner = Boxed::new(alloc, to_pat(alloc, inner.get())?.pat)?;
-            let ty = to_optional_ty(alloc, ty)?;
-            Ok(PlacedPat {
-                at: *at,
-                pat: Pat::As(copy_name(&name.name)?, ty, inner, *at),
-            })
+            let inner = to_pat(alloc, inner.get())?;
+            Ok(placed(*at, as_pat(alloc, *at, &name.name, ty, inner.pat)?))
         }
     }
 }
@@ -200,7 +218,8 @@ pub fn to_pats(alloc: Global, pats: &[FullPat]) -> Result<Vec<PlacedPat>, NoMemo
 {
     let mut made = Vec::new(alloc);
     for pat in pats {
-        made.push(to_pat(alloc, pat)?)?;
+        let (before, pat) = both(made, to_pat(alloc, pat))?;
+        made = pushed(before, pat)?;
     }
     Ok(made)
 }
@@ -213,10 +232,9 @@ fn to_pat_tuple(alloc: Global, at: At, parts: &[FullPat]) -> Result<List<PatFiel
     let mut made = List::new(alloc);
     let mut number = 1;
     for part in parts {
-        made.add(PatField {
-            label: label(alloc, at, number)?,
-            pat: to_pat(alloc, part)?.pat,
-        })?;
+        let (before, part) = both(made, to_pat(alloc, part))?;
+        let ((before, pat), label) = both((before, part.pat), label(alloc, at, number))?;
+        made = with(before, PatField { label, pat })?;
         number += 1;
     }
     Ok(made)
@@ -228,7 +246,8 @@ fn to_pat_fields(alloc: Global, fields: &[FullPatField]) -> Result<List<PatField
 {
     let mut made = List::new(alloc);
     for field in fields {
-        made.add(to_pat_field(alloc, field)?)?;
+        let (before, field) = both(made, to_pat_field(alloc, field))?;
+        made = with(before, field)?;
     }
     Ok(made)
 }
@@ -239,14 +258,16 @@ fn to_pat_field(alloc: Global, field: &FullPatField) -> Result<PatField, NoMemor
     ensures { IfOk result (λ made. made ≡ spec.bare_pat_field field.now) }
 {
     match field {
-        FullPatField::Labelled(label, pat) => Ok(PatField {
-            label: copy_name(label)?,
-            pat: to_pat(alloc, pat)?.pat,
-        }),
-        FullPatField::Named(name, ty, pat) => Ok(PatField {
-            label: copy_name(name)?,
-            pat: to_named_pat(alloc, name, ty, pat)?,
-        }),
+        FullPatField::Labelled(label, pat) => {
+            let pat = to_pat(alloc, pat)?.pat;
+            let (pat, label) = both(pat, copy_name(label))?;
+            Ok(PatField { label, pat })
+        }
+        FullPatField::Named(name, ty, pat) => {
+            let pat = to_named_pat(alloc, name, ty, pat)?;
+            let (pat, label) = both(pat, copy_name(name))?;
+            Ok(PatField { label, pat })
+        }
     }
 }
 
@@ -263,13 +284,8 @@ fn to_named_pat(
 {
     match pat {
         Some(pat) => {
-            let pat = Boxed::new(alloc, to_pat(alloc, pat)?.pat)?;
-            Ok(Pat::As(
-                copy_name(name)?,
-                to_optional_ty(alloc, ty)?,
-                pat,
-                place(name),
-            ))
+            let inner = to_pat(alloc, pat)?;
+            as_pat(alloc, place(name), name, ty, inner.pat)
         }
         None => named_alone(alloc, name, ty),
     }
@@ -282,7 +298,7 @@ fn named_alone(alloc: Global, name: &Name, ty: &Option<FullTy>) -> Result<Pat, N
     let alone = Pat::Long(long_of_name(alloc, name)?, place(name));
     match ty {
         None => Ok(alone),
-        Some(ty) => Ok(Pat::Typed(Boxed::new(alloc, alone)?, to_ty(alloc, ty)?, place(name))),
+        Some(ty) => typed_pat(alloc, place(name), alone, ty),
     }
 }
 
@@ -298,14 +314,14 @@ fn to_pat_run(alloc: Global, at: At, items: &[FullPatItem]) -> Result<PlacedPat,
     for item in items {
         match item {
             FullPatItem::Atom(pat) => {
-                begun = Some(continued(alloc, begun, to_pat(alloc, pat)?)?);
+                let ((run, con), pat) = both((before, begun), to_pat(alloc, pat))?;
+                let (run, pat) = both(run, continued(alloc, con, pat))?;
+                before = run;
+                begun = Some(pat);
             }
             FullPatItem::Operator(name, fixity) => {
-                let operator = Infix {
-                    name: copy_name(name)?,
-                    fixity: *fixity,
-                };
-                before.push((operand(at, begun), operator))?;
+                let ((run, last), operator) = both((before, begun), operator_of(name, *fixity))?;
+                before = pushed(run, (operand(at, last), operator))?;
                 begun = None;
             }
         }

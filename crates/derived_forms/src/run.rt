@@ -3,6 +3,7 @@
 ghost use Rattle.std.specs.Prelude.{◌≡◌, IfOk, reverse};
 ghost use Rattle.derived_forms.specs.Runs as spec;
 
+use crate::name::copy_name;
 use cm_base::NoMemory;
 use sml_syntax::{Fixity, Name};
 use std::alloc::Global;
@@ -12,6 +13,16 @@ use std::alloc::Global;
 pub struct Infix {
     pub name: Name,
     pub fixity: Fixity,
+}
+
+/// An infix operator by its name.
+pub fn operator_of(name: &Name, fixity: Fixity) -> Result<Infix, NoMemory>
+    ensures { IfOk result (λ made. made ≡ record { name = name.now; fixity = fixity }) }
+{
+    Ok(Infix {
+        name: copy_name(name)?,
+        fixity,
+    })
 }
 
 impl Infix {

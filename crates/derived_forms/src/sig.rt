@@ -1,19 +1,39 @@
 //! Signature expressions and specifications.
 
-ghost use Rattle.std.specs.Prelude.{◌≡◌, ◌++◌, ◌∷◌, [], IfOk, OnOk, map};
+ghost use Rattle.std.specs.Prelude.{◌≡◌, IfOk, map};
 ghost use Rattle.std.specs.List.{flat_map};
 ghost use Rattle.derived_forms.specs.Signatures as spec;
 ghost use Rattle.derived_forms.specs.Types.{plain_desc};
+ghost use Rattle.sml_syntax.specs.declared.sig_exp.SigExp.TheVariants as bare;
+ghost use Rattle.sml_syntax.specs.declared.sig_exp.Spec.TheVariants as bare_spec;
 
 use crate::bare::{Full, to_list};
+use crate::held::{appended, both, boxed_beside, one, with};
 use crate::name::{copy_long, copy_name, copy_names, long_of_name, place};
 use crate::ty::to_ty;
 use cm_base::{Boxed, List, NoMemory};
 use sml_syntax::{
-    At, FullSigBind, FullSigExp, FullSpec, FullTypDesc, FullWhere, Name, SigBind, SigExp, Spec,
-    TypDesc,
+    At, FullSigBind, FullSigExp, FullSpec, FullTypDesc, FullWhere, LongName, Name, SigBind, SigExp,
+    Spec, Ty, TypDesc,
 };
 use std::alloc::Global;
+
+/// `inner where type tyvars long = ty`
+fn with_type(
+    alloc: Global,
+    at: At,
+    inner: SigExp,
+    tyvars: &[Name],
+    long: &LongName,
+    ty: Ty,
+) -> Result<SigExp, NoMemory>
+    ensures { IfOk result (λ made. made ≡ bare.Where inner tyvars.now long.now ty at) }
+{
+    let (inner, ty) = boxed_beside(alloc, inner, ty)?;
+    let ((inner, ty), tyvars) = both((inner, ty), copy_names(alloc, tyvars))?;
+    let ((inner, ty, tyvars), long) = both((inner, ty, tyvars), copy_long(alloc, long))?;
+    Ok(SigExp::Where(inner, tyvars, long, ty, at))
+}
 
 /// A signature with types for names of it, the first innermost.
 fn where_sig(alloc: Global, at: At, inner: SigExp, wheres: &[FullWhere]) -> Result<SigExp, NoMemory>
@@ -21,15 +41,8 @@ fn where_sig(alloc: Global, at: At, inner: SigExp, wheres: &[FullWhere]) -> Resu
 {
     let mut made = inner;
     for each in wheres {
-        let tyvars = copy_names(alloc, each.tyvars.as_slice())?;
-        let ty = to_ty(alloc, &each.ty)?;
-        made = SigExp::Where(
-            Boxed::new(alloc, made)?,
-            tyvars,
-            copy_long(alloc, &each.long)?,
-            ty,
-            at,
-        );
+        let (inner, ty) = both(made, to_ty(alloc, &each.ty))?;
+        made = with_type(alloc, at, inner, each.tyvars.as_slice(), &each.long, ty)?;
     }
     Ok(made)
 }
@@ -38,18 +51,23 @@ fn where_sig(alloc: Global, at: At, inner: SigExp, wheres: &[FullWhere]) -> Resu
 fn one_type(alloc: Global, at: At, desc: TypDesc) -> Result<Spec, NoMemory>
     ensures { IfOk result (λ made. made ≡ spec.one_type at desc) }
 {
-    let mut descs = List::new(alloc);
-    descs.add(desc)?;
-    Ok(Spec::Types(descs, at))
+    Ok(Spec::Types(one(alloc, desc)?, at))
+}
+
+/// `sig specs end`
+pub fn sig_of(alloc: Global, at: At, specs: List<Spec>) -> Result<SigExp, NoMemory>
+    ensures { IfOk result (λ made. made ≡ bare.Sig (bare_spec.Sequence specs at) at) }
+{
+    let specs = Boxed::new(alloc, Spec::Sequence(specs, at))?;
+    Ok(SigExp::Sig(specs, at))
 }
 
 /// `sig type desc end`
 fn type_sig(alloc: Global, at: At, desc: TypDesc) -> Result<SigExp, NoMemory>
     ensures { IfOk result (λ made. made ≡ spec.type_sig at desc) }
 {
-    let mut specs = List::new(alloc);
-    specs.add(one_type(alloc, at, desc)?)?;
-    Ok(SigExp::Sig(Boxed::new(alloc, Spec::Sequence(specs, at))?, at))
+    let specs = one(alloc, one_type(alloc, at, desc)?)?;
+    sig_of(alloc, at, specs)
 }
 
 /// The specification of one type, which may stand for another.
@@ -60,10 +78,9 @@ fn single_spec(alloc: Global, at: At, desc: &FullTypDesc) -> Result<Spec, NoMemo
     match &desc.ty {
         None => one_type(alloc, at, plain),
         Some(ty) => {
-            let inner = Boxed::new(alloc, type_sig(alloc, at, plain)?)?;
-            let tyvars = copy_names(alloc, desc.tyvars.as_slice())?;
             let long = long_of_name(alloc, &desc.name)?;
-            let sig = SigExp::Where(inner, tyvars, long, to_ty(alloc, ty)?, at);
+            let (inner, ty) = both(type_sig(alloc, at, plain)?, to_ty(alloc, ty))?;
+            let sig = with_type(alloc, at, inner, desc.tyvars.as_slice(), &long, ty)?;
             Ok(Spec::Include(Boxed::new(alloc, sig)?, at))
         }
     }
@@ -81,69 +98,15 @@ pub fn has_type(descs: &[FullTypDesc]) -> bool
     false
 }
 
-/// Adds each type's specification by itself.
-fn add_single_specs(
-    alloc: Global,
-    made: &mut List<Spec>,
-    at: At,
-    descs: &[FullTypDesc],
-) -> Result<(), NoMemory>
-    ensures { OnOk result (made.new ≡ made.old ++ map (spec.single_of at) descs.now) }
-{
-    for desc in descs {
-        made.add(single_spec(alloc, at, desc)?)?;
-    }
-    Ok(())
-}
-
-/// Adds the specification of types.
-fn add_types(
-    alloc: Global,
-    made: &mut List<Spec>,
-    at: At,
-    descs: &List<FullTypDesc>,
-) -> Result<(), NoMemory>
-    ensures { OnOk result (made.new ≡ made.old ++ spec.type_specs at descs.now) }
-{
-    if has_type(descs.as_slice()) {
-        return add_single_specs(alloc, made, at, descs.as_slice());
-    }
-    made.add(Spec::Types(to_list(alloc, descs)?, at))
-}
-
-/// Adds `include name`.
-fn add_include(alloc: Global, made: &mut List<Spec>, at: At, name: &Name) -> Result<(), NoMemory>
-    ensures { OnOk result (made.new ≡ made.old ++ spec.include_name at name.now ∷ []) }
-{
-    let named = Boxed::new(alloc, SigExp::Named(copy_name(name)?, place(name)))?;
-    made.add(Spec::Include(named, at))
-}
-
-/// Adds `include` with each name by itself, the first where the specification begins.
-fn add_includes(
-    alloc: Global,
-    made: &mut List<Spec>,
-    at: At,
-    names: &[Name],
-) -> Result<(), NoMemory>
-    ensures { OnOk result (made.new ≡ made.old ++ spec.include_names at names.now) }
-{
-    let [first, others @ ..] = names else {
-        return Ok(());
-    };
-    add_include(alloc, made, at, first)?;
-    for name in others {
-        add_include(alloc, made, place(name), name)?;
-    }
-    Ok(())
-}
-
-/// A list of one specification.
-fn one(alloc: Global, only: Spec) -> Result<List<Spec>, NoMemory>
-    ensures { IfOk result (λ made. made ≡ only ∷ []) }
+/// Each type's specification by itself.
+fn single_specs(alloc: Global, at: At, descs: &[FullTypDesc]) -> Result<List<Spec>, NoMemory>
+    ensures { IfOk result (λ made. made ≡ map (spec.single_of at) descs.now) }
 {
     let mut made = List::new(alloc);
-    made.add(only)?;
+    for desc in descs {
+        let (before, single) = both(made, single_spec(alloc, at, desc))?;
+        made = with(before, single)?;
+    }
     Ok(made)
 }
 
@@ -151,27 +114,33 @@ fn one(alloc: Global, only: Spec) -> Result<List<Spec>, NoMemory>
 fn types(alloc: Global, at: At, descs: &List<FullTypDesc>) -> Result<List<Spec>, NoMemory>
     ensures { IfOk result (λ made. made ≡ spec.type_specs at descs.now) }
 {
-    let mut made = List::new(alloc);
-    add_types(alloc, &mut made, at, descs)?;
-    Ok(made)
+    if has_type(descs.as_slice()) {
+        return single_specs(alloc, at, descs.as_slice());
+    }
+    one(alloc, Spec::Types(to_list(alloc, descs)?, at))
 }
 
-/// An `include` for each name.
+/// `include name`
+fn include(alloc: Global, at: At, name: &Name) -> Result<Spec, NoMemory>
+    ensures { IfOk result (λ made. made ≡ spec.include_name at name.now) }
+{
+    let named = Boxed::new(alloc, SigExp::Named(copy_name(name)?, place(name)))?;
+    Ok(Spec::Include(named, at))
+}
+
+/// `include` with each name by itself, the first where the specification begins.
 fn includes(alloc: Global, at: At, names: &[Name]) -> Result<List<Spec>, NoMemory>
     ensures { IfOk result (λ made. made ≡ spec.include_names at names.now) }
 {
-    let mut made = List::new(alloc);
-    add_includes(alloc, &mut made, at, names)?;
+    let [first, others @ ..] = names else {
+        return Ok(List::new(alloc));
+    };
+    let mut made = one(alloc, include(alloc, at, first)?)?;
+    for name in others {
+        let (before, include) = both(made, include(alloc, place(name), name))?;
+        made = with(before, include)?;
+    }
     Ok(made)
-}
-
-/// Adds specifications at the end.
-fn append(made: &mut Vec<Spec>, more: List<Spec>) -> Result<(), NoMemory>
-    ensures { OnOk result (made.new.items ≡ made.old.items ++ more) }
-{
-    let mut more = more.into_vec();
-    made.append(&mut more)?;
-    Ok(())
 }
 
 /// A signature expression without derived forms.
@@ -183,7 +152,7 @@ pub fn to_sig(alloc: Global, sig: &FullSigExp) -> Result<SigExp, NoMemory>
     match sig {
         FullSigExp::Sig(specs, at) => {
             let specs = to_specs(alloc, specs.as_slice())?;
-            Ok(SigExp::Sig(Boxed::new(alloc, Spec::Sequence(specs, *at))?, *at))
+            sig_of(alloc, *at, specs)
         }
         FullSigExp::Named(name, at) => Ok(SigExp::Named(copy_name(name)?, *at)),
         FullSigExp::Where(inner, wheres, at) => {
@@ -200,7 +169,8 @@ pub fn to_specs(alloc: Global, specs: &[FullSpec]) -> Result<List<Spec>, NoMemor
 {
     let mut made = Vec::new(alloc);
     for spec in specs {
-        append(&mut made, to_spec(alloc, spec)?)?;
+        let (before, more) = both(made, to_spec(alloc, spec))?;
+        made = appended(before, more)?;
     }
     Ok(List::from_vec(made))
 }
@@ -253,15 +223,22 @@ fn copied(alloc: Global, descs: &List<TypDesc>) -> Result<List<TypDesc>, NoMemor
 
 #[cycle(to_sig)]
 #[tactic(auto, using(crate::proofs::SigLevels::sig_levels))]
+fn to_sig_bind(alloc: Global, bind: &FullSigBind) -> Result<SigBind, NoMemory>
+    ensures { IfOk result (λ made. made ≡ spec.bare_sig_bind bind.now) }
+{
+    let sig = to_sig(alloc, &bind.sig)?;
+    let (sig, name) = both(sig, copy_name(&bind.name))?;
+    Ok(SigBind { name, sig })
+}
+
+#[cycle(to_sig)]
 pub fn to_sig_binds(alloc: Global, binds: &[FullSigBind]) -> Result<List<SigBind>, NoMemory>
     ensures { IfOk result (λ made. made ≡ map spec.bare_sig_bind binds.now) }
 {
     let mut made = List::new(alloc);
     for bind in binds {
-        made.add(SigBind {
-            name: copy_name(&bind.name)?,
-            sig: to_sig(alloc, &bind.sig)?,
-        })?;
+        let (before, bind) = both(made, to_sig_bind(alloc, bind))?;
+        made = with(before, bind)?;
     }
     Ok(made)
 }

@@ -3,11 +3,21 @@
 ghost use Rattle.std.specs.Prelude.{◌≡◌, IfOk, map};
 ghost use Rattle.std.specs.Option.{option_map};
 ghost use Rattle.derived_forms.specs.Types.{ty_fields_from, bare_ty, bare_ty_field};
+ghost use Rattle.sml_syntax.specs.declared.ty.Ty.TheVariants as bare;
 
+use crate::held::{both, boxed_two, one, with};
 use crate::name::{copy_long, copy_name, label};
-use cm_base::{Boxed, List, NoMemory};
-use sml_syntax::{At, FullTy, FullTyField, Ty, TyField};
+use cm_base::{List, NoMemory};
+use sml_syntax::{At, FullTy, FullTyField, LongName, Ty, TyField};
 use std::alloc::Global;
+
+/// A type constructor with its arguments.
+fn named_ty(alloc: Global, at: At, args: List<Ty>, long: &LongName) -> Result<Ty, NoMemory>
+    ensures { IfOk result (λ made. made ≡ bare.Named args long.now at) }
+{
+    let (args, long) = both(args, copy_long(alloc, long))?;
+    Ok(Ty::Named(args, long, at))
+}
 
 /// A type without derived forms.
 #[cycle(to_ty)]
@@ -18,23 +28,19 @@ pub fn to_ty(alloc: Global, ty: &FullTy) -> Result<Ty, NoMemory>
     match ty {
         FullTy::Var(name, at) => Ok(Ty::Var(copy_name(name)?, *at)),
         FullTy::Record(fields, at) => Ok(Ty::Record(to_ty_fields(alloc, fields.as_slice())?, *at)),
-        FullTy::Con(long, at) => Ok(Ty::Named(List::new(alloc), copy_long(alloc, long)?, *at)),
+        FullTy::Con(long, at) => named_ty(alloc, *at, List::new(alloc), long),
         FullTy::Applied(arg, long, at) => {
-            let mut args = List::new(alloc);
-            args.add(to_ty(alloc, arg.get())?)?;
-            Ok(Ty::Named(args, copy_long(alloc, long)?, *at))
+            let args = one(alloc, to_ty(alloc, arg.get())?)?;
+            named_ty(alloc, *at, args, long)
         }
         FullTy::AppliedAll(args, long, at) => {
-            Ok(Ty::Named(
-                to_tys(alloc, args.as_slice())?,
-                copy_long(alloc, long)?,
-                *at,
-            ))
+            named_ty(alloc, *at, to_tys(alloc, args.as_slice())?, long)
         }
         FullTy::Tuple(parts, at) => Ok(Ty::Record(to_ty_tuple(alloc, *at, parts.as_slice())?, *at)),
         FullTy::Arrow(from, to, at) => {
-            let from = Boxed::new(alloc, to_ty(alloc, from.get())?)?;
-            let to = Boxed::new(alloc, to_ty(alloc, to.get())?)?;
+            let from = to_ty(alloc, from.get())?;
+            let (from, to) = both(from, to_ty(alloc, to.get()))?;
+            let (from, to) = boxed_two(alloc, from, to)?;
             Ok(Ty::Arrow(from, to, *at))
         }
         FullTy::Paren(inner, _) => to_ty(alloc, inner.get()),
@@ -47,7 +53,8 @@ fn to_tys(alloc: Global, tys: &[FullTy]) -> Result<List<Ty>, NoMemory>
 {
     let mut made = List::new(alloc);
     for ty in tys {
-        made.add(to_ty(alloc, ty)?)?;
+        let (before, ty) = both(made, to_ty(alloc, ty))?;
+        made = with(before, ty)?;
     }
     Ok(made)
 }
@@ -59,10 +66,9 @@ fn to_ty_fields(alloc: Global, fields: &[FullTyField]) -> Result<List<TyField>, 
 {
     let mut made = List::new(alloc);
     for field in fields {
-        made.add(TyField {
-            label: copy_name(&field.label)?,
-            ty: to_ty(alloc, &field.ty)?,
-        })?;
+        let (before, ty) = both(made, to_ty(alloc, &field.ty))?;
+        let ((before, ty), label) = both((before, ty), copy_name(&field.label))?;
+        made = with(before, TyField { label, ty })?;
     }
     Ok(made)
 }
@@ -75,10 +81,9 @@ fn to_ty_tuple(alloc: Global, at: At, parts: &[FullTy]) -> Result<List<TyField>,
     let mut made = List::new(alloc);
     let mut number = 1;
     for part in parts {
-        made.add(TyField {
-            label: label(alloc, at, number)?,
-            ty: to_ty(alloc, part)?,
-        })?;
+        let (before, ty) = both(made, to_ty(alloc, part))?;
+        let ((before, ty), label) = both((before, ty), label(alloc, at, number))?;
+        made = with(before, TyField { label, ty })?;
         number += 1;
     }
     Ok(made)

@@ -9,14 +9,15 @@ ghost use Rattle.sml_syntax.specs.declared.full_unit.FullParam.TheVariants as fu
 
 use crate::bare::{Full, to_list};
 use crate::exp::{to_str, to_str_binds};
+use crate::held::{both, one};
 use crate::name::{copy_name, long_of_text};
 use crate::node::PlacedStr;
 use crate::part::{place_of_str, sealed, within_str};
-use crate::sig::{to_sig, to_sig_binds, to_specs};
-use cm_base::{Boxed, List, NoMemory, Text};
+use crate::sig::{sig_of, to_sig, to_sig_binds, to_specs};
+use cm_base::{NoMemory, Text};
 use sml_syntax::{
     At, BareUnit, Dec, FullFunctorBind, FullFunsigBind, FullParam, FullSigExp, FullSpec,
-    FullTopDec, FullUnit, FunBind, FunsigBind, Name, SigExp, Spec, StrExp, TopDec,
+    FullTopDec, FullUnit, FunBind, FunsigBind, Name, SigExp, StrExp, TopDec,
 };
 use std::alloc::Global;
 
@@ -24,10 +25,8 @@ use std::alloc::Global;
 fn open_param(alloc: Global, at: At) -> Result<Dec, NoMemory>
     ensures { IfOk result (λ made. made ≡ dec.Sequence (dec.Open (long_at at spec.param_text ∷ []) at ∷ []) at) }
 {
-    let mut longs = List::new(alloc);
-    longs.add(long_of_text(alloc, at, b"%S")?)?;
-    let mut decs = List::new(alloc);
-    decs.add(Dec::Open(longs, at))?;
+    let longs = one(alloc, long_of_text(alloc, at, b"%S")?)?;
+    let decs = one(alloc, Dec::Open(longs, at))?;
     Ok(Dec::Sequence(decs, at))
 }
 
@@ -46,16 +45,15 @@ fn opened_body(alloc: Global, bind: &FullFunctorBind) -> Result<StrExp, NoMemory
         spec.opening (bare_str bind.now.body).at (sealed bind.now.seal (bare_str bind.now.body))) }
 {
     let at = place_of_str(&bind.body);
-    let open = open_param(alloc, at)?;
-    within_str(alloc, at, open, body_of(alloc, bind)?)
+    let (open, body) = both(open_param(alloc, at)?, body_of(alloc, bind))?;
+    within_str(alloc, at, open, body)
 }
 
 /// `sig specs end`
 fn sig_of_specs(alloc: Global, at: At, specs: &[FullSpec]) -> Result<SigExp, NoMemory>
     ensures { IfOk result (λ made. made ≡ spec.spec_sig at specs.now) }
 {
-    let specs = to_specs(alloc, specs)?;
-    Ok(SigExp::Sig(Boxed::new(alloc, Spec::Sequence(specs, at))?, at))
+    sig_of(alloc, at, to_specs(alloc, specs)?)
 }
 
 /// A functor of a named structure.
@@ -69,8 +67,7 @@ fn named(
 {
     let name = copy_name(&bind.name)?;
     let param = copy_name(param)?;
-    let param_sig = to_sig(alloc, sig)?;
-    let body = body_of(alloc, bind)?;
+    let (param_sig, body) = both(to_sig(alloc, sig)?, body_of(alloc, bind))?;
     Ok(FunBind {
         name,
         param,
@@ -94,8 +91,7 @@ fn specified(
         line: at.line,
         col: at.col,
     };
-    let param_sig = sig_of_specs(alloc, at, specs)?;
-    let body = opened_body(alloc, bind)?;
+    let (param_sig, body) = both(sig_of_specs(alloc, at, specs)?, opened_body(alloc, bind))?;
     Ok(FunBind {
         name,
         param,
@@ -127,11 +123,15 @@ impl Full for FullFunsigBind {
     ghost bare = { bare_funsig };
 
     fn to_bare(&self, alloc: Global) -> Result<FunsigBind, NoMemory> {
+        let name = copy_name(&self.name)?;
+        let param = copy_name(&self.param)?;
+        let param_sig = to_sig(alloc, &self.param_sig)?;
+        let (param_sig, result_sig) = both(param_sig, to_sig(alloc, &self.result_sig))?;
         Ok(FunsigBind {
-            name: copy_name(&self.name)?,
-            param: copy_name(&self.param)?,
-            param_sig: to_sig(alloc, &self.param_sig)?,
-            result_sig: to_sig(alloc, &self.result_sig)?,
+            name,
+            param,
+            param_sig,
+            result_sig,
         })
     }
 }

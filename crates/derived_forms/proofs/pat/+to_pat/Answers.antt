@@ -1,26 +1,35 @@
-use Rattle.std.proofs.Common.{◌≡◌, IfOk, refl, subst, arith}
+use Rattle.std.proofs.Common.{◌≡◌, IfOk, refl, subst, ◌∙◌, arith}
 use Rattle.std.proofs.lemmas.Grind.{common_steps}
-use Rattle.sml_syntax.specs.declared.full_pat.FullPatItem.{FullPatItem}
 use Rattle.derived_forms.specs.Patterns.{joined_pat, applied_pat, missing_pat, bare_pat_item}
 use Rattle.derived_forms.proofs.Bound.{atom_step, operator_step, run_end}
+use Rattle.derived_forms.proofs.Pairs.{pair_first, pair_second, pushed_is}
 use Rattle.derived_forms.proofs.PatLevels.{bare_pat_item-Atom, bare_pat_item-Operator}
 use Rattle.derived_forms.proofs.pat.+to_pat.Goals as goal
-use Rattle.derived_forms.proofs.pat.+to_pat.Goals.{to_pat_run-in-Atom+in_ok-to_pat-in-Atom+in_ok-continued-in-Atom, to_pat_run-in-Operator+in_ok-copy_name-in-Operator+in_ok-push-in-Operator}
+use Rattle.derived_forms.proofs.pat.+to_pat.Goals.{to_pat_run-in-Atom+in_ok-run-in-Atom+in_ok-run-in-Atom-2, to_pat_run-in-Operator+in_ok-run-in-Operator+in_ok-before-in-Operator}
 
 pub to_pat_run-loop-item-preserved : goal.to_pat_run-loop-item-preserved
 to_pat_run-loop-item-preserved t c = elim c.match-item.branch [
-  | to_pat_run-in-Atom+in_ok-to_pat-in-Atom+in_ok-continued-in-Atom w ↦
+  | to_pat_run-in-Atom+in_ok-run-in-Atom+in_ok-run-in-Atom-2 w ↦
+      let held = w.in_ok-run-in-Atom.ensures.held in
       atom_step joined_pat applied_pat (missing_pat c.args.at) bare_pat_item c.args.items.now c.loop-item.item-index
-      c.item-item.result w.in_ok-to_pat-in-Atom.field-0 w.in_ok-continued-in-Atom.field-0 c.loop-item.before.items
+      c.item-item.result w.in_ok-run-in-Atom.pat w.in_ok-run-in-Atom-2.pat c.loop-item.before.items
       c.match-item.before.items c.loop-item.begun c.match-item.begun _ c.loop-item-test.true c.item-item.is
-      (grind (arith, common_steps, w.in-Atom.is, bare_pat_item-Atom, w.in_ok-to_pat-in-Atom.ensures))
-      w.in_ok-continued-in-Atom.ensures w.begun-is (rw w.before-is refl) c.loop-item.invariant
-  | to_pat_run-in-Operator+in_ok-copy_name-in-Operator+in_ok-push-in-Operator w ↦
+      (grind (arith, common_steps, w.in-Atom.is, bare_pat_item-Atom, w.in_ok-run-in-Atom.ensures.made, w.to_pat.ensures))
+      (grind (arith, common_steps, pair_second _ _ _ _ held, w.in_ok-run-in-Atom-2.ensures.made, w.continued.ensures))
+      w.begun-is
+      (rw (w.before-is ∙ w.in_ok-run-in-Atom-2.ensures.held ∙ pair_first _ _ _ _ held) refl)
+      c.loop-item.invariant
+  | to_pat_run-in-Operator+in_ok-run-in-Operator+in_ok-before-in-Operator w ↦
+      let held = w.in_ok-run-in-Operator.ensures.held in
       operator_step joined_pat applied_pat (missing_pat c.args.at) bare_pat_item c.args.items.now c.loop-item.item-index
-      c.item-item.result (record { name = w.in-Operator.name; fixity = w.in-Operator.fixity }) c.loop-item.before.items
-      c.match-item.before.items c.loop-item.begun c.match-item.begun _ c.loop-item-test.true c.item-item.is
-      (grind (arith, common_steps, w.in-Operator.is, bare_pat_item-Operator)) w.begun-is
-      (grind (arith, common_steps, w.before-is, w.operand.ensures, w.in_ok-copy_name-in-Operator.ensures, w.in_ok-push-in-Operator.ensures))
+      c.item-item.result w.in_ok-run-in-Operator.operator c.loop-item.before.items c.match-item.before.items
+      c.loop-item.begun c.match-item.begun _ c.loop-item-test.true c.item-item.is
+      (grind (arith, common_steps, w.in-Operator.is, bare_pat_item-Operator, w.in_ok-run-in-Operator.ensures.made, w.operator_of.ensures))
+      w.begun-is
+      (rw w.before-is
+      (pushed_is w.in_ok-before-in-Operator.before.items _ c.loop-item.before.items _ c.loop-item.begun
+      w.operand.result (missing_pat c.args.at) w.in_ok-run-in-Operator.operator w.in_ok-before-in-Operator.ensures
+      (rw (pair_first _ _ _ _ held) refl) w.operand.ensures (pair_second _ _ _ _ held)))
       c.loop-item.invariant
 ]
 

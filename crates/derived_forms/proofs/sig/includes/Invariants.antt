@@ -1,6 +1,6 @@
 use Rattle.std.proofs.Common.{◌≡◌, ◌++◌, drop, map}
 use Rattle.derived_forms.specs.Signatures.{other_include}
-use Rattle.derived_forms.proofs.sig.add_includes.Given as goal
+use Rattle.derived_forms.proofs.sig.includes.Given as goal
 
 -- what is made, and the names that are left
 abbrev pub invariant-loop-name : goal.invariant-loop-name
