@@ -87,3 +87,5 @@ mod sizes;
 mod ten;
 #[cfg(test)]
 mod tests;
+#[cfg(test)]
+mod whole_sources;

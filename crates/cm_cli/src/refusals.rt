@@ -1,4 +1,4 @@
-use crate::rows::{build, length_of, put, run, two_sources};
+use crate::rows::{build, halves, length_of, put, run, two_sources, unfolded};
 use cm_base::MemSink;
 use cm_top::Status;
 use std::alloc::Global;
@@ -26,18 +26,22 @@ fn words_that_mean_nothing(rt: HostRuntime) -> Result<(), Fail> {
     Ok(())
 }
 
-/// A file that is put beside the two sources, the description that is built, and what is printed.
-type Row = (&'static [u8], &'static [u8], &'static str, &'static [u8]);
-
-/// Builds the description of each row.
-fn refuse(rt: &impl Abort, alloc: Global, rows: &[Row]) -> Result<(), Fail> {
-    for (path, bytes, root, line) in rows {
+/// Builds the description of each row of a table. A row is a line: the name of a file that is put beside the two sources,
+/// its text, the description that is built, with bars between, and behind an arrow what is printed.
+fn refuse(rt: &impl Abort, alloc: Global, table: &str) -> Result<(), Fail> {
+    for row in table.trim().lines() {
+        let (given, line) = halves(rt, row, " ==> ");
+        let (path, rest) = halves(rt, given, " | ");
+        let (bytes, root) = halves(rt, rest, " | ");
         let mut files = two_sources(alloc)?;
-        put(&mut files, alloc, path, bytes)?;
+        let bytes = unfolded(alloc, bytes)?;
+        put(&mut files, alloc, path.as_bytes(), bytes.as_slice())?;
         let mut out = MemSink::new(alloc);
         let status = build(alloc, root, &mut files, &mut out)?;
         assert_eq!(rt; status, Status::Diagnostic);
-        assert_eq!(rt; out.bytes(), *line);
+        let mut want = unfolded(alloc, line)?;
+        want.push(b'\n')?;
+        assert_eq!(rt; out.bytes(), want.as_slice(), "at {row}");
         assert_eq!(rt; length_of(&files, alloc, b".cm/linked")?, None);
     }
     Ok(())
@@ -48,21 +52,11 @@ fn a_missing_file(rt: HostRuntime) -> Result<(), Fail> {
     refuse(
         &rt,
         rt.alloc(),
-        &[
-            (b"m.cm", b"", "none.cm", b"command:0:0: error 1 none.cm\n"),
-            (
-                b"m.cm",
-                b"Group is\n  gone.sml\n",
-                "m.cm",
-                b"m.cm:2:3: error 1 gone.sml\n",
-            ),
-            (
-                b"m.cm",
-                b"Group is a.sml\n\tgone.sml no.sml",
-                "m.cm",
-                b"m.cm:2:2: error 1 gone.sml\n",
-            ),
-        ],
+        "
+m.cm |  | none.cm ==> command:0:0: error 1 none.cm
+m.cm | Group is^  gone.sml^ | m.cm ==> m.cm:2:3: error 1 gone.sml
+m.cm | Group is a.sml^\tgone.sml no.sml | m.cm ==> m.cm:2:2: error 1 gone.sml
+",
     )
 }
 
@@ -71,97 +65,65 @@ fn a_name_outside_the_form(rt: HostRuntime) -> Result<(), Fail> {
     refuse(
         &rt,
         rt.alloc(),
-        &[
-            (b"m.cm", b"", "x/y.cm", b"command:0:0: error 60\n"),
-            (b"m.cm", b"", "..", b"command:0:0: error 60\n"),
-            (b"m.cm", b"", ".cm", b"command:0:0: error 60\n"),
-            (b"m.cm", b"", "", b"command:0:0: error 60\n"),
-            (b"m.cm", b"", "$x.cm", b"command:0:0: error 60\n"),
-            (b"pathconfig", b"", "main.cm", b"pathconfig:0:0: error 60\n"),
-            (b"pathconfig", b"", "none.cm", b"pathconfig:0:0: error 60\n"),
-        ],
+        "
+m.cm |  | x/y.cm ==> command:0:0: error 60
+m.cm |  | .. ==> command:0:0: error 60
+m.cm |  | .cm ==> command:0:0: error 60
+m.cm |  |  ==> command:0:0: error 60
+m.cm |  | $x.cm ==> command:0:0: error 60
+pathconfig |  | main.cm ==> pathconfig:0:0: error 60
+pathconfig |  | none.cm ==> pathconfig:0:0: error 60
+",
     )
 }
 
 #[test]
 fn a_description_outside_the_form(rt: HostRuntime) -> Result<(), Fail> {
-    let line = b"m.cm:0:0: error 60\n";
     refuse(
         &rt,
         rt.alloc(),
-        &[
-            (b"m.cm", b"", "m.cm", line),
-            (b"m.cm", b"Group", "m.cm", line),
-            (b"m.cm", b"Group a.sml", "m.cm", line),
-            (b"m.cm", b"Library is a.sml", "m.cm", line),
-            (b"m.cm", b"Group is a.sml a.sml", "m.cm", line),
-            (b"m.cm", b"Group is a.txt", "m.cm", line),
-            (b"m.cm", b"Group is x/a.sml", "m.cm", line),
-            (b"m.cm", b"Group is (* c *) a.sml", "m.cm", line),
-            (b"m.cm", b"Group is gone.sml a.sml a.sml", "m.cm", line),
-        ],
+        "
+m.cm |  | m.cm ==> m.cm:0:0: error 60
+m.cm | Group | m.cm ==> m.cm:0:0: error 60
+m.cm | Group a.sml | m.cm ==> m.cm:0:0: error 60
+m.cm | Library is a.sml | m.cm ==> m.cm:0:0: error 60
+m.cm | Group is a.sml a.sml | m.cm ==> m.cm:0:0: error 60
+m.cm | Group is a.txt | m.cm ==> m.cm:0:0: error 60
+m.cm | Group is x/a.sml | m.cm ==> m.cm:0:0: error 60
+m.cm | Group is (* c *) a.sml | m.cm ==> m.cm:0:0: error 60
+m.cm | Group is gone.sml a.sml a.sml | m.cm ==> m.cm:0:0: error 60
+",
     )
 }
 
 #[test]
 fn a_source_outside_the_form(rt: HostRuntime) -> Result<(), Fail> {
-    let line = b"a.sml:0:0: error 60\n";
     refuse(
         &rt,
         rt.alloc(),
-        &[
-            (b"a.sml", b"", "main.cm", line),
-            (
-                b"a.sml",
-                b"structure A = struct val x = ~1 end",
-                "main.cm",
-                line,
-            ),
-            (
-                b"a.sml",
-                b"structure A = struct val x = 1 end;",
-                "main.cm",
-                line,
-            ),
-            (
-                b"a.sml",
-                b"structure end = struct val x = 1 end",
-                "main.cm",
-                line,
-            ),
-            (
-                b"a.sml",
-                b"structure A = struct val nil = 1 end",
-                "main.cm",
-                line,
-            ),
-            (b"a.sml", b"signature A = sig end", "main.cm", line),
-        ],
+        "
+a.sml | structure A = struct val x = ~1 end | main.cm ==> a.sml:0:0: error 60
+a.sml | structure A = struct val x = 1 end; | main.cm ==> a.sml:0:0: error 60
+a.sml | structure A = struct val nil = 1 end | main.cm ==> a.sml:0:0: error 60
+a.sml | structure A = struct val x = 1 + 1 end signature S = sig end | main.cm ==> a.sml:0:0: error 60
+",
     )
 }
 
 #[test]
 fn names_that_break_the_rule(rt: HostRuntime) -> Result<(), Fail> {
-    let line = b"m.cm:0:0: error 60\n";
     refuse(
         &rt,
         rt.alloc(),
-        &[
-            (b"m.cm", b"Group is b.sml a.sml", "m.cm", line),
-            (b"m.cm", b"Group is b.sml", "m.cm", line),
-            (
-                b"b.sml",
-                b"structure A = struct val y = 2 end",
-                "main.cm",
-                b"main.cm:0:0: error 60\n",
-            ),
-            (
-                b"a.sml",
-                b"structure A = struct val x = A.x end",
-                "main.cm",
-                b"main.cm:0:0: error 60\n",
-            ),
-        ],
+        "
+m.cm | Group is b.sml a.sml | m.cm ==> m.cm:0:0: error 60
+m.cm | Group is b.sml | m.cm ==> m.cm:0:0: error 60
+b.sml | structure A = struct val y = 2 end | main.cm ==> main.cm:0:0: error 60
+a.sml | structure A = struct val x = A.x end | main.cm ==> main.cm:0:0: error 60
+a.sml |  | main.cm ==> main.cm:0:0: error 60
+a.sml | signature A = sig end | main.cm ==> main.cm:0:0: error 60
+b.sml | structure B = struct open A val y = C.x end | main.cm ==> main.cm:0:0: error 60
+",
     )
 }
 
@@ -196,20 +158,10 @@ fn what_comes_first_is_refused_first(rt: HostRuntime) -> Result<(), Fail> {
     refuse(
         &rt,
         rt.alloc(),
-        &[
-            (b"pathconfig", b"", "x/y.cm", b"command:0:0: error 60\n"),
-            (
-                b"a.sml",
-                b"no structure",
-                "main.cm",
-                b"a.sml:0:0: error 60\n",
-            ),
-            (
-                b"m.cm",
-                b"Group is m.cm.sml a.sml gone.sml",
-                "m.cm",
-                b"m.cm:1:10: error 1 m.cm.sml\n",
-            ),
-        ],
+        "
+pathconfig |  | x/y.cm ==> command:0:0: error 60
+a.sml | no structure | main.cm ==> a.sml:1:1: error 20
+m.cm | Group is m.cm.sml a.sml gone.sml | m.cm ==> m.cm:1:10: error 1 m.cm.sml
+",
     )
 }

@@ -2,6 +2,7 @@ use cm_base::{MemFolder, MemSink, Text};
 use cm_top::{Status, Toolbox, run_cm};
 use sml_compiler::SmlCompiler;
 use std::alloc::Global;
+use std::process::Abort;
 use std::test::*;
 
 const MAIN: &[u8] = b"Group is\n  a.sml\n  b.sml\n";
@@ -42,6 +43,23 @@ pub fn two_sources(alloc: Global) -> Result<MemFolder, Fail> {
     put(&mut files, alloc, b"a.sml", A)?;
     put(&mut files, alloc, b"b.sml", B)?;
     Ok(files)
+}
+
+/// The two halves of a row of a table.
+pub fn halves<'a>(rt: &impl Abort, row: &'a str, between: &str) -> (&'a str, &'a str) {
+    match row.split_once(between) {
+        Some(pair) => pair,
+        None => panic!(rt; "no row: {row}"),
+    }
+}
+
+/// The bytes of a text in a row, where `^` stands for a line feed.
+pub fn unfolded(alloc: Global, text: &str) -> Result<Vec<u8>, Fail> {
+    let mut bytes = Vec::new(alloc);
+    for &byte in text.as_bytes() {
+        bytes.push(if byte == b'^' { b'\n' } else { byte })?;
+    }
+    Ok(bytes)
 }
 
 /// Runs a command.

@@ -6,7 +6,7 @@ use std::test::*;
 use std::{env, fs, io, process};
 
 /// A new directory, named after the test and the process.
-fn new_directory(rt: HostRuntime, test: &str) -> io::Result<String> {
+pub fn new_directory(rt: HostRuntime, test: &str) -> io::Result<String> {
     let temp = env::temp_dir(&rt)?;
     let id = process::id(rt.process());
     let path = format!(in rt.alloc(); "{}/cm_cli_{test}_{id}", temp.as_str())?;
@@ -18,7 +18,7 @@ fn text(alloc: Global, bytes: &[u8]) -> Result<Text, Fail> {
     Ok(Text::from_bytes(alloc, bytes).ok().ok_or("memory")?)
 }
 
-fn folder(rt: HostRuntime, top: &String) -> Result<RealFolder<HostRuntime>, Fail> {
+pub fn folder(rt: HostRuntime, top: &String) -> Result<RealFolder<HostRuntime>, Fail> {
     let top = text(rt.alloc(), top.as_bytes())?;
     Ok(RealFolder::new(rt, &top).ok().ok_or("memory")?)
 }

@@ -1,13 +1,13 @@
 -- No two interfaces and no two codes are spelled alike, and none is the front of another.
-use Rattle.std.proofs.Common.{◌≡◌, ℕ, ◌<◌, ◌^◌, ◌+◌, List, [], ◌∷◌, ◌++◌, length, take, drop, Option, Some, None, refl, sym, ap, ◌∙◌, append_assoc, arith}
-use Rattle.std.specs.Int.{w64, to_be_bytes, from_be_bytes}
+use Rattle.std.proofs.Common.{◌≡◌, ℕ, ◌<◌, ◌^◌, List, [], ◌∷◌, ◌++◌, length, take, drop, Option, Some, refl, sym, ap, ◌∙◌, append_assoc, arith}
+use Rattle.std.specs.Int.{w64, from_be_bytes}
 use Rattle.std.proofs.lemmas.List.{append_cancel_left, append-nil, take_at, drop_at}
 use Rattle.std.proofs.lemmas.Nat.{from_be_bytes-to_be_bytes_8}
 use Rattle.cm_bytes.specs.Fields.{u32_of, text_of, text_at}
 use Rattle.cm_bytes.proofs.Fields.{text_again}
 use Rattle.sml_compiler.specs.declared.binding.Bound.{Bound}
 use Rattle.sml_compiler.specs.declared.binding.Bound.TheVariants as bound
-use Rattle.sml_compiler.specs.Interface.{parts, scheme, environment, value_entry, structure_entry, unit_node, interface, int_type, int_value, interface_of}
+use Rattle.sml_compiler.specs.Interface.{scheme, environment, value_entry, structure_entry, unit_node, interface, int_type, int_value, interface_of}
 use Rattle.sml_compiler.specs.Code.{u64_of, long_identifier, int_constant, identifier_expression, identifier_pattern, val_declaration, sequence, struct_expression, structure_declaration, code, value_expression, value_binding, structure_binding, code_of}
 use Rattle.sml_compiler.specs.Laws.{IsName, IsValue, SameValue, InterfacesApart, CodesApart}
 use Rattle.sml_compiler.proofs.Parts.{parts-none, parts-one, names-one, names-two}

@@ -1,5 +1,6 @@
 pub mod Apart
 pub mod Asked
+pub mod FrontSteps
 pub mod Imports
 pub mod Numbers
 pub mod Parts

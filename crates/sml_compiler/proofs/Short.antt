@@ -1,13 +1,13 @@
 -- The names of a binding that is read are short.
-use Rattle.std.proofs.Common.{◌≡◌, ℕ, ◌≤◌, Bool, true, false, cond, List, length, Option, Some, None, slice_get, refl, subst, arith}
-use Rattle.std.specs.Prelude.{◌&&◌, nat_le, not}
+use Rattle.std.proofs.Common.{◌≡◌, ℕ, Bool, true, false, cond, List, length, Option, Some, None, slice_get, refl, subst, arith}
+use Rattle.std.specs.Prelude.{◌&&◌, nat_le}
 use Rattle.std.proofs.lemmas.Bool.Decides.{nat_tests}
 use Rattle.plain_words.specs.declared.PlacedWord.{PlacedWord}
 use Rattle.sml_compiler.specs.declared.binding.LongName.{LongName}
 use Rattle.sml_compiler.specs.declared.binding.Bound.{Bound}
 use Rattle.sml_compiler.specs.declared.binding.Bound.TheVariants as bound
 use Rattle.sml_compiler.specs.declared.binding.Binding.{Binding}
-use Rattle.sml_compiler.specs.Identifiers.{is_alphanumeric, is_one_of, reserved_words, is_structure_name, is_value_name}
+use Rattle.sml_compiler.specs.Identifiers.{is_structure_name, is_value_name}
 use Rattle.sml_compiler.specs.FirstForm.{long_name, long_name_of, number_or, number_of, bound_of, bound_at, is_frame, binding_at, binding_of_words, IsShortName, HasShortNames, IsShort}
 
 and_left : (a b : Bool) → (a && b) ≡ true → a ≡ true
@@ -33,10 +33,10 @@ chosen : {A : Type 0} (test : Bool) (x : Option A) (y : A) → cond test x None 
 chosen true x y e = (refl, e)
 chosen false x y e = absurd cc
 
-long_is_short : (name variable : List ℕ) (line col : ℕ) (long : LongName) → long_name name variable line col ≡ Some long
+long_is_short : (name variable : List ℕ) (long : LongName) → long_name name variable ≡ Some long
     → HasShortNames (bound.Long long)
-long_is_short name variable line col long e =
-    let made : LongName = record { structure = name; variable = variable; line = line; col = col } in
+long_is_short name variable long e =
+    let made : LongName = record { structure = name; variable = variable } in
     let g = chosen (is_structure_name name && is_value_name variable) (Some made) long e in
     let test = g.0 in
     let picked = g.1 in
@@ -55,7 +55,7 @@ number_or_long None None value h e = absurd cc
 bound_is_short : (word : PlacedWord) (value : Bound) → bound_of word ≡ Some value → HasShortNames value
 unfolding bound_of long_name_of
 bound_is_short word value e =
-    number_or_long (number_of word.text) (long_name_of word) value (λ long is. long_is_short _ _ _ _ long is) e
+    number_or_long (number_of word.text) (long_name_of word) value (λ long is. long_is_short _ _ long is) e
 
 bound_at_short : (name variable : PlacedWord) (value : Option Bound) (binding : Binding)
     → IsShortName name.text → IsShortName variable.text → ((v : Bound) → value ≡ Some v → HasShortNames v)
@@ -64,8 +64,6 @@ bound_at_short name variable None binding s t h e = absurd cc
 bound_at_short name variable (Some value) binding s t h e =
     let made : Binding = record {
       structure = name.text;
-      line = name.line;
-      col = name.col;
       variable = variable.text;
       bound = value;
     } in

@@ -1,11 +1,8 @@
--- What the compiler defines of a unit: its skeleton, and its interface and code, or the diagnostic that refuses it.
+-- What the compiler defines of a unit: its interface and code, or the diagnostic that refuses it.
 use Rattle.std.specs.Prelude.{ℕ, nat_lt, ◌&&◌, Bool, true, false, List, [], ◌∷◌, length, Option, Some, None, Result, Ok, Err, if◌then◌else◌}
 use Rattle.cm_base.specs.declared.diag.Diag.{Diag}
 use Rattle.cm_base.specs.declared.record.Namespace.{Namespace}
 use Rattle.cm_base.specs.declared.record.Namespace.TheVariants as space
-use Rattle.cm_base.specs.declared.record.Spot.{Spot}
-use Rattle.cm_base.specs.declared.record.Need.{Need}
-use Rattle.cm_base.specs.declared.record.Skeleton.{Skeleton}
 use Rattle.cm_base.specs.declared.record.Given.{Given}
 use Rattle.cm_base.specs.declared.record.CompileInput.{CompileInput}
 use Rattle.cm_base.specs.declared.record.Compiled.{Compiled}
@@ -30,30 +27,6 @@ binding_or None unit = Err (refusal 60 unit)
 unfoldable pub binding_of : List ℕ → List ℕ → Result Binding Diag
 binding_of unit source =
     if nat_lt 1048576 (length source) then Err (refusal 12 unit) else binding_or (binding_of_words (words_of source)) unit
-
--- the name of a structure with its place
-abbrev pub structure_spot : List ℕ → ℕ → ℕ → Spot
-structure_spot name line col = record { name = record { space = space.Structure; name = name }; line = line; col = col }
-
--- the structures that a value uses, all of them for sure
-abbrev pub free_names : Bound → List Need
-free_names (bound.Int n) = []
-free_names (bound.Long long) = record { spot = structure_spot long.structure long.line long.col; sure = true } ∷ []
-
--- the structure that a binding defines, and those that it uses
-abbrev pub skeleton_of : Binding → Skeleton
-skeleton_of binding = record {
-  defined = structure_spot binding.structure binding.line binding.col ∷ [];
-  free = free_names binding.bound;
-}
-
-abbrev pub skeleton_from : Result Binding Diag → Result Skeleton Diag
-skeleton_from (Ok binding) = Ok (skeleton_of binding)
-skeleton_from (Err diag) = Err diag
-
--- the skeleton of a source
-abbrev pub skeleton_definition : List ℕ → List ℕ → Result Skeleton Diag
-skeleton_definition unit source = skeleton_from (binding_of unit source)
 
 abbrev pub is_structure : Namespace → Bool
 is_structure space.Structure = true

@@ -1,6 +1,6 @@
 -- The one form of source that is compiled: nine words, `structure X = struct val y = V end`, where `V` is a
 -- number or the variable of another structure.
-use Rattle.std.specs.Prelude.{ℕ, ◌+◌, ◌-◌, ◌*◌, ◌<◌, ◌≤◌, nat_le, ◌==◌, ◌&&◌, Bool, false, List, [], ◌∷◌, length, drop, Option, Some, None, option_map, slice_get, if◌then◌else◌, codes}
+use Rattle.std.specs.Prelude.{ℕ, ◌+◌, ◌-◌, ◌*◌, ◌≤◌, nat_le, ◌==◌, ◌&&◌, Bool, false, List, [], ◌∷◌, length, Option, Some, None, slice_get, if◌then◌else◌, codes}
 use Rattle.std.specs.List.{before_first, after_first}
 use Rattle.plain_words.specs.declared.PlacedWord.{PlacedWord}
 use Rattle.cm_base.specs.Derived.{is_digit}
@@ -23,13 +23,13 @@ abbrev pub is_dot : ℕ → Bool
 is_dot byte = byte == 46
 
 -- the variable of a structure: two names with a dot between them
-abbrev pub long_name : List ℕ → List ℕ → ℕ → ℕ → Option LongName
-long_name structure variable line col =
+abbrev pub long_name : List ℕ → List ℕ → Option LongName
+long_name structure variable =
     if is_structure_name structure && is_value_name variable
-    then Some (record { structure = structure; variable = variable; line = line; col = col }) else None
+    then Some (record { structure = structure; variable = variable }) else None
 
 unfoldable pub long_name_of : PlacedWord → Option LongName
-long_name_of word = long_name (before_first is_dot word.text) (after_first is_dot word.text) word.line word.col
+long_name_of word = long_name (before_first is_dot word.text) (after_first is_dot word.text)
 
 -- what the variable is bound to
 abbrev pub number_or : Option ℕ → Option LongName → Option Bound
@@ -55,13 +55,11 @@ is_frame words =
     && (is_word words 3 (codes "struct") && (is_word words 4 (codes "val") && (is_word words 6 (codes "=")
     && is_word words 8 (codes "end"))))))
 
--- the structure at its place, its variable, and what that is bound to
+-- the structure, its variable, and what that is bound to
 abbrev pub bound_at : PlacedWord → PlacedWord → Option Bound → Option Binding
 bound_at structure variable None = None
 bound_at structure variable (Some value) = Some (record {
   structure = structure.text;
-  line = structure.line;
-  col = structure.col;
   variable = variable.text;
   bound = value;
 })

@@ -2,13 +2,11 @@
 
 use cm_base::Text;
 
-/// The variable of a structure, with the place where it is named.
+/// The variable of a structure.
 #[derive(Debug, Drop)]
 pub struct LongName {
     pub structure: Text,
     pub variable: Text,
-    pub line: u32,
-    pub col: u32,
 }
 
 /// What a variable is bound to: a number, or the variable of a structure.
@@ -18,12 +16,10 @@ pub enum Bound {
     Long(LongName),
 }
 
-/// A structure with its place, its one variable, and what that is bound to.
+/// A structure, its one variable, and what that is bound to.
 #[derive(Debug, Drop)]
 pub struct Binding {
     pub structure: Text,
-    pub line: u32,
-    pub col: u32,
     pub variable: Text,
     pub bound: Bound,
 }

@@ -1,18 +1,16 @@
-//! Reads a unit's binding, and makes its skeleton, its interface and its code.
+//! Reads a unit's binding, and makes its interface and its code.
 
-ghost use Rattle.std.specs.Prelude.{◌≡◌, [], ◌∷◌, false, IfOk};
-ghost use Rattle.cm_base.specs.Calls.{Answers, GivesSmall};
-ghost use Rattle.cm_base.specs.declared.record.Skeleton.{Skeleton};
+ghost use Rattle.std.specs.Prelude.{◌≡◌, false, IfOk};
+ghost use Rattle.cm_base.specs.Calls.{Answers};
 ghost use Rattle.sml_compiler.specs.FirstForm.{HasShortNames, IsShort};
-ghost use Rattle.sml_compiler.specs.Compiled.{refusal, binding_of, structure_spot, free_names, skeleton_of, is_structure, is_import_of, interface_if, last_interface, is_interface_or, is_given, compiled_binding};
+ghost use Rattle.sml_compiler.specs.Compiled.{refusal, binding_of, is_structure, is_import_of, interface_if, last_interface, is_interface_or, is_given, compiled_binding};
 
 use crate::binding::{Binding, Bound};
 use crate::code::code_of;
 use crate::first_form::binding_of_words;
 use crate::interface::interface_of;
 use cm_base::{
-    CompileFault, CompileInput, Compiled, Diag, Given, List, ModName, Namespace, Need, NoMemory,
-    Place, Skeleton, Spot, Text,
+    CompileFault, CompileInput, Compiled, Diag, Given, List, Namespace, NoMemory, Place, Text,
 };
 use plain_words::read_words;
 use std::alloc::Global;
@@ -46,58 +44,6 @@ pub fn binding_of(alloc: Global, unit: &Text, source: &Text) -> Result<Binding, 
         Some(binding) => Ok(binding),
         None => Err(CompileFault::Diag(refusal(alloc, 60, unit)?)),
     }
-}
-
-/// A list of one item.
-fn one<T: Drop>(alloc: Global, item: T) -> Result<List<T>, NoMemory>
-    ensures { IfOk result (λ list. list ≡ item ∷ []) }
-{
-    let mut list = List::new(alloc);
-    match list.push(item) {
-        Ok(()) => Ok(list),
-        Err(_item) => Err(NoMemory),
-    }
-}
-
-/// The name of a structure with its place.
-fn structure_spot(name: &Text, line: u32, col: u32) -> Result<Spot, NoMemory>
-    ensures { IfOk result (λ spot. spot ≡ structure_spot name.now line col) }
-{
-    Ok(Spot {
-        name: ModName {
-            space: Namespace::Structure,
-            name: name.copy()?,
-        },
-        line,
-        col,
-    })
-}
-
-/// The structures that a value uses.
-fn free_names(alloc: Global, value: &Bound) -> Result<List<Need>, NoMemory>
-    ensures { IfOk result (λ names. names ≡ free_names value.now) }
-{
-    match value {
-        Bound::Int(_) => Ok(List::new(alloc)),
-        Bound::Long(long) => one(
-            alloc,
-            Need {
-                spot: structure_spot(&long.structure, long.line, long.col)?,
-                sure: true,
-            },
-        ),
-    }
-}
-
-/// The structure that a binding defines, and those that it uses.
-pub fn skeleton_of(alloc: Global, binding: &Binding) -> Result<Skeleton, NoMemory>
-    ensures { IfOk result (λ skeleton. skeleton ≡ skeleton_of binding.now) }
-{
-    let defined = structure_spot(&binding.structure, binding.line, binding.col)?;
-    Ok(Skeleton {
-        defined: one(alloc, defined)?,
-        free: free_names(alloc, &binding.bound)?,
-    })
 }
 
 fn is_structure(space: Namespace) -> bool

@@ -2,11 +2,13 @@
 
 ghost use Rattle.std.specs.Prelude.{◌≡◌, [], ◌∷◌, ◌++◌, IfOk, OnOk, OnErr};
 
-use crate::compiled::{binding_of, compiled_binding, skeleton_of};
+use crate::compiled::{binding_of, compiled_binding};
+use crate::front;
 use cm_base::{CompileFault, CompileInput, Compiled, Compiler, List, NoMemory, Skeleton, Text};
 use std::alloc::Global;
 
-/// A compiler of structures that bind one integer. It keeps the units of its calls, in order.
+/// A compiler that gives the skeleton of any source of the language, and compiles structures that bind one integer. It
+/// keeps the units of its calls, in order.
 #[derive(Debug, Drop)]
 pub struct SmlCompiler {
     pub asked_units: List<Text>,
@@ -53,7 +55,8 @@ impl SmlCompiler {
 
 #[tactic(auto, using(crate::proofs::Asked::asking))]
 impl Compiler for SmlCompiler {
-    ghost use Rattle.sml_compiler.specs.Compiled.{skeleton_definition, compiled_of};
+    ghost use Rattle.sml_compiler.specs.Compiled.{compiled_of};
+    ghost use Rattle.sml_compiler.specs.Front.{skeleton_definition};
 
     ghost skel = { skeleton_definition };
 
@@ -70,8 +73,7 @@ impl Compiler for SmlCompiler {
         source: &Text,
     ) -> Result<Skeleton, CompileFault> {
         ask(&mut self.asked_sources, unit)?;
-        let binding = binding_of(alloc, unit, source)?;
-        Ok(skeleton_of(alloc, &binding)?)
+        front::skeleton(alloc, unit, source)
     }
 
     fn compile(&mut self, alloc: Global, input: &CompileInput) -> Result<Compiled, CompileFault> {

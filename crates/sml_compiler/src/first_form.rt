@@ -62,14 +62,8 @@ fn after_dot(text: &[u8]) -> &[u8]
 }
 
 /// The long name of two names that fit.
-fn long_name(
-    alloc: Global,
-    structure: &[u8],
-    variable: &[u8],
-    line: u32,
-    col: u32,
-) -> Result<Option<LongName>, NoMemory>
-    ensures { IfOk result (λ name. name ≡ long_name structure.now variable.now line col) }
+fn long_name(alloc: Global, structure: &[u8], variable: &[u8]) -> Result<Option<LongName>, NoMemory>
+    ensures { IfOk result (λ name. name ≡ long_name structure.now variable.now) }
 {
     if !is_structure_name(structure) || !is_value_name(variable) {
         return Ok(None);
@@ -77,8 +71,6 @@ fn long_name(
     Ok(Some(LongName {
         structure: Text::from_bytes(alloc, structure)?,
         variable: Text::from_bytes(alloc, variable)?,
-        line,
-        col,
     }))
 }
 
@@ -88,13 +80,7 @@ fn long_name_of(alloc: Global, word: &PlacedWord) -> Result<Option<LongName>, No
     ensures { IfOk result (λ name. name ≡ long_name_of word.now) }
 {
     let text = word.text.as_bytes();
-    long_name(
-        alloc,
-        before_dot(text),
-        after_dot(text),
-        word.line,
-        word.col,
-    )
+    long_name(alloc, before_dot(text), after_dot(text))
 }
 
 /// What a word binds a variable to.
@@ -150,8 +136,6 @@ fn binding_at(
     match bound_of(alloc, value)? {
         Some(bound) => Ok(Some(Binding {
             structure: structure.text.copy()?,
-            line: structure.line,
-            col: structure.col,
             variable: variable.text.copy()?,
             bound,
         })),

@@ -1,4 +1,4 @@
-//! A compiler of structures that bind one integer.
+//! A compiler of Standard ML: it gives the skeleton of any source, and compiles structures that bind one integer.
 #![tactic(auto)]
 
 mod binding;
@@ -6,6 +6,7 @@ mod code;
 mod compiled;
 mod compiler;
 mod first_form;
+mod front;
 mod identifier;
 mod interface;
 pub mod laws;

@@ -1,11 +1,17 @@
+//! What sources compile to, and their skeletons, against bytes and names that the rules give.
+
 use super::*;
 use cm_base::{
     CompileFault, CompileInput, Compiled, Compiler, Given, Import, List, ModName, Namespace,
-    NoMemory, Options, Pid, Skeleton, Text,
+    NoMemory, Options, Pid, Text,
 };
 use std::alloc::Global;
 use std::process::Abort;
 use std::test::*;
+
+mod refusals;
+mod told;
+mod units;
 
 const A_OF_X: [u8; 65] = [
     b'C', b'M', b'I', b'1', 0x0b, 0, 0, 0, 1, 0, 0, 0, 1, b'A', // a unit of one structure A
@@ -97,13 +103,6 @@ fn compile(
     Ok(compiler.compile(alloc, &input))
 }
 
-fn skeleton(alloc: Global, source: &[u8]) -> Result<Result<Skeleton, CompileFault>, NoMemory> {
-    let mut compiler = SmlCompiler::new(alloc)?;
-    let unit = text(alloc, b"u.sml")?;
-    let source = text(alloc, source)?;
-    Ok(compiler.skeleton(alloc, &unit, &source))
-}
-
 /// The fault is a diagnostic with this number and no names, at the unit as a whole.
 fn has_number(rt: &impl Abort, fault: &CompileFault, number: u8) {
     match fault {
@@ -116,19 +115,6 @@ fn has_number(rt: &impl Abort, fault: &CompileFault, number: u8) {
         }
         CompileFault::NoMemory => assert!(rt; false, "no memory"),
     }
-}
-
-fn has_no_skeleton(
-    rt: &impl Abort,
-    alloc: Global,
-    source: &[u8],
-    number: u8,
-) -> Result<(), NoMemory> {
-    match skeleton(alloc, source)? {
-        Ok(_made) => assert!(rt; false, "{source:?}"),
-        Err(fault) => has_number(rt, &fault, number),
-    }
-    Ok(())
 }
 
 fn has_no_code(
@@ -145,18 +131,31 @@ fn has_no_code(
     Ok(())
 }
 
-/// Both calls refuse each of the sources with this number.
-fn are_refused(
-    rt: &impl Abort,
-    alloc: Global,
-    sources: &[&[u8]],
-    number: u8,
-) -> Result<(), NoMemory> {
+/// None of the sources is compiled: 60.
+fn are_not_compiled(rt: &impl Abort, alloc: Global, sources: &[&[u8]]) -> Result<(), NoMemory> {
     for source in sources {
-        has_no_skeleton(rt, alloc, source, number)?;
-        has_no_code(rt, alloc, source, List::new(alloc), number)?;
+        has_no_code(rt, alloc, source, List::new(alloc), 60)?;
     }
     Ok(())
+}
+
+/// `structure A.. = struct val x = 1 end` with a name of this length.
+fn with_name_of(alloc: Global, len: usize) -> Result<Vec<u8>, Fail> {
+    let mut source = b"structure A".to_vec(alloc)?;
+    for _ in 1..len {
+        source.push(b'a')?;
+    }
+    source.extend_from_slice(b" = struct val x = 1 end")?;
+    Ok(source)
+}
+
+/// A source with spaces behind it, up to 1,048,576 bytes.
+fn padded(alloc: Global, source: &[u8]) -> Result<Vec<u8>, Fail> {
+    let mut bytes = source.to_vec(alloc)?;
+    for _ in source.len()..1_048_576 {
+        bytes.push(b' ')?;
+    }
+    Ok(bytes)
 }
 
 /// The unit compiles to this interface and this code.
@@ -165,41 +164,6 @@ fn gives(rt: &impl Abort, made: &Result<Compiled, CompileFault>, interface: &[u8
     if let Ok(made) = made {
         assert_eq!(rt; made.interface.as_bytes(), interface);
         assert_eq!(rt; made.code.as_bytes(), code);
-    }
-}
-
-/// The one structure that the source defines.
-fn defines(
-    rt: &impl Abort,
-    made: &Result<Skeleton, CompileFault>,
-    name: &[u8],
-    line: u32,
-    col: u32,
-) {
-    assert!(rt; made.is_ok());
-    if let Ok(made) = made {
-        assert_eq!(rt; made.defined.len(), 1);
-        if let Some(spot) = made.defined.get(0) {
-            assert!(rt; spot.name.space == Namespace::Structure);
-            assert_eq!(rt; spot.name.name.as_bytes(), name);
-            assert_eq!(rt; spot.line, line);
-            assert_eq!(rt; spot.col, col);
-        }
-    }
-}
-
-/// The one structure that the source uses.
-fn uses(rt: &impl Abort, made: &Result<Skeleton, CompileFault>, name: &[u8], line: u32, col: u32) {
-    assert!(rt; made.is_ok());
-    if let Ok(made) = made {
-        assert_eq!(rt; made.free.len(), 1);
-        if let Some(need) = made.free.get(0) {
-            assert!(rt; need.sure);
-            assert!(rt; need.spot.name.space == Namespace::Structure);
-            assert_eq!(rt; need.spot.name.name.as_bytes(), name);
-            assert_eq!(rt; need.spot.line, line);
-            assert_eq!(rt; need.spot.col, col);
-        }
     }
 }
 
@@ -242,32 +206,8 @@ fn a_variable_of_another_interface(rt: HostRuntime) -> Result<(), Fail> {
 }
 
 #[test]
-fn a_skeleton_of_a_number(rt: HostRuntime) -> Result<(), Fail> {
-    let made = skeleton(rt.alloc(), ONE)?;
-    defines(&rt, &made, b"A", 1, 11);
-    assert!(rt; made.is_ok_and(|made| made.free.is_empty()));
-    Ok(())
-}
-
-#[test]
-fn a_skeleton_of_a_variable(rt: HostRuntime) -> Result<(), Fail> {
-    let made = skeleton(rt.alloc(), TWO)?;
-    defines(&rt, &made, b"B", 1, 11);
-    uses(&rt, &made, b"A", 1, 30);
-    Ok(())
-}
-
-#[test]
-fn a_skeleton_over_lines(rt: HostRuntime) -> Result<(), Fail> {
-    let made = skeleton(rt.alloc(), b"\n structure B\n= struct val y\t= A.x end")?;
-    defines(&rt, &made, b"B", 2, 12);
-    uses(&rt, &made, b"A", 3, 18);
-    Ok(())
-}
-
-#[test]
 fn other_numbers_of_words(rt: HostRuntime) -> Result<(), Fail> {
-    are_refused(
+    are_not_compiled(
         &rt,
         rt.alloc(),
         &[
@@ -276,14 +216,13 @@ fn other_numbers_of_words(rt: HostRuntime) -> Result<(), Fail> {
             b"structure A = struct val x = 1 end end",
             b"structure A = struct val x = 1 end;",
         ],
-        60,
     )?;
     Ok(())
 }
 
 #[test]
 fn other_words_around(rt: HostRuntime) -> Result<(), Fail> {
-    are_refused(
+    are_not_compiled(
         &rt,
         rt.alloc(),
         &[
@@ -294,14 +233,13 @@ fn other_words_around(rt: HostRuntime) -> Result<(), Fail> {
             b"structure A = struct val x := 1 end",
             b"structure A = struct val x = 1 en",
         ],
-        60,
     )?;
     Ok(())
 }
 
 #[test]
 fn other_names_of_structures(rt: HostRuntime) -> Result<(), Fail> {
-    are_refused(
+    are_not_compiled(
         &rt,
         rt.alloc(),
         &[
@@ -311,14 +249,13 @@ fn other_names_of_structures(rt: HostRuntime) -> Result<(), Fail> {
             b"structure A- = struct val x = 1 end",
             b"structure A\r = struct val x = 1 end",
         ],
-        60,
     )?;
     Ok(())
 }
 
 #[test]
 fn other_names_of_variables(rt: HostRuntime) -> Result<(), Fail> {
-    are_refused(
+    are_not_compiled(
         &rt,
         rt.alloc(),
         &[
@@ -326,14 +263,13 @@ fn other_names_of_variables(rt: HostRuntime) -> Result<(), Fail> {
             b"structure A = struct val nil = 1 end",
             b"structure A = struct val Subscript = 1 end",
         ],
-        60,
     )?;
     Ok(())
 }
 
 #[test]
 fn other_values(rt: HostRuntime) -> Result<(), Fail> {
-    are_refused(
+    are_not_compiled(
         &rt,
         rt.alloc(),
         &[
@@ -342,14 +278,13 @@ fn other_values(rt: HostRuntime) -> Result<(), Fail> {
             b"structure A = struct val x = 0x1 end",
             b"structure A = struct val x = y end",
         ],
-        60,
     )?;
     Ok(())
 }
 
 #[test]
 fn other_long_names(rt: HostRuntime) -> Result<(), Fail> {
-    are_refused(
+    are_not_compiled(
         &rt,
         rt.alloc(),
         &[
@@ -359,7 +294,22 @@ fn other_long_names(rt: HostRuntime) -> Result<(), Fail> {
             b"structure A = struct val x = A.ref end",
             b"structure A = struct val x = open.b end",
         ],
-        60,
+    )?;
+    Ok(())
+}
+
+#[test]
+fn sources_of_the_language_that_are_no_such_structure(rt: HostRuntime) -> Result<(), Fail> {
+    are_not_compiled(
+        &rt,
+        rt.alloc(),
+        &[
+            b"signature S = sig end".as_slice(),
+            b"functor F (X : S) = X",
+            b"structure A = struct val x = 1 end structure B = A",
+            b"structure A = struct val x = if true then 1 else 2 end",
+            b"structure A = struct val x = 1 end (* one *)",
+        ],
     )?;
     Ok(())
 }
@@ -370,41 +320,32 @@ fn unusual_sources(rt: HostRuntime) -> Result<(), Fail> {
         b"structure A = struct val x = 123456789012345678 end".as_slice(),
         b"structure nil = struct val whiles = 000 end",
         b"structure A'_9z = struct val x' = 1 end",
-        b"\t\n structure\nA = struct val x\n= ref.x end \n",
     ] {
-        assert!(rt; skeleton(rt.alloc(), source)?.is_ok(), "{source:?}");
+        let made = compile(rt.alloc(), source, List::new(rt.alloc()))?;
+        assert!(rt; made.is_ok(), "{source:?}");
     }
     Ok(())
 }
 
-/// `structure A.. = struct val x = 1 end` with a name of this length.
-fn with_name_of(alloc: Global, len: usize) -> Result<Vec<u8>, Fail> {
-    let mut source = b"structure A".to_vec(alloc)?;
-    for _ in 1..len {
-        source.push(b'a')?;
-    }
-    source.extend_from_slice(b" = struct val x = 1 end")?;
-    Ok(source)
-}
-
 #[test]
 fn names_have_at_most_255_bytes(rt: HostRuntime) -> Result<(), Fail> {
-    let source = with_name_of(rt.alloc(), 255)?;
-    assert!(rt; skeleton(rt.alloc(), source.as_slice())?.is_ok());
-    let source = with_name_of(rt.alloc(), 256)?;
-    has_no_skeleton(&rt, rt.alloc(), source.as_slice(), 60)?;
+    let alloc = rt.alloc();
+    let source = with_name_of(alloc, 255)?;
+    let made = compile(alloc, source.as_slice(), List::new(alloc))?;
+    assert!(rt; made.is_ok());
+    let source = with_name_of(alloc, 256)?;
+    has_no_code(&rt, alloc, source.as_slice(), List::new(alloc), 60)?;
     Ok(())
 }
 
 #[test]
 fn sources_have_at_most_1048576_bytes(rt: HostRuntime) -> Result<(), Fail> {
-    let mut source = ONE.to_vec(rt.alloc())?;
-    for _ in ONE.len()..1_048_576 {
-        source.push(b' ')?;
-    }
-    assert!(rt; skeleton(rt.alloc(), source.as_slice())?.is_ok());
+    let alloc = rt.alloc();
+    let mut source = padded(alloc, ONE)?;
+    let made = compile(alloc, source.as_slice(), List::new(alloc))?;
+    gives(&rt, &made, &A_OF_X, &A_IS_ONE);
     source.push(b' ')?;
-    has_no_skeleton(&rt, rt.alloc(), source.as_slice(), 12)?;
+    has_no_code(&rt, alloc, source.as_slice(), List::new(alloc), 12)?;
     Ok(())
 }
 
@@ -414,7 +355,7 @@ fn it_keeps_the_units_of_skeletons(rt: HostRuntime) -> Result<(), Fail> {
     let mut compiler = SmlCompiler::new(alloc)?;
     let (a, b) = (text(alloc, b"a.sml")?, text(alloc, b"b.sml")?);
     assert!(rt; compiler.skeleton(alloc, &a, &text(alloc, ONE)?).is_ok());
-    assert!(rt; compiler.skeleton(alloc, &b, &text(alloc, b"")?).is_err());
+    assert!(rt; compiler.skeleton(alloc, &b, &text(alloc, b"val")?).is_err());
     assert_eq!(rt; compiler.asked().len(), 0);
     assert_eq!(rt; compiler.asked_skeletons().len(), 2);
     let second = compiler.asked_skeletons().get(1).ok_or("none")?;

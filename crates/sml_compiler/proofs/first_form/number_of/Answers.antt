@@ -1,4 +1,4 @@
-use Rattle.std.proofs.Common.{arith, ◌≤◌, ◌^◌}
+use Rattle.std.proofs.Common.{arith}
 use Rattle.sml_compiler.proofs.Numbers.{below_most}
 use Rattle.sml_compiler.proofs.first_form.number_of.Goals as goal
 

@@ -1,4 +1,4 @@
-use Rattle.std.proofs.Common.{◌≡◌, ◌<◌, ◌≤◌, ◌^◌, drop, length}
+use Rattle.std.proofs.Common.{◌≡◌, ◌<◌, ◌^◌, drop}
 use Rattle.sml_compiler.specs.FirstForm.{number_from}
 use Rattle.sml_compiler.proofs.first_form.number_of.Given as goal
 
