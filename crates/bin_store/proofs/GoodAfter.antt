@@ -8,11 +8,12 @@ use Rattle.cm_base.specs.Derived.{derived_text}
 use Rattle.cm_base.proofs.FileLemmas.{get-insert_same}
 use Rattle.cm_base.proofs.KeepingLemmas.{keeps_same, keeps_touches}
 use Rattle.cm_bytes.specs.Hashes.{hash_of, HashesApart}
-use Rattle.bin_store.specs.declared.bin.Bin.{Bin}
-use Rattle.bin_store.specs.declared.bin.ToolRecord.{ToolRecord}
-use Rattle.bin_store.specs.Format.{binfile, interface_file, record_file, IsBin, IsRecord}
+use Rattle.bin_formats.specs.declared.bin.Bin.{Bin}
+use Rattle.bin_formats.specs.declared.bin.ToolRecord.{ToolRecord}
+use Rattle.bin_formats.specs.Format.{binfile, interface_file, record_file, IsBin, IsRecord}
 use Rattle.bin_store.specs.Paths.{bin_path, tool_path, interface_path, linked_path}
-use Rattle.bin_store.specs.GoodStore.{Definitions, IsGoodBin, IsGoodStore, StoreIsGood}
+use Rattle.cm_base.specs.Definitions.{Definitions}
+use Rattle.bin_store.specs.GoodStore.{IsGoodBin, IsGoodStore, StoreIsGood}
 use Rattle.bin_store.specs.Stored.{stored_interface, with_interface, PutsInterface, PutsBin}
 use Rattle.bin_store.proofs.StoreLaws.{TouchesFiles, Allows, allows_interface, allows_bin, allows_record, allows_linked, good_after, good_empty, good_more}
 use Rattle.bin_store.proofs.StoredLaws.{stored-whole}

@@ -1,8 +1,7 @@
-pub mod Formats
+pub mod Elsewhere
 pub mod GoodAfter
-pub mod Items
 pub mod Parts
 pub mod PathLaws
-pub mod Steps
+pub mod StoredBins
 pub mod StoredLaws
 pub mod StoreLaws

@@ -8,14 +8,15 @@ use Rattle.cm_base.specs.Files.{Files}
 use Rattle.cm_base.specs.Derived.{derived_text}
 use Rattle.cm_base.proofs.FileLemmas.{same_path, path_ties}
 use Rattle.cm_bytes.specs.Hashes.{hash_of, HashesApart}
-use Rattle.bin_store.specs.declared.bin.Bin.{Bin}
-use Rattle.bin_store.specs.declared.bin.ToolRecord.{ToolRecord}
-use Rattle.bin_store.specs.Format.{binfile, interface_file, record_file, IsBin, IsRecord}
+use Rattle.bin_formats.specs.declared.bin.Bin.{Bin}
+use Rattle.bin_formats.specs.declared.bin.ToolRecord.{ToolRecord}
+use Rattle.bin_formats.specs.Format.{binfile, interface_file, record_file, IsBin, IsRecord}
 use Rattle.bin_store.specs.Paths.{bin_path, tool_path, interface_path, linked_path}
 use Rattle.bin_store.specs.Whole.{IsWholeBin, IsWholeInterface, IsWholeRecord}
-use Rattle.bin_store.specs.GoodStore.{Definitions, IsGoodBin, IsGoodStore}
+use Rattle.cm_base.specs.Definitions.{Definitions}
+use Rattle.bin_store.specs.GoodStore.{IsGoodBin, IsGoodStore}
 use Rattle.bin_store.specs.Stored.{stored_interface}
-use Rattle.bin_store.proofs.Formats.{bin_front, interface_front, record_front, length-interface_file}
+use Rattle.bin_formats.proofs.Formats.{bin_front, interface_front, record_front, length-interface_file}
 use Rattle.bin_store.proofs.PathLaws.{interface_path-injective, bin_is_no_tool, bin_is_no_interface, bin_is_not_linked, tool_is_no_interface, tool_is_not_linked, interface_is_not_linked}
 use Rattle.bin_store.proofs.StoredLaws.{file-stored}
 

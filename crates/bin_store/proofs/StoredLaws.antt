@@ -1,9 +1,9 @@
 -- The interface that is stored under a hash is the one that stands whole there.
 use Rattle.std.proofs.Common.{◌≡◌, ◌∙◌, ap, sym, subst, refl, inl, inr, ℕ, ◌<◌, ◌≤◌, Bool, true, false, cond, List, ◌∷◌, ◌++◌, length, take, drop, take_all, Option, Some, None, arith}
-use Rattle.std.specs.Prelude.{◌&&◌, ◌↔◌, nat_eq, nat_le, is_some, IsTrue}
+use Rattle.std.specs.Prelude.{◌&&◌, nat_eq, nat_le, is_some}
 use Rattle.std.specs.Cmp.Lexicographic.{pointwise, nat_list_eq_equiv, same_text}
 use Rattle.std.specs.FinMap.{get, insert}
-use Rattle.cm_base.specs.Files.{Files, Told, told}
+use Rattle.cm_base.specs.Files.{Files, Told, told, front_read}
 use Rattle.cm_base.specs.declared.record.Pid.{Pid}
 use Rattle.std.proofs.lemmas.Bool.{cases_lt, leb-true, le-leb}
 use Rattle.std.proofs.lemmas.List.{take_at, drop_at, length-take, take-append-drop}
@@ -11,11 +11,11 @@ use Rattle.cm_bytes.specs.Fields.{IsBytes, u32_of, text_of}
 use Rattle.cm_bytes.proofs.Fields.{length-u32_of}
 use Rattle.cm_bytes.specs.Hashes.{hash_of}
 use Rattle.cm_bytes.proofs.Hashes.{pid_text-injective, IsBytes-hash_of}
-use Rattle.bin_store.specs.Format.{interface_file}
+use Rattle.bin_formats.specs.Format.{interface_file}
 use Rattle.bin_store.specs.Paths.{interface_path}
 use Rattle.bin_store.specs.Whole.{IsWholeInterface}
-use Rattle.bin_store.proofs.Formats.{length-interface_file}
-use Rattle.bin_store.specs.Stored.{front_read, interface_in, interface_found, stored_interface, with_interface}
+use Rattle.bin_formats.proofs.Formats.{length-interface_file}
+use Rattle.bin_store.specs.Stored.{interface_in, interface_found, stored_interface, with_interface}
 
 -- the interface stands behind the first eight bytes of its file
 pub drop-interface_file : (text : List ℕ) → drop 8 (interface_file text) ≡ text
@@ -154,14 +154,6 @@ take-interface_file text =
 interface_file-parts : (text : List ℕ) → (67 ∷ 77 ∷ 69 ∷ 49 ∷ u32_of (length text)) ++ text ≡ interface_file text
 unfolding interface_file text_of
 interface_file-parts text = refl
-
--- a test that failed
-pub not_same : {A : Type 0} (a b : A) (r : Bool) → r ≡ false → (IsTrue r ↔ (a ≡ b)) → a ≡ b → ⊥
-not_same a b r is decides same = let holds = decides.1 same in cc
-
--- a test that held
-pub same : {A : Type 0} (a b : A) (r : Bool) → r ≡ true → (IsTrue r ↔ (a ≡ b)) → a ≡ b
-same a b r is decides = decides.0 is
 
 -- what the code has of the bytes: those before the interface, and those that are it, and what the first have to be
 pub record Halves (bytes head text made : List ℕ) : Type 0 where

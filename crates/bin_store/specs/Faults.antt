@@ -1,8 +1,8 @@
 -- The faults of the store.
 use Rattle.cm_base.specs.declared.fault.FolderFault.{FolderFault}
 use Rattle.cm_base.specs.declared.fault.FolderFault.TheVariants as folder
-use Rattle.bin_store.specs.declared.bin.StoreFault.{StoreFault}
-use Rattle.bin_store.specs.declared.bin.StoreFault.TheVariants as store
+use Rattle.bin_store.specs.declared.fault.StoreFault.{StoreFault}
+use Rattle.bin_store.specs.declared.fault.StoreFault.TheVariants as store
 
 -- a folder's fault is one of the store
 abbrev pub fault_of : FolderFault → StoreFault

@@ -1,24 +1,19 @@
 -- A good store: whatever whole file stands in it is what a build with this compiler left there.
-use Rattle.std.specs.Prelude.{ℕ, ◌≡◌, List, Option, Some, Result, Ok, map, length, ◌≤◌, All, Contains}
+use Rattle.std.specs.Prelude.{ℕ, ◌≡◌, List, Option, Some, Ok, map, length, ◌≤◌, All, Contains}
 use Rattle.std.specs.FinMap.{get}
+use Rattle.cm_base.specs.Definitions.{Definitions}
 use Rattle.cm_base.specs.Files.{Files}
 use Rattle.cm_base.specs.Derived.{derived_text}
-use Rattle.cm_base.specs.declared.diag.Diag.{Diag}
 use Rattle.cm_base.specs.declared.record.Skeleton.{Skeleton}
 use Rattle.cm_base.specs.declared.record.CompileInput.{CompileInput}
 use Rattle.cm_base.specs.declared.record.Compiled.{Compiled}
 use Rattle.cm_base.specs.declared.record.Given.{Given}
 use Rattle.cm_bytes.specs.Hashes.{hash_of}
-use Rattle.bin_store.specs.declared.bin.Bin.{Bin}
-use Rattle.bin_store.specs.declared.bin.ToolRecord.{ToolRecord}
-use Rattle.bin_store.specs.Format.{interface_file}
+use Rattle.bin_formats.specs.declared.bin.Bin.{Bin}
+use Rattle.bin_formats.specs.declared.bin.ToolRecord.{ToolRecord}
+use Rattle.bin_formats.specs.Format.{interface_file}
 use Rattle.bin_store.specs.Paths.{interface_path}
 use Rattle.bin_store.specs.Whole.{IsWholeBin, IsWholeInterface, IsWholeRecord}
-
--- the two definitions of a compiler
-pub record Definitions : Type 0 where
-  pub skel : List ℕ → List ℕ → Result Skeleton Diag
-  pub compiled : CompileInput → Result Compiled Diag
 
 -- the binfile of an input: with the skeleton and with what the compiler makes of it
 abbrev pub bin_of : CompileInput → Skeleton → Compiled → Bin

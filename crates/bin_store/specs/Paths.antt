@@ -4,10 +4,6 @@ use Rattle.std.specs.List.{slice_split, join_with_byte}
 use Rattle.cm_base.specs.declared.record.Pid.{Pid}
 use Rattle.cm_bytes.specs.Hashes.{pid_text}
 
--- `.cm/`
-unfoldable pub store_prefix : List ℕ
-store_prefix = 46 ∷ 99 ∷ 109 ∷ 47 ∷ []
-
 -- the components of a unit's name as they stand in the store: `=` before the last one, and `_` before each
 -- directory; the first component of an anchored name, `$a`, stays
 abbrev pub directory_part : List ℕ → List ℕ

@@ -1,9 +1,9 @@
 -- Whole files of the store. A file that isn't whole counts as absent.
 use Rattle.std.specs.Prelude.{ℕ, ◌≤◌, ◌≡◌, List, length}
 use Rattle.cm_bytes.specs.Hashes.{hash_of}
-use Rattle.bin_store.specs.declared.bin.Bin.{Bin}
-use Rattle.bin_store.specs.declared.bin.ToolRecord.{ToolRecord}
-use Rattle.bin_store.specs.Format.{binfile, interface_file, record_file, IsBin, IsRecord}
+use Rattle.bin_formats.specs.declared.bin.Bin.{Bin}
+use Rattle.bin_formats.specs.declared.bin.ToolRecord.{ToolRecord}
+use Rattle.bin_formats.specs.Format.{binfile, interface_file, record_file, IsBin, IsRecord}
 use Rattle.bin_store.specs.Paths.{bin_path, tool_path, interface_path}
 
 -- the bytes at a path are the binfile of a unit with that path, of at most 16,777,216 bytes

@@ -1,16 +1,13 @@
-//! The store: the files under `.cm/`, their formats, their paths, and what makes a store good.
+//! The store: the files under `.cm/`, where they stand, how they are put and got, and what makes a store good.
 #![tactic(auto)]
 
-mod bin;
-mod format;
+mod fault;
+mod found;
 pub mod laws;
 mod paths;
 mod store;
 
-pub use bin::{Bin, StoreFault, ToolRecord};
-pub use format::write_bin;
+pub use bin_formats::{Bin, ToolRecord, read_bin, write_bin};
+pub use fault::StoreFault;
 pub use paths::{bin_path, interface_path};
-pub use store::{get_interface, put_bin, put_interface};
-
-#[cfg(test)]
-mod tests;
+pub use store::{get_bin, get_interface, put_bin, put_interface};

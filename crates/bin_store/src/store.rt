@@ -1,64 +1,23 @@
 //! The store in a folder: whole files are read, and files are put.
 
-ghost use Rattle.std.specs.Prelude.{◌≡◌, ◌<◌, ◌^◌, ◌∷◌, ◌↔◌, Err, IsTrue, IfOk, OnOk, length, is_some};
+ghost use Rattle.std.specs.Prelude.{◌≡◌, ◌<◌, ◌^◌, ◌∷◌, Err, IfOk, OnOk, length, is_some};
 ghost use Rattle.std.specs.Option.{option_copied};
 ghost use Rattle.std.specs.FinMap.{get, insert};
 ghost use Rattle.cm_base.specs.Files.{Told, told};
 ghost use Rattle.cm_base.specs.Causes.{HasCause};
-ghost use Rattle.cm_base.specs.Keeping.{Touches};
 ghost use Rattle.cm_bytes.specs.Fields.{u32_of};
 ghost use Rattle.cm_bytes.specs.Hashes.{hash_of};
-ghost use Rattle.bin_store.specs.Format.{binfile, IsBin, IsShortBin};
+ghost use Rattle.bin_formats.specs.Format.{binfile, IsBin, IsShortBin};
 ghost use Rattle.bin_store.specs.Paths as paths;
-ghost use Rattle.bin_store.specs.Stored.{interface_in, interface_found, front_read, stored_interface, with_interface, PutsInterface, PutsBin};
+ghost use Rattle.bin_store.specs.Stored.{interface_in, interface_found, stored_interface, stored_bin, with_interface, PutsInterface, PutsBin};
 
-use crate::bin::{Bin, StoreFault};
-use crate::format::{write_bin, write_interface};
+use crate::fault::StoreFault;
+use crate::found::bin_of_file;
 use crate::paths::{bin_path, interface_path};
-use cm_base::{Folder, NoMemory, Pid, Text};
+use bin_formats::{Bin, same_bytes, write_bin, write_interface};
+use cm_base::{Folder, NoMemory, Pid, Text, put_file, read_front};
 use cm_bytes::{pid_of, same_pid};
 use std::alloc::Global;
-
-// The first bytes of a file, and `None` exactly where it isn't there.
-fn read_front<F: Folder>(
-    alloc: Global,
-    folder: &mut F,
-    path: &Text,
-    max: u32,
-) -> Result<Option<Text>, StoreFault>
-    ensures cause { HasCause (F.faults folder.old) (F.faults folder.new) (result ≡ Err StoreFault.Folder) }
-    ensures same { F.holds folder.new ≡ F.holds folder.old }
-    ensures read { Told (F.holds folder.old) (λ files. IfOk result (λ found. found
-        ≡ front_read max (get files path.now))) }
-{
-    let mut bytes = Vec::new(alloc);
-    if folder.read(alloc, path, max, &mut bytes)? {
-        Ok(Some(Text::from_vec(bytes)))
-    } else {
-        Ok(None)
-    }
-}
-
-// Replaces a file.
-fn put_file<F: Folder>(
-    alloc: Global,
-    folder: &mut F,
-    path: &Text,
-    bytes: &Text,
-) -> Result<(), StoreFault>
-    ensures cause { HasCause (F.faults folder.old) (F.faults folder.new) (result ≡ Err StoreFault.Folder) }
-    ensures done { OnOk result (F.holds folder.new
-        ≡ told (λ files. insert files path.now bytes.now) (F.holds folder.old)) }
-    ensures touches { Touches (F.holds folder.old) (F.holds folder.new) path.now bytes.now }
-{
-    Ok(folder.write(alloc, path, bytes.as_bytes())?)
-}
-
-fn same_bytes(a: &[u8], b: &[u8]) -> bool
-    ensures { IsTrue result ↔ (a.now ≡ b.now) }
-{
-    a == b
-}
 
 // What stands before the interface in its file.
 #[tactic(auto, unfolding(cm_bytes::specs::Fields::u32_of))]
@@ -190,5 +149,21 @@ pub fn put_bin<F: Folder>(alloc: Global, folder: &mut F, bin: &Bin) -> Result<()
 {
     let path = bin_path(alloc, &bin.unit)?;
     let file = write_bin(alloc, bin)?;
-    put_file(alloc, folder, &path, &file)
+    Ok(put_file(alloc, folder, &path, &file)?)
+}
+
+/// The binfile of a unit. `None` exactly where none stands whole at its place: where no file is there, where it is longer
+/// than a binfile may be, where its bytes are no binfile, or where they are another unit's.
+pub fn get_bin<F: Folder>(
+    alloc: Global,
+    folder: &mut F,
+    unit: &Text,
+) -> Result<Option<Bin>, StoreFault>
+    ensures cause { HasCause (F.faults folder.old) (F.faults folder.new) (result ≡ Err StoreFault.Folder) }
+    ensures same { F.holds folder.new ≡ F.holds folder.old }
+    ensures found { Told (F.holds folder.old) (λ files. IfOk result (λ found. found ≡ stored_bin files unit.now)) }
+{
+    let path = bin_path(alloc, unit)?;
+    let file = read_front(alloc, folder, &path, 16_777_216)?;
+    Ok(bin_of_file(alloc, unit, &file)?)
 }

@@ -1,25 +1,10 @@
 -- The text that a tool makes of a member: it is determined by the tool's rule, the unit's name and the input.
 -- A rule is a byte and what follows it: 0 and the spelling of a value name, 1 alone, or 2 and the spelling of a head.
-use Rattle.std.specs.Prelude.{ℕ, ◌+◌, ◌-◌, ◌/◌, ◌%◌, ◌==◌, ◌&&◌, ◌||◌, Bool, if◌then◌else◌, Option, None, Some, List, [], ◌∷◌, ◌++◌, take, drop, length, map, flat_map, codes, nat_le}
+use Rattle.std.specs.Prelude.{ℕ, ◌+◌, ◌/◌, ◌%◌, ◌==◌, ◌&&◌, ◌||◌, if◌then◌else◌, Option, None, Some, List, [], ◌∷◌, ◌++◌, take, drop, length, map, flat_map, codes, nat_le}
 use Rattle.std.specs.Int.{w32, from_be_bytes}
 use Rattle.std.specs.List.{before_first, after_last, slice_split, join_with_byte}
 use Rattle.std.specs.Option.{option_map_or}
-
-abbrev between : ℕ → ℕ → ℕ → Bool
-between low high byte = nat_le low byte && nat_le byte high
-
-abbrev pub is_letter : ℕ → Bool
-is_letter byte = between 65 90 byte || between 97 122 byte
-
-abbrev pub is_digit : ℕ → Bool
-is_digit byte = between 48 57 byte
-
--- the bytes of an alphanumeric identifier: letters, digits, `_` and the prime
-abbrev pub is_identifier_byte : ℕ → Bool
-is_identifier_byte byte = is_letter byte || (is_digit byte || ((byte == 95) || (byte == 39)))
-
-abbrev pub capital : ℕ → ℕ
-capital byte = if between 97 122 byte then byte - 32 else byte
+use Rattle.cm_base.specs.ByteClasses.{between, is_letter, is_identifier_byte, capital}
 
 -- a name that begins with a capital: its first letter made one, or `X` before it where it begins with none
 abbrev pub with_capital : List ℕ → List ℕ

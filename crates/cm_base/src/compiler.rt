@@ -1,23 +1,18 @@
 //! A compiler: the manager builds over any one that meets this trait.
 
-ghost use Rattle.std.specs.Prelude.{◌≡◌, ℕ, List, Result};
+ghost use Rattle.std.specs.Prelude.{◌≡◌, ℕ, List};
 ghost use Rattle.cm_base.specs.Calls.{Answers, Grows, GivesSmall};
-ghost use Rattle.cm_base.specs.declared.diag.Diag.{Diag};
-ghost use Rattle.cm_base.specs.declared.record.Skeleton.{Skeleton};
-ghost use Rattle.cm_base.specs.declared.record.CompileInput.{CompileInput};
-ghost use Rattle.cm_base.specs.declared.record.Compiled.{Compiled};
+ghost use Rattle.cm_base.specs.Definitions.{Definitions};
 
 use crate::fault::CompileFault;
 use crate::record::{CompileInput, Compiled, Skeleton};
 use crate::text::Text;
 use std::alloc::Global;
 
-/// A compiler answers what its two definitions say, or that it wants memory. They belong to its type, so
+/// A compiler answers what its definitions say, or that it wants memory. They belong to its type, so
 /// that no call changes them. `asked` and `asked_skeletons` list the units of its calls, in order.
 pub trait Compiler {
-    ghost skel: { List ℕ → List ℕ → Result Skeleton Diag };
-
-    ghost compiled: { CompileInput → Result Compiled Diag };
+    ghost defines: { Definitions };
 
     ghost asked: { Self → List (List ℕ) };
 
@@ -30,14 +25,14 @@ pub trait Compiler {
         unit: &Text,
         source: &Text,
     ) -> Result<Skeleton, CompileFault>
-        ensures answer { Answers result (skel unit.now source.now) }
+        ensures answer { Answers result (defines.skel unit.now source.now) }
         ensures small { GivesSmall result }
         ensures grows { Grows result (asked_skeletons self.old) (asked_skeletons self.new) unit.now }
         ensures same { asked self.new ≡ asked self.old };
 
     /// The interface and the code of a unit, or its first diagnostic.
     fn compile(&mut self, alloc: Global, input: &CompileInput) -> Result<Compiled, CompileFault>
-        ensures answer { Answers result (compiled input.now) }
+        ensures answer { Answers result (defines.compiled input.now) }
         ensures grows { Grows result (asked self.old) (asked self.new) input.now.unit }
         ensures same { asked_skeletons self.new ≡ asked_skeletons self.old };
 }

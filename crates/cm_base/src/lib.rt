@@ -3,10 +3,13 @@
 #![tactic(auto)]
 
 mod boxed;
+mod byte_class;
 mod compiler;
 mod diag;
 mod fault;
+mod file;
 mod folder;
+pub mod laws;
 mod list;
 mod mem_folder;
 mod mem_sink;
@@ -19,9 +22,11 @@ mod text;
 mod tool;
 
 pub use boxed::Boxed;
+pub use byte_class::{is_digit, is_identifier_byte, is_letter};
 pub use compiler::Compiler;
 pub use diag::{Diag, Place};
 pub use fault::{CompileFault, Fault, FolderFault, NoMemory, SinkFault, ToolFault};
+pub use file::{put_file, read_front};
 pub use folder::Folder;
 pub use list::List;
 pub use mem_folder::MemFolder;
@@ -29,13 +34,10 @@ pub use mem_sink::MemSink;
 pub use plan::{CallCounts, CallKind, FailAt, Left};
 pub use record::{
     Built, BuiltUnit, CompileInput, Compiled, Def, Given, How, Import, ModName, Namespace, Need,
-    Options, Pid, Skeleton, Spot,
+    Options, Pid, PlannedUnit, Skeleton, Spot, WantedName,
 };
 pub use sink::Sink;
 pub use sure_folder::SureFolder;
 pub use sure_sink::SureSink;
 pub use text::Text;
 pub use tool::Tool;
-
-#[cfg(test)]
-mod tests;

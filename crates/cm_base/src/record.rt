@@ -54,6 +54,23 @@ pub struct Skeleton {
     pub free: List<Need>,
 }
 
+/// A module name that a unit uses, and the unit that provides it.
+#[derive(Clone, Debug, Drop)]
+pub struct WantedName {
+    pub name: ModName,
+    pub provider: Text,
+}
+
+/// A source unit that is to be built, after the units that provide its names.
+#[derive(Debug, Drop)]
+pub struct PlannedUnit {
+    pub unit: Text,
+    pub options: Options,
+    pub source: Text,
+    pub skeleton: Skeleton,
+    pub wanted: List<WantedName>,
+}
+
 /// An imported module name, the unit that provides it, and the hash of that unit's interface.
 #[derive(Clone, Debug, Drop, PartialEq, Eq)]
 pub struct Import {

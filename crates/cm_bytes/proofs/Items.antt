@@ -1,5 +1,5 @@
 -- A loop that reads items one after another: what it has and what it reads from here on make up the whole.
-use Rattle.std.proofs.Common.{◌≡◌, ℕ, suc, ◌+◌, ◌-◌, ◌<◌, ◌≤◌, List, [], ◌∷◌, ◌++◌, Option, Some, None, refl, sym, ap, ◌∙◌, append_assoc, arith}
+use Rattle.std.proofs.Common.{◌≡◌, ℕ, suc, ◌+◌, ◌-◌, ◌<◌, ◌≤◌, List, [], ◌∷◌, ◌++◌, Option, Some, None, refl, sym, ap, subst, ◌∙◌, append_assoc, arith}
 use Rattle.std.proofs.lemmas.List.{append-nil}
 use Rattle.cm_bytes.specs.Fields.{Step, ◌>>=◌, items_at}
 
@@ -11,6 +11,18 @@ with_front front read = read >>= λ x. Some (front ++ x.0, x.1)
 pub record HasRead {A : Type 0} (item_at : Step A) (whole : Option (List A × List ℕ)) (front : List A) (left : ℕ)
     (bytes : List ℕ) : Type 0 where
   pub so_far : with_front front (items_at item_at left bytes) ≡ whole
+
+begins_so : {A : Type 0} (read : Option (List A × List ℕ)) → with_front [] read ≡ read
+begins_so None = refl
+begins_so (Some x) = refl
+
+-- no item is read yet
+pub items_begin : {A : Type 0} (item_at : Step A) (count : ℕ) (bytes : List ℕ)
+    → HasRead item_at (items_at item_at count bytes) [] (count - 0) bytes
+items_begin {A} item_at count bytes =
+    let all : count ≡ count - 0 = omega arith in
+    let whole = items_at item_at count bytes in
+    subst (λ (n : ℕ). HasRead item_at whole [] n bytes) all (record { so_far = begins_so whole })
 
 one_more : {A : Type 0} (front : List A) (x : A) (read : Option (List A × List ℕ))
     → with_front front (read >>= λ others. Some (x ∷ others.0, others.1)) ≡ with_front (front ++ x ∷ []) read
@@ -51,3 +63,6 @@ items_are_read {A} item_at whole front count i bytes le h =
     let step : with_front front (items_at item_at (count - i) bytes) ≡ Some (front, bytes) =
     rw none (ap (λ (xs : List A). Some (xs, bytes)) (append-nil front)) in
     sym h.so_far ∙ step
+
+-- all of a loop
+pub ruleset item_steps = (items_begin, items_go_on, items_fall_short, items_are_read)

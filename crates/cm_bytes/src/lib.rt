@@ -11,6 +11,3 @@ pub use hash::{pid_name, pid_of, same_pid};
 pub use reader::Reader;
 pub use short::Short;
 pub use writer::Writer;
-
-#[cfg(test)]
-mod tests;

@@ -11,9 +11,10 @@ use Rattle.cm_base.proofs.KeepingLemmas.{keeps_same, keeps_then, keeps_wider, ke
 use Rattle.cm_description.specs.declared.project.Project.{Project}
 use Rattle.skeleton_asking.specs.Skeletons.{Skeletons}
 use Rattle.cm_bytes.specs.Hashes.{HashesApart}
-use Rattle.bin_store.specs.GoodStore.{Definitions, StoreIsGood}
+use Rattle.cm_base.specs.Definitions.{Definitions}
+use Rattle.bin_store.specs.GoodStore.{StoreIsGood}
 use Rattle.bin_store.proofs.GoodAfter.{store_same, store_more, store_after_linked}
-use Rattle.cutoff_builder.specs.declared.planned.PlannedUnit.{PlannedUnit}
+use Rattle.cm_base.specs.declared.record.PlannedUnit.{PlannedUnit}
 use Rattle.cutoff_builder.specs.Kept.{interfaces_of, paths_of, KeepsGood}
 use Rattle.cutoff_builder.specs.PlainBuild.{Build}
 use Rattle.cutoff_builder.specs.Stored.{with_units}

@@ -4,8 +4,8 @@ use Rattle.std.specs.Prelude.{Result, Ok, Err}
 use Rattle.cm_base.specs.Files.{Files}
 use Rattle.cm_base.specs.declared.diag.Diag.{Diag}
 use Rattle.cm_base.specs.declared.record.BuiltUnit.{BuiltUnit}
-use Rattle.bin_store.specs.GoodStore.{Definitions}
-use Rattle.cutoff_builder.specs.declared.planned.PlannedUnit.{PlannedUnit}
+use Rattle.cm_base.specs.Definitions.{Definitions}
+use Rattle.cm_base.specs.declared.record.PlannedUnit.{PlannedUnit}
 use Rattle.cutoff_builder.specs.PlainBuild.{Build}
 use Rattle.cutoff_builder.specs.Stored.{put_units}
 use Rattle.cm_top.specs.declared.work.Report.{Report}

@@ -5,7 +5,8 @@ use Rattle.cm_base.specs.Files.{Files}
 use Rattle.cm_base.specs.Fronts.{GrowsUpTo}
 use Rattle.cm_base.specs.Keeping.{Keeps}
 use Rattle.cm_bytes.specs.Hashes.{HashesApart}
-use Rattle.bin_store.specs.GoodStore.{Definitions, StoreIsGood}
+use Rattle.cm_base.specs.Definitions.{Definitions}
+use Rattle.bin_store.specs.GoodStore.{StoreIsGood}
 use Rattle.cutoff_builder.specs.Kept.{KeepsGood}
 use Rattle.cm_top.specs.Meaning.{Meaning}
 use Rattle.cm_top.specs.declared.status.Status.{Status}

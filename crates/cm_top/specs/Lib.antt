@@ -1,4 +1,5 @@
 pub mod Answers
+pub mod Faults
 pub mod Headline
 pub mod Lines
 pub mod Meaning

@@ -7,10 +7,10 @@ use Rattle.cm_base.specs.Diags.{whole_file}
 use Rattle.cm_base.specs.declared.diag.Diag.{Diag}
 use Rattle.cm_base.specs.declared.record.BuiltUnit.{BuiltUnit}
 use Rattle.cm_description.specs.declared.project.Project.{Project}
-use Rattle.bin_store.specs.GoodStore.{Definitions}
+use Rattle.cm_base.specs.Definitions.{Definitions}
 use Rattle.bin_store.specs.Paths.{linked_path}
 use Rattle.linker.specs.Linked.{linked_program}
-use Rattle.cutoff_builder.specs.declared.planned.PlannedUnit.{PlannedUnit}
+use Rattle.cm_base.specs.declared.record.PlannedUnit.{PlannedUnit}
 use Rattle.cutoff_builder.specs.PlainBuild.{Build}
 use Rattle.cutoff_builder.specs.Kept.{interfaces_of, paths_of}
 use Rattle.cutoff_builder.specs.Stored.{put_units, with_units}

@@ -4,8 +4,8 @@ use Rattle.std.specs.Prelude.{ℕ, List, [], Option, Some, None}
 use Rattle.cm_base.specs.Diags.{whole_file}
 use Rattle.cm_base.specs.declared.diag.Diag.{Diag}
 use Rattle.cm_description.specs.declared.project.Project.{Project}
-use Rattle.bin_store.specs.GoodStore.{Definitions}
-use Rattle.cutoff_builder.specs.declared.planned.PlannedUnit.{PlannedUnit}
+use Rattle.cm_base.specs.Definitions.{Definitions}
+use Rattle.cm_base.specs.declared.record.PlannedUnit.{PlannedUnit}
 use Rattle.cutoff_builder.specs.PlainBuild.{Build, plain_build}
 use Rattle.skeleton_asking.specs.Skeletons.{Skeletons, skeletons_of}
 use Rattle.unit_order.specs.Planning.{plan_of}

@@ -15,8 +15,3 @@ pub use run::run_cm;
 pub use status::Status;
 pub use toolbox::Toolbox;
 pub use words::{Command, read_words};
-
-#[cfg(test)]
-mod letters;
-#[cfg(test)]
-mod tests;

@@ -1,11 +1,9 @@
 //! The linked program is written where its size allows it.
 
 ghost use Rattle.std.specs.Prelude.{◌≡◌, ◌<◌, ◌^◌, Err, IfOk, OnOk, All, length, nat_lt};
-ghost use Rattle.std.specs.FinMap.{insert};
 ghost use Rattle.std.specs.List.{list_all};
 ghost use Rattle.cm_base.specs.Causes.{HasCause};
-ghost use Rattle.cm_base.specs.Files.{Told, told};
-ghost use Rattle.cm_base.specs.Keeping.{Touches};
+ghost use Rattle.cm_base.specs.Files.{Told};
 ghost use Rattle.bin_store.specs.Paths.{linked_path};
 ghost use Rattle.linker.specs.Linked.{linked_program, IsShortBuilt};
 ghost use Rattle.cm_top.specs.Answers.{LinksTo, TouchesLinked};
@@ -14,7 +12,7 @@ ghost use Rattle.cm_top.specs.Short.{is_short_count, is_short_import, is_short_b
 
 use crate::limits::LINKED;
 use crate::work::WorkFault;
-use cm_base::{Built, BuiltUnit, Diag, Folder, FolderFault, Import, NoMemory, Text};
+use cm_base::{Built, BuiltUnit, Diag, Folder, Import, NoMemory, Text, put_file};
 use linker::laws::links_can_be_spelled;
 use linker::{link, write_linked};
 use std::alloc::Global;
@@ -72,24 +70,6 @@ fn linked_name(alloc: Global) -> Result<Text, NoMemory>
     ensures { IfOk result (λ path. path ≡ linked_path) }
 {
     Text::from_bytes(alloc, b".cm/linked")
-}
-
-/// Writes a file.
-fn put_file<F: Folder>(
-    alloc: Global,
-    folder: &mut F,
-    path: &Text,
-    bytes: &Text,
-) -> Result<(), WorkFault>
-    ensures cause { HasCause (F.faults folder.old) (F.faults folder.new) (result ≡ Err WorkFault.Folder) }
-    ensures done { OnOk result (F.holds folder.new ≡ told (λ files. insert files path.now bytes.now) (F.holds folder.old)) }
-    ensures touches { Touches (F.holds folder.old) (F.holds folder.new) path.now bytes.now }
-{
-    match folder.write(alloc, path, bytes.as_bytes()) {
-        Ok(()) => Ok(()),
-        Err(FolderFault::Failed) => Err(WorkFault::Folder),
-        Err(FolderFault::NoMemory) => Err(WorkFault::NoMemory),
-    }
 }
 
 /// Whether a linked program passes its limit.

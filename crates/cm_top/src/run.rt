@@ -64,11 +64,11 @@ fn run_build<F: Folder, S: Sink, C: Compiler>(
     ensures usage { result ≢ Status.Usage }
     ensures tool { result ≢ Status.ToolFault }
     ensures means { Told (F.holds folder.old) (λ files. Told (S.written out.old) (λ text. Ends result
-        (of_project (record { skel = C.skel; compiled = C.compiled }) root.now files (project_of files root.now)) text
+        (of_project C.defines root.now files (project_of files root.now)) text
         (S.written out.new) (F.holds folder.new) (C.asked compiler.old) (C.asked compiler.new)
         (C.asked_skeletons compiler.old) (C.asked_skeletons compiler.new))) }
-    ensures stays { Told (F.holds folder.old) (λ files. Stays (record { skel = C.skel; compiled = C.compiled })
-        (of_project (record { skel = C.skel; compiled = C.compiled }) root.now files (project_of files root.now))
+    ensures stays { Told (F.holds folder.old) (λ files. Stays C.defines
+        (of_project C.defines root.now files (project_of files root.now))
         (IsPlain result) (F.holds folder.old) (F.holds folder.new)) }
 {
     if root.as_bytes().len() >= 1 << 32 {
@@ -94,11 +94,11 @@ fn run_command<F: Folder, S: Sink, C: Compiler>(
     ensures usage { result ≢ Status.Usage }
     ensures tool { result ≢ Status.ToolFault }
     ensures means { Told (F.holds folder.old) (λ files. Told (S.written out.old) (λ text. Ends result
-        (of_command (record { skel = C.skel; compiled = C.compiled }) files (Some command.now)) text
+        (of_command C.defines files (Some command.now)) text
         (S.written out.new) (F.holds folder.new) (C.asked compiler.old) (C.asked compiler.new)
         (C.asked_skeletons compiler.old) (C.asked_skeletons compiler.new))) }
-    ensures stays { Told (F.holds folder.old) (λ files. Stays (record { skel = C.skel; compiled = C.compiled })
-        (of_command (record { skel = C.skel; compiled = C.compiled }) files (Some command.now))
+    ensures stays { Told (F.holds folder.old) (λ files. Stays C.defines
+        (of_command C.defines files (Some command.now))
         (IsPlain result) (F.holds folder.old) (F.holds folder.new)) }
 {
     match command {
@@ -124,11 +124,11 @@ pub fn run_cm<F: Folder, S: Sink, C: Compiler>(
     ensures nothing { command_of (map string_bytes words.now) ≡ None → IsUsageEnd result }
     ensures tool { result ≢ Status.ToolFault }
     ensures means { Told (F.holds folder.old) (λ files. Told (S.written out.old) (λ text. Ends result
-        (meaning_of (record { skel = C.skel; compiled = C.compiled }) (map string_bytes words.now) files) text
+        (meaning_of C.defines (map string_bytes words.now) files) text
         (S.written out.new) (F.holds folder.new) (C.asked compiler.old) (C.asked compiler.new)
         (C.asked_skeletons compiler.old) (C.asked_skeletons compiler.new))) }
-    ensures stays { Told (F.holds folder.old) (λ files. Stays (record { skel = C.skel; compiled = C.compiled })
-        (meaning_of (record { skel = C.skel; compiled = C.compiled }) (map string_bytes words.now) files)
+    ensures stays { Told (F.holds folder.old) (λ files. Stays C.defines
+        (meaning_of C.defines (map string_bytes words.now) files)
         (IsPlain result) (F.holds folder.old) (F.holds folder.new)) }
 {
     match read_words(alloc, words) {

@@ -18,9 +18,11 @@ ghost use Rattle.cm_top.specs.ProjectBuild.{build_in_order, plain_build_of};
 use crate::lines::{diag_text, report_text};
 use crate::linking::end;
 use crate::status::Status;
-use cm_base::{Built, Compiler, Diag, Fault, Folder, List, NoMemory, Skeleton, Text};
+use cm_base::{
+    Built, Compiler, Diag, Fault, Folder, FolderFault, List, NoMemory, PlannedUnit, Skeleton, Text,
+};
 use cm_description::Project;
-use cutoff_builder::{BuildFault, PlannedUnit, build};
+use cutoff_builder::{BuildFault, build};
 use group_loader::{LoadFault, load};
 use skeleton_asking::ask_skeletons;
 use std::alloc::Global;
@@ -38,6 +40,20 @@ pub struct Report {
 pub enum WorkFault {
     Folder,
     NoMemory,
+}
+
+impl From<FolderFault> for WorkFault {
+    ghost use Rattle.std.specs.Prelude.{◌≡◌};
+    ghost use Rattle.cm_top.specs.Faults.{of_folder};
+
+    ghost from_gives = { λ error fault. fault ≡ of_folder error };
+
+    fn from(error: FolderFault) -> Self {
+        match error {
+            FolderFault::Failed => WorkFault::Folder,
+            FolderFault::NoMemory => WorkFault::NoMemory,
+        }
+    }
 }
 
 impl From<NoMemory> for WorkFault {
@@ -102,14 +118,14 @@ fn build_units<F: Folder, C: Compiler>(
     compiler: &mut C,
     planned: &[PlannedUnit],
 ) -> Result<Report, WorkFault>
-    requires { HaveSkeletons C.skel planned.now }
+    requires { HaveSkeletons C.defines.skel planned.now }
     ensures cause { HasCause (F.faults folder.old) (F.faults folder.new) (result ≡ Err WorkFault.Folder) }
     ensures plain { IfOk result (λ report. IsReported report.status) }
     ensures works { Told (F.holds folder.old) (λ files. Works result
-        (of_build [] files planned.now (plain_build C.compiled planned.now))
+        (of_build [] files planned.now (plain_build C.defines.compiled planned.now))
         (F.holds folder.new) (C.asked compiler.old) (C.asked compiler.new)) }
-    ensures stays { Told (F.holds folder.old) (λ files. Stays (record { skel = C.skel; compiled = C.compiled })
-        (of_build [] files planned.now (plain_build C.compiled planned.now)) (IsWorkDone result)
+    ensures stays { Told (F.holds folder.old) (λ files. Stays C.defines
+        (of_build [] files planned.now (plain_build C.defines.compiled planned.now)) (IsWorkDone result)
         (F.holds folder.old) (F.holds folder.new)) }
     ensures same { C.asked_skeletons compiler.new ≡ C.asked_skeletons compiler.old }
 {
@@ -130,15 +146,16 @@ fn plan_units<F: Folder, C: Compiler>(
     project: &Project,
     skeletons: &List<Skeleton>,
 ) -> Result<Report, WorkFault>
-    requires found { (skeletons_of C.skel project.now.units).found ≡ skeletons.now }
-    requires ended { (skeletons_of C.skel project.now.units).ended ≡ None }
+    requires found { (skeletons_of C.defines.skel project.now.units).found ≡ skeletons.now }
+    requires ended { (skeletons_of C.defines.skel project.now.units).ended ≡ None }
+    requires each { length skeletons.now ≡ length project.now.units }
     ensures cause { HasCause (F.faults folder.old) (F.faults folder.new) (result ≡ Err WorkFault.Folder) }
     ensures plain { IfOk result (λ report. IsReported report.status) }
     ensures works { Told (F.holds folder.old) (λ files. Works result
-        (of_plain files (build_in_order (record { skel = C.skel; compiled = C.compiled }) root.now [] (plan_of project.now.units skeletons.now)))
+        (of_plain files (build_in_order C.defines root.now [] (plan_of project.now.units skeletons.now)))
         (F.holds folder.new) (C.asked compiler.old) (C.asked compiler.new)) }
-    ensures stays { Told (F.holds folder.old) (λ files. Stays (record { skel = C.skel; compiled = C.compiled })
-        (of_plain files (build_in_order (record { skel = C.skel; compiled = C.compiled }) root.now [] (plan_of project.now.units skeletons.now)))
+    ensures stays { Told (F.holds folder.old) (λ files. Stays C.defines
+        (of_plain files (build_in_order C.defines root.now [] (plan_of project.now.units skeletons.now)))
         (IsWorkDone result) (F.holds folder.old) (F.holds folder.new)) }
     ensures same { C.asked_skeletons compiler.new ≡ C.asked_skeletons compiler.old }
 {
@@ -162,12 +179,12 @@ fn build_project<F: Folder, C: Compiler>(
     ensures cause { HasCause (F.faults folder.old) (F.faults folder.new) (result ≡ Err WorkFault.Folder) }
     ensures plain { IfOk result (λ report. IsReported report.status) }
     ensures works { Told (F.holds folder.old) (λ files. Works result
-        (of_plain files (plain_build_of (record { skel = C.skel; compiled = C.compiled }) root.now project.now))
+        (of_plain files (plain_build_of C.defines root.now project.now))
         (F.holds folder.new) (C.asked compiler.old) (C.asked compiler.new)) }
-    ensures stays { Told (F.holds folder.old) (λ files. Stays (record { skel = C.skel; compiled = C.compiled })
-        (of_plain files (plain_build_of (record { skel = C.skel; compiled = C.compiled }) root.now project.now))
+    ensures stays { Told (F.holds folder.old) (λ files. Stays C.defines
+        (of_plain files (plain_build_of C.defines root.now project.now))
         (IsWorkDone result) (F.holds folder.old) (F.holds folder.new)) }
-    ensures skeletons { AsksSkeletons result (skeletons_of C.skel project.now.units).asked
+    ensures skeletons { AsksSkeletons result (skeletons_of C.defines.skel project.now.units).asked
         (C.asked_skeletons compiler.old) (C.asked_skeletons compiler.new) }
 {
     match ask_skeletons(alloc, compiler, project.units.as_slice()) {
@@ -188,13 +205,13 @@ pub fn work<F: Folder, C: Compiler>(
     ensures cause { HasCause (F.faults folder.old) (F.faults folder.new) (result ≡ Err WorkFault.Folder) }
     ensures plain { IfOk result (λ report. IsReported report.status) }
     ensures works { Told (F.holds folder.old) (λ files. Works result
-        (of_project (record { skel = C.skel; compiled = C.compiled }) root.now files (project_of files root.now))
+        (of_project C.defines root.now files (project_of files root.now))
         (F.holds folder.new) (C.asked compiler.old) (C.asked compiler.new)) }
-    ensures stays { Told (F.holds folder.old) (λ files. Stays (record { skel = C.skel; compiled = C.compiled })
-        (of_project (record { skel = C.skel; compiled = C.compiled }) root.now files (project_of files root.now))
+    ensures stays { Told (F.holds folder.old) (λ files. Stays C.defines
+        (of_project C.defines root.now files (project_of files root.now))
         (IsWorkDone result) (F.holds folder.old) (F.holds folder.new)) }
     ensures skeletons { Told (F.holds folder.old) (λ files. AsksSkeletons result
-        (of_project (record { skel = C.skel; compiled = C.compiled }) root.now files (project_of files root.now)).asked_skeletons
+        (of_project C.defines root.now files (project_of files root.now)).asked_skeletons
         (C.asked_skeletons compiler.old) (C.asked_skeletons compiler.new)) }
 {
     match load(alloc, folder, root) {

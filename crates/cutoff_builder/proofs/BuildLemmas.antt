@@ -6,8 +6,8 @@ use Rattle.cm_base.specs.declared.diag.Diag.{Diag}
 use Rattle.cm_base.specs.declared.record.BuiltUnit.{BuiltUnit}
 use Rattle.cm_base.specs.declared.record.CompileInput.{CompileInput}
 use Rattle.cm_base.specs.declared.record.Compiled.{Compiled}
-use Rattle.bin_store.specs.Format.{IsBin}
-use Rattle.cutoff_builder.specs.declared.planned.PlannedUnit.{PlannedUnit}
+use Rattle.bin_formats.specs.Format.{IsBin}
+use Rattle.cm_base.specs.declared.record.PlannedUnit.{PlannedUnit}
 use Rattle.cutoff_builder.specs.PlainBuild.{Build, then_build, build_after, plain_build, unit_after, asked_for, givens_of}
 use Rattle.cutoff_builder.specs.Stored.{bin_of_unit, put_unit, put_units, StoresUnit, FitUnits, LeftByBuild}
 use Rattle.cm_base.specs.Fronts.{GrowsUpTo}

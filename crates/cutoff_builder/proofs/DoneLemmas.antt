@@ -6,7 +6,8 @@ use Rattle.std.specs.Option.{option_or}
 use lib.Pointwise.{pointwise}
 use Rattle.cm_base.specs.declared.record.BuiltUnit.{BuiltUnit}
 use Rattle.cutoff_builder.specs.PlainBuild.{done_unit, interface_bytes}
-use Rattle.cutoff_builder.specs.Answers.{unit_at, IsIndexed}
+use Rattle.cm_base.specs.Places.{item_at}
+use Rattle.cutoff_builder.specs.Answers.{IsIndexed}
 
 -- an item that is there stands where it stood after more items are added
 slice_get-append : {X : Type 0} (xs ys : List X) (i : ℕ) → i < length xs → slice_get (xs ++ ys) i ≡ slice_get xs i
@@ -40,7 +41,7 @@ done_unit-add (first ∷ units) unit name =
 -- what a table finds after a unit was added at its name
 finds_more : (units : List BuiltUnit) (unit : BuiltUnit) (b : Bool) (o : Option ℕ)
     → ((place : ℕ) → o ≡ Some place → place < length units)
-    → unit_at (units ++ unit ∷ []) (cond b (Some (length units)) o) ≡ cond b (Some unit) (unit_at units o)
+    → item_at (units ++ unit ∷ []) (cond b (Some (length units)) o) ≡ cond b (Some unit) (item_at units o)
 finds_more units unit true o below = slice_get-end units unit (length units) refl
 finds_more units unit false None below = refl
 finds_more units unit false (Some place) below = slice_get-append units (unit ∷ []) place (below place refl)
@@ -56,7 +57,7 @@ pub indexed_more : (old new : List ℕ → Option ℕ) (units : List BuiltUnit) 
     → IsIndexed old units → IsIndexed new (units ++ unit ∷ [])
 indexed_more old new units unit updates indexed = record {
   finds = λ name.
-      ap (unit_at (units ++ unit ∷ [])) (updates name)
+      ap (item_at (units ++ unit ∷ [])) (updates name)
       ∙ finds_more units unit (pointwise nat_eq unit.unit name) (old name) (indexed.below name)
       ∙ ap (cond (pointwise nat_eq unit.unit name) (Some unit)) (indexed.finds name)
       ∙ sym (done_unit-add units unit name);

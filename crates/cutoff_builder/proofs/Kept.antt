@@ -15,12 +15,13 @@ use Rattle.cm_base.specs.declared.record.Given.{Given}
 use Rattle.cm_base.proofs.FileLemmas.{get-insert_same}
 use Rattle.cm_base.proofs.KeepingLemmas.{keeps_same, keeps_then, keeps_wider}
 use Rattle.cm_bytes.specs.Hashes.{hash_of, HashesApart}
-use Rattle.bin_store.specs.Format.{binfile, interface_file}
-use Rattle.bin_store.specs.GoodStore.{Definitions, IsKnown, IsGoodBin, IsGoodStore, StoreIsGood}
+use Rattle.bin_formats.specs.Format.{binfile, interface_file}
+use Rattle.cm_base.specs.Definitions.{Definitions}
+use Rattle.bin_store.specs.GoodStore.{IsKnown, IsGoodBin, IsGoodStore, StoreIsGood}
 use Rattle.bin_store.specs.Paths.{bin_path, interface_path}
 use Rattle.bin_store.specs.Stored.{stored_interface, with_interface, PutsBin}
 use Rattle.bin_store.proofs.GoodAfter.{store_same, store_is_good, good_is_told, store_after_put_interface, store_after_put_bin, interface_is_there, interface_stands, keeps_put_interface, keeps_put_bin}
-use Rattle.cutoff_builder.specs.declared.planned.PlannedUnit.{PlannedUnit}
+use Rattle.cm_base.specs.declared.record.PlannedUnit.{PlannedUnit}
 use Rattle.cutoff_builder.specs.Kept.{paths_of, HaveSkeletons}
 use Rattle.cutoff_builder.specs.PlainBuild.{Build, input_of, built_unit}
 use Rattle.cutoff_builder.specs.Stored.{bin_of_unit, put_unit, put_units, with_unit, with_units, unit_paths, StoresUnit, FitUnits, LeftByBuild}

@@ -16,14 +16,15 @@ use Rattle.cm_base.specs.declared.record.CompileInput.{CompileInput}
 use Rattle.cm_base.specs.declared.record.Compiled.{Compiled}
 use Rattle.cm_base.specs.declared.record.Given.{Given}
 use Rattle.cm_bytes.specs.Hashes.{hash_of, HashesApart}
-use Rattle.bin_store.specs.GoodStore.{Definitions, IsKnown, IsGoodStore, StoreIsGood}
+use Rattle.cm_base.specs.Definitions.{Definitions}
+use Rattle.bin_store.specs.GoodStore.{IsKnown, IsGoodStore, StoreIsGood}
 use Rattle.bin_store.proofs.GoodAfter.{store_same, store_more}
 use Rattle.bin_store.proofs.StoreLaws.{good_more}
 use Rattle.cutoff_builder.specs.declared.builder.BuildFault.{BuildFault}
 use Rattle.cutoff_builder.specs.declared.builder.BuildFault.TheVariants as stop
 use Rattle.cutoff_builder.specs.declared.limits.TheConstants.{INTERFACE, CODE, ALL_INTERFACES}
-use Rattle.cutoff_builder.specs.declared.planned.PlannedUnit.{PlannedUnit}
-use Rattle.cutoff_builder.specs.declared.planned.WantedName.{WantedName}
+use Rattle.cm_base.specs.declared.record.PlannedUnit.{PlannedUnit}
+use Rattle.cm_base.specs.declared.record.WantedName.{WantedName}
 use Rattle.cutoff_builder.specs.Answers.{BuildStored}
 use Rattle.cutoff_builder.specs.Kept.{interfaces_of, paths_of, HaveSkeletons, KeepsGood, LeavesPlain, PutsPlain}
 use Rattle.cutoff_builder.specs.PlainBuild.{Build, done_unit, given_by, with_given, givens_of, input_of, is_too_large, interface_bytes, built_unit, within_limits, unit_given, unit_after, asked_for, then_build, build_after, plain_build}

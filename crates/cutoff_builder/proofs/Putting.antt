@@ -10,10 +10,10 @@ use Rattle.cm_base.specs.declared.record.BuiltUnit.{BuiltUnit}
 use Rattle.cm_base.proofs.FileLemmas.{same_path}
 use Rattle.cm_base.proofs.KeepingLemmas.{touches_written}
 use Rattle.cm_bytes.specs.Hashes.{hash_of}
-use Rattle.bin_store.specs.Format.{IsBin, binfile, interface_file}
+use Rattle.bin_formats.specs.Format.{IsBin, binfile, interface_file}
 use Rattle.bin_store.specs.Paths.{bin_path, interface_path}
 use Rattle.bin_store.specs.Stored.{stored_interface, with_interface, PutsInterface}
-use Rattle.cutoff_builder.specs.declared.planned.PlannedUnit.{PlannedUnit}
+use Rattle.cm_base.specs.declared.record.PlannedUnit.{PlannedUnit}
 use Rattle.cutoff_builder.specs.Kept.{paths_of}
 use Rattle.cutoff_builder.specs.Stored.{bin_of_unit, put_unit, put_units, unit_paths, StoresUnit}
 use Rattle.cutoff_builder.proofs.StoreLemmas.{told_told}

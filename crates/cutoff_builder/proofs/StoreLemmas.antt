@@ -4,12 +4,12 @@ use Rattle.std.specs.Prelude.{Result, Ok, Err, OnOk}
 use Rattle.std.specs.FinMap.{insert}
 use Rattle.cm_base.specs.Files.{Files, told}
 use Rattle.cm_base.specs.declared.record.BuiltUnit.{BuiltUnit}
-use Rattle.bin_store.specs.declared.bin.Bin.{Bin}
-use Rattle.bin_store.specs.declared.bin.StoreFault.{StoreFault}
-use Rattle.bin_store.specs.Format.{binfile}
+use Rattle.bin_formats.specs.declared.bin.Bin.{Bin}
+use Rattle.bin_store.specs.declared.fault.StoreFault.{StoreFault}
+use Rattle.bin_formats.specs.Format.{binfile}
 use Rattle.bin_store.specs.Paths.{bin_path}
 use Rattle.bin_store.specs.Stored.{with_interface}
-use Rattle.cutoff_builder.specs.declared.planned.PlannedUnit.{PlannedUnit}
+use Rattle.cm_base.specs.declared.record.PlannedUnit.{PlannedUnit}
 use Rattle.cutoff_builder.specs.Stored.{bin_of_unit, put_unit}
 
 -- one change of what is told after another

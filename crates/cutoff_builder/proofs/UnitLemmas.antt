@@ -10,9 +10,9 @@ use Rattle.cm_base.specs.declared.record.BuiltUnit.{BuiltUnit}
 use Rattle.cm_base.specs.declared.record.CompileInput.{CompileInput}
 use Rattle.cm_base.specs.declared.record.Compiled.{Compiled}
 use Rattle.cm_base.specs.declared.record.Given.{Given}
-use Rattle.bin_store.specs.Format.{IsShortImport}
-use Rattle.cutoff_builder.specs.declared.planned.PlannedUnit.{PlannedUnit}
-use Rattle.cutoff_builder.specs.declared.planned.WantedName.{WantedName}
+use Rattle.bin_formats.specs.Format.{IsShortImport}
+use Rattle.cm_base.specs.declared.record.PlannedUnit.{PlannedUnit}
+use Rattle.cm_base.specs.declared.record.WantedName.{WantedName}
 use Rattle.cutoff_builder.specs.declared.limits.TheConstants.{INTERFACE, CODE, ALL_INTERFACES}
 use Rattle.cutoff_builder.specs.PlainBuild.{done_unit, given_by, with_given, givens_of, input_of, is_too_large, interface_bytes, built_unit, within_limits, unit_given, unit_after}
 use Rattle.cutoff_builder.specs.Stored.{IsShortPlanned, IsShortWanted, IsStorable, is_short, is_short_count, is_short_spot, is_short_need, is_short_wanted}

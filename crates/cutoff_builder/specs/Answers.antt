@@ -1,26 +1,23 @@
 -- What the builder's calls answer, by cases on their results.
-use Rattle.std.specs.Prelude.{ℕ, ◌≡◌, ◌<◌, ◌⊎◌, List, [], ◌∷◌, ◌++◌, Option, Some, None, Result, Ok, Err, length, slice_get}
+use Rattle.std.specs.Prelude.{ℕ, ◌≡◌, ◌<◌, ◌⊎◌, List, [], ◌∷◌, ◌++◌, Option, Some, None, Result, Ok, Err, length}
 use Rattle.cm_base.specs.Files.{Files, told}
 use Rattle.cm_base.specs.Fronts.{GrowsUpTo}
+use Rattle.cm_base.specs.Places.{item_at}
 use Rattle.cm_base.specs.declared.diag.Diag.{Diag}
 use Rattle.cm_base.specs.declared.record.Built.{Built}
 use Rattle.cm_base.specs.declared.record.BuiltUnit.{BuiltUnit}
-use Rattle.bin_store.specs.Format.{IsBin}
+use Rattle.bin_formats.specs.Format.{IsBin}
 use Rattle.cutoff_builder.specs.declared.builder.BuildFault.{BuildFault}
 use Rattle.cutoff_builder.specs.declared.builder.BuildFault.TheVariants as stop
 use Rattle.cutoff_builder.specs.declared.builder.UnitFault.{UnitFault}
 use Rattle.cutoff_builder.specs.declared.builder.UnitFault.TheVariants as unit_stop
-use Rattle.cutoff_builder.specs.declared.planned.PlannedUnit.{PlannedUnit}
+use Rattle.cm_base.specs.declared.record.PlannedUnit.{PlannedUnit}
 use Rattle.cutoff_builder.specs.PlainBuild.{Build, done_unit}
 use Rattle.cutoff_builder.specs.Stored.{bin_of_unit, put_unit, put_units, StoresUnit, FitUnits, LeftByBuild}
 
 -- a table of places finds each unit that is done by its name
-abbrev pub unit_at : List BuiltUnit → Option ℕ → Option BuiltUnit
-unit_at units None = None
-unit_at units (Some place) = slice_get units place
-
 pub record IsIndexed (table : List ℕ → Option ℕ) (units : List BuiltUnit) : Type 0 where
-  pub finds : (name : List ℕ) → unit_at units (table name) ≡ done_unit units name
+  pub finds : (name : List ℕ) → item_at units (table name) ≡ done_unit units name
   pub below : (name : List ℕ) (place : ℕ) → table name ≡ Some place → place < length units
 
 -- one unit of a build: it is done and stored, or its diagnostic comes and nothing is stored, or the build is cut off

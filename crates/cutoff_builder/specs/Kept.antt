@@ -7,10 +7,11 @@ use Rattle.cm_base.specs.declared.record.Built.{Built}
 use Rattle.cm_base.specs.declared.record.BuiltUnit.{BuiltUnit}
 use Rattle.cm_base.specs.declared.record.Skeleton.{Skeleton}
 use Rattle.cm_bytes.specs.Hashes.{HashesApart}
-use Rattle.bin_store.specs.GoodStore.{Definitions, StoreIsGood}
+use Rattle.cm_base.specs.Definitions.{Definitions}
+use Rattle.bin_store.specs.GoodStore.{StoreIsGood}
 use Rattle.cutoff_builder.specs.declared.builder.BuildFault.{BuildFault}
 use Rattle.cutoff_builder.specs.declared.builder.BuildFault.TheVariants as stop
-use Rattle.cutoff_builder.specs.declared.planned.PlannedUnit.{PlannedUnit}
+use Rattle.cm_base.specs.declared.record.PlannedUnit.{PlannedUnit}
 use Rattle.cutoff_builder.specs.Stored.{unit_paths, with_units}
 
 -- the interfaces of some units

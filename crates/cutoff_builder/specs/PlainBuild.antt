@@ -11,8 +11,8 @@ use Rattle.cm_base.specs.declared.record.How.TheVariants as how
 use Rattle.cm_base.specs.declared.record.BuiltUnit.{BuiltUnit}
 use Rattle.cm_base.specs.Diags.{whole_file}
 use Rattle.cm_bytes.specs.Hashes.{hash_of}
-use Rattle.cutoff_builder.specs.declared.planned.PlannedUnit.{PlannedUnit}
-use Rattle.cutoff_builder.specs.declared.planned.WantedName.{WantedName}
+use Rattle.cm_base.specs.declared.record.PlannedUnit.{PlannedUnit}
+use Rattle.cm_base.specs.declared.record.WantedName.{WantedName}
 use Rattle.cutoff_builder.specs.declared.limits.TheConstants.{INTERFACE, CODE, ALL_INTERFACES}
 
 -- the unit of this name among those that are done: the last one, of several

@@ -6,13 +6,13 @@ use Rattle.std.specs.List.{AllByRecursion, list_all}
 use Rattle.cm_base.specs.declared.record.Spot.{Spot}
 use Rattle.cm_base.specs.declared.record.Need.{Need}
 use Rattle.cm_base.specs.declared.record.BuiltUnit.{BuiltUnit}
-use Rattle.bin_store.specs.declared.bin.Bin.{Bin}
+use Rattle.bin_formats.specs.declared.bin.Bin.{Bin}
 use Rattle.cm_bytes.specs.Hashes.{hash_of}
-use Rattle.bin_store.specs.Format.{binfile, interface_file, IsBin, IsShortBin}
+use Rattle.bin_formats.specs.Format.{binfile, interface_file, IsBin, IsShortBin}
 use Rattle.bin_store.specs.Paths.{bin_path, interface_path}
 use Rattle.bin_store.specs.Stored.{with_interface, PutsInterface, PutsBin}
-use Rattle.cutoff_builder.specs.declared.planned.PlannedUnit.{PlannedUnit}
-use Rattle.cutoff_builder.specs.declared.planned.WantedName.{WantedName}
+use Rattle.cm_base.specs.declared.record.PlannedUnit.{PlannedUnit}
+use Rattle.cm_base.specs.declared.record.WantedName.{WantedName}
 use Rattle.cutoff_builder.specs.PlainBuild.{Build}
 
 -- the binfile's value of a unit that is done

@@ -10,12 +10,11 @@ ghost use Rattle.cutoff_builder.specs.PlainBuild.{unit_after, asked_for, givens_
 
 use crate::done::Done;
 use crate::limits::ALL_INTERFACES;
-use crate::planned::PlannedUnit;
 use crate::short::is_short;
 use crate::store::store_unit;
 use crate::unit::compile_unit;
 use bin_store::StoreFault;
-use cm_base::{Built, Compiler, Diag, Fault, Folder, NoMemory};
+use cm_base::{Built, Compiler, Diag, Fault, Folder, NoMemory, PlannedUnit};
 use std::alloc::Global;
 
 /// Why a build stopped: a diagnostic, with the units done before it; a failing folder; or want of memory.
@@ -45,8 +44,8 @@ fn build_unit<F: Folder, C: Compiler>(
     requires done { IsDone done.old }
     requires few { done.old.interface_bytes ≤ ALL_INTERFACES }
     ensures cause { HasCause (F.faults folder.old) (F.faults folder.new) (result ≡ Err UnitFault.Folder) }
-    ensures gives { GivesUnit result (unit_after C.compiled done.old.units planned.now) done.old.units done.new.units }
-    ensures stored { UnitStored result (unit_after C.compiled done.old.units planned.now)
+    ensures gives { GivesUnit result (unit_after C.defines.compiled done.old.units planned.now) done.old.units done.new.units }
+    ensures stored { UnitStored result (unit_after C.defines.compiled done.old.units planned.now)
         (F.holds folder.old) (F.holds folder.new) planned.now }
     ensures asked { UnitAsked result (C.asked compiler.old) (C.asked compiler.new)
         (asked_for planned.now (givens_of done.old.units planned.now.wanted)) }
@@ -81,9 +80,9 @@ fn build_each<F: Folder, C: Compiler>(
     units: &[PlannedUnit],
 ) -> Result<Built, BuildFault>
     ensures cause { HasCause (F.faults folder.old) (F.faults folder.new) (result ≡ Err BuildFault.Folder) }
-    ensures gives { GivesBuild result (plain_build C.compiled units.now) }
-    ensures stored { BuildStored result (F.holds folder.old) (F.holds folder.new) units.now (plain_build C.compiled units.now) }
-    ensures asked { BuildAsked result (C.asked compiler.old) (C.asked compiler.new) (plain_build C.compiled units.now).asked }
+    ensures gives { GivesBuild result (plain_build C.defines.compiled units.now) }
+    ensures stored { BuildStored result (F.holds folder.old) (F.holds folder.new) units.now (plain_build C.defines.compiled units.now) }
+    ensures asked { BuildAsked result (C.asked compiler.old) (C.asked compiler.new) (plain_build C.defines.compiled units.now).asked }
     ensures same { C.asked_skeletons compiler.new ≡ C.asked_skeletons compiler.old }
 {
     let mut done = Done::none(alloc);
@@ -113,14 +112,14 @@ pub fn build<F: Folder, C: Compiler>(
     units: &[PlannedUnit],
 ) -> Result<Built, BuildFault>
     ensures cause { HasCause (F.faults folder.old) (F.faults folder.new) (result ≡ Err BuildFault.Folder) }
-    ensures gives { GivesBuild result (plain_build C.compiled units.now) }
-    ensures stored { BuildStored result (F.holds folder.old) (F.holds folder.new) units.now (plain_build C.compiled units.now) }
-    ensures frame { Keeps (F.holds folder.old) (F.holds folder.new) (paths_of (plain_build C.compiled units.now).units) }
-    ensures good { HaveSkeletons C.skel units.now → KeepsGood (record { skel = C.skel; compiled = C.compiled })
-        (interfaces_of (plain_build C.compiled units.now).units) (F.holds folder.old) (F.holds folder.new) }
-    ensures plain { HaveSkeletons C.skel units.now → PutsPlain (record { skel = C.skel; compiled = C.compiled }) result
-        (F.holds folder.old) (F.holds folder.new) units.now (plain_build C.compiled units.now).units }
-    ensures asked { BuildAsked result (C.asked compiler.old) (C.asked compiler.new) (plain_build C.compiled units.now).asked }
+    ensures gives { GivesBuild result (plain_build C.defines.compiled units.now) }
+    ensures stored { BuildStored result (F.holds folder.old) (F.holds folder.new) units.now (plain_build C.defines.compiled units.now) }
+    ensures frame { Keeps (F.holds folder.old) (F.holds folder.new) (paths_of (plain_build C.defines.compiled units.now).units) }
+    ensures good { HaveSkeletons C.defines.skel units.now → KeepsGood C.defines
+        (interfaces_of (plain_build C.defines.compiled units.now).units) (F.holds folder.old) (F.holds folder.new) }
+    ensures plain { HaveSkeletons C.defines.skel units.now → PutsPlain C.defines result
+        (F.holds folder.old) (F.holds folder.new) units.now (plain_build C.defines.compiled units.now).units }
+    ensures asked { BuildAsked result (C.asked compiler.old) (C.asked compiler.new) (plain_build C.defines.compiled units.now).asked }
     ensures same { C.asked_skeletons compiler.new ≡ C.asked_skeletons compiler.old }
 {
     build_each(alloc, folder, compiler, units)

@@ -5,16 +5,9 @@
 mod builder;
 mod done;
 mod limits;
-mod planned;
 mod short;
 mod store;
 mod unit;
 
 pub use builder::{BuildFault, build};
 pub use limits::{ALL_INTERFACES, CODE, INTERFACE};
-pub use planned::{PlannedUnit, WantedName};
-
-#[cfg(test)]
-mod copier;
-#[cfg(test)]
-mod tests;

@@ -4,8 +4,7 @@ ghost use Rattle.std.specs.Prelude.{◌≡◌};
 ghost use Rattle.std.specs.List.{list_all};
 ghost use Rattle.cutoff_builder.specs.Stored.{is_short, is_short_count, is_short_need, is_short_spot, is_short_wanted};
 
-use crate::planned::{PlannedUnit, WantedName};
-use cm_base::{Need, Spot};
+use cm_base::{Need, PlannedUnit, Spot, WantedName};
 
 /// Whether a count fits four bytes.
 fn is_short_count(count: usize) -> bool

@@ -3,12 +3,11 @@
 ghost use Rattle.std.specs.Prelude.{◌≡◌, ◌<◌, ◌^◌, Err, IfOk, OnOk, length};
 ghost use Rattle.cm_base.specs.Causes.{HasCause};
 ghost use Rattle.cm_base.specs.Files.{told};
-ghost use Rattle.bin_store.specs.Format.{IsBin};
+ghost use Rattle.bin_formats.specs.Format.{IsBin};
 ghost use Rattle.cutoff_builder.specs.Stored.{bin_of_unit, put_unit, IsStorable, StoresUnit};
 
-use crate::planned::PlannedUnit;
 use bin_store::{Bin, StoreFault, put_bin, put_interface};
-use cm_base::{BuiltUnit, Folder, Import, List, NoMemory, Skeleton};
+use cm_base::{BuiltUnit, Folder, Import, List, NoMemory, PlannedUnit, Skeleton};
 use std::alloc::Global;
 
 /// A copy of a skeleton.

@@ -7,10 +7,9 @@ ghost use Rattle.cutoff_builder.specs.PlainBuild.{given_by, givens_of, asked_for
 
 use crate::done::Done;
 use crate::limits::{ALL_INTERFACES, CODE, INTERFACE};
-use crate::planned::{PlannedUnit, WantedName};
 use cm_base::{
     BuiltUnit, CompileFault, CompileInput, Compiled, Compiler, Diag, Fault, Given, How, Import,
-    List, NoMemory,
+    List, NoMemory, PlannedUnit, WantedName,
 };
 use cm_bytes::pid_of;
 use std::alloc::Global;
@@ -111,7 +110,7 @@ fn compile_input<C: Compiler>(
     before: u64,
 ) -> Result<BuiltUnit, Fault>
     requires { before ≤ ALL_INTERFACES }
-    ensures gives { Gives result (within_limits before input (C.compiled input)) }
+    ensures gives { Gives result (within_limits before input (C.defines.compiled input)) }
     ensures asks { Asks result (C.asked compiler.old) (C.asked compiler.new) (input.unit ∷ []) }
     ensures same { C.asked_skeletons compiler.new ≡ C.asked_skeletons compiler.old }
     ensures room { IfOk result (λ unit. before + length unit.interface ≤ ALL_INTERFACES) }
@@ -132,7 +131,7 @@ pub fn compile_unit<C: Compiler>(
 ) -> Result<BuiltUnit, Fault>
     requires done { IsDone done.now }
     requires few { done.now.interface_bytes ≤ ALL_INTERFACES }
-    ensures gives { Gives result (unit_after C.compiled done.now.units planned.now) }
+    ensures gives { Gives result (unit_after C.defines.compiled done.now.units planned.now) }
     ensures asks { Asks result (C.asked compiler.old) (C.asked compiler.new)
         (asked_for planned.now (givens_of done.now.units planned.now.wanted)) }
     ensures same { C.asked_skeletons compiler.new ≡ C.asked_skeletons compiler.old }

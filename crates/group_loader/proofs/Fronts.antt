@@ -7,7 +7,7 @@ use Rattle.cm_base.specs.Diags.{whole_file}
 use Rattle.cm_base.specs.Files.{Files}
 use Rattle.cm_description.specs.FirstForm.{first_members}
 use Rattle.plain_words.specs.declared.PlacedWord.{PlacedWord}
-use Rattle.group_loader.specs.Answers.{front_read}
+use Rattle.cm_base.specs.Files.{front_read}
 use Rattle.group_loader.specs.Loading.{without_anchors, counted_members, members_of, plain_options, source_found, is_long_path, unit_of}
 use Rattle.group_loader.specs.declared.limits.TheConstants.{DESCRIPTION, SOURCE, ALL_SOURCES}
 

@@ -12,8 +12,10 @@ use Rattle.cm_description.specs.declared.project.Unit.{Unit as SourceUnit}
 use Rattle.cm_description.specs.declared.project.Project.{Project}
 use Rattle.group_loader.specs.declared.fault.LoadFault.{LoadFault}
 use Rattle.group_loader.specs.declared.fault.LoadFault.TheVariants as fault
-use Rattle.group_loader.specs.Answers.{Gives, Loads, of_refusal}
-use Rattle.group_loader.specs.Loading.{◌>>=◌, pathconfig_path, checked_root, without_anchors, members_of, unit_of, units_of, project_of}
+use Rattle.cm_base.specs.Calls.{Gives}
+use Rattle.cm_base.specs.Diags.{◌>>=◌}
+use Rattle.group_loader.specs.Answers.{Loads, of_refusal}
+use Rattle.group_loader.specs.Loading.{pathconfig_path, checked_root, without_anchors, members_of, unit_of, units_of, project_of}
 
 -- a step that stops stops the whole
 pub stops : {A B : Type 0} (e : LoadFault) (m : Result A Diag) (next : A → Result B Diag)

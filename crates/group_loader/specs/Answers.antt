@@ -1,5 +1,5 @@
 -- What the loader's calls answer, by cases on their results.
-use Rattle.std.specs.Prelude.{ℕ, ◌≡◌, ◌+◌, List, Option, Some, None, Result, Ok, Err, take}
+use Rattle.std.specs.Prelude.{◌≡◌, Result, Ok, Err}
 use Rattle.cm_base.specs.declared.diag.Diag.{Diag}
 use Rattle.cm_base.specs.declared.fault.Fault.{Fault}
 use Rattle.cm_base.specs.declared.fault.Fault.TheVariants as refusal
@@ -18,20 +18,9 @@ abbrev pub of_refusal : Fault → LoadFault
 of_refusal (refusal.Diag diag) = fault.Diag diag
 of_refusal refusal.NoMemory = fault.NoMemory
 
--- a call without a folder gives what its definition gives, or wants memory
-abbrev pub Gives : {A : Type 0} → Result A Fault → Result A Diag → Type 0
-Gives (Ok value) defined = defined ≡ Ok value
-Gives (Err (refusal.Diag diag)) defined = defined ≡ Err diag
-Gives (Err refusal.NoMemory) defined = Unit {0}
-
 -- a call gives what its definition gives, or its folder failed, or it wants memory
 abbrev pub Loads : {A : Type 0} → Result A LoadFault → Result A Diag → Type 0
 Loads (Ok value) defined = defined ≡ Ok value
 Loads (Err (fault.Diag diag)) defined = defined ≡ Err diag
 Loads (Err fault.Folder) defined = Unit {0}
 Loads (Err fault.NoMemory) defined = Unit {0}
-
--- the first bytes of a file, if it is there
-abbrev pub front_read : ℕ → Option (List ℕ) → Option (List ℕ)
-front_read max None = None
-front_read max (Some bytes) = Some (take (max + 1) bytes)

@@ -11,7 +11,7 @@ use Rattle.plain_words.specs.declared.PlacedWord.{PlacedWord}
 use Rattle.cm_description.specs.declared.project.Unit.{Unit as SourceUnit}
 use Rattle.cm_description.specs.declared.project.Project.{Project}
 use Rattle.cm_description.specs.FirstForm.{is_name_byte, first_members}
-use Rattle.cm_base.specs.Diags.{whole_file}
+use Rattle.cm_base.specs.Diags.{whole_file, ◌>>=◌}
 use Rattle.group_loader.specs.declared.limits.TheConstants.{WRITTEN_PATH, PATH_COMPONENT, DESCRIPTION, MEMBERS, SOURCE, ALL_SOURCES}
 
 -- the file of a diagnostic on the command's words
@@ -21,12 +21,6 @@ command_file = codes "command"
 -- the file that binds path anchors
 unfoldable pub pathconfig_path : List ℕ
 pathconfig_path = codes "pathconfig"
-
--- one step of work and then the next, up to the first refusal
-infixl 10 ◌>>=◌
-abbrev pub ◌>>=◌ : {A B : Type 0} → Result A Diag → (A → Result B Diag) → Result B Diag
-(Ok value) >>= next = next value
-(Err diag) >>= next = Err diag
 
 -- whether a written path or one of its components passes its limit
 unfoldable pub is_long_path : List ℕ → Bool

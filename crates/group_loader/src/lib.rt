@@ -10,6 +10,3 @@ mod refusals;
 pub use fault::LoadFault;
 pub use limits::{ALL_SOURCES, DESCRIPTION, MEMBERS, PATH_COMPONENT, SOURCE, WRITTEN_PATH};
 pub use loading::load;
-
-#[cfg(test)]
-mod tests;

@@ -4,37 +4,17 @@ ghost use Rattle.std.specs.Prelude.{◌≡◌, ◌≤◌, ◌<◌, ◌^◌, ◌+
 ghost use Rattle.std.specs.FinMap.{get};
 ghost use Rattle.cm_base.specs.Files.{Told};
 ghost use Rattle.cm_base.specs.Causes.{HasCause};
-ghost use Rattle.group_loader.specs.Answers.{Loads, front_read};
+ghost use Rattle.group_loader.specs.Answers.{Loads};
 ghost use Rattle.group_loader.specs.Loading.{pathconfig_path, without_anchors, members_of, unit_of, units_of, project_of};
 
 use crate::fault::LoadFault;
 use crate::limits::{ALL_SOURCES, DESCRIPTION, SOURCE};
 use crate::paths::{is_long_path, pathconfig_path};
 use crate::refusals;
-use cm_base::{Diag, Folder, FolderFault, List, Text};
+use cm_base::{Diag, Folder, List, Text, read_front};
 use cm_description::{Project, Unit};
 use plain_words::PlacedWord;
 use std::alloc::Global;
-
-/// The first bytes of a file, and `None` exactly where it isn't there.
-fn read_front<F: Folder>(
-    alloc: Global,
-    folder: &mut F,
-    path: &Text,
-    max: u32,
-) -> Result<Option<Text>, FolderFault>
-    ensures cause { HasCause (F.faults folder.old) (F.faults folder.new) (result ≡ Err FolderFault.Failed) }
-    ensures same { F.holds folder.new ≡ F.holds folder.old }
-    ensures read { Told (F.holds folder.old) (λ files. IfOk result (λ found.
-        found ≡ front_read max (get files path.now))) }
-{
-    let mut bytes = Vec::new(alloc);
-    if folder.read(alloc, path, max, &mut bytes)? {
-        Ok(Some(Text::from_vec(bytes)))
-    } else {
-        Ok(None)
-    }
-}
 
 /// Refuses a folder whose path anchors are bound.
 fn without_anchors<F: Folder>(alloc: Global, folder: &mut F) -> Result<(), LoadFault>

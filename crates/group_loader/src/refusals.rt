@@ -2,7 +2,7 @@
 
 ghost use Rattle.std.specs.Prelude.{◌≡◌, ◌≤◌, ◌+◌, ◌∷◌, [], IfOk, length};
 ghost use Rattle.cm_base.specs.Diags.{whole_file};
-ghost use Rattle.group_loader.specs.Answers.{Gives};
+ghost use Rattle.cm_base.specs.Calls.{Gives};
 ghost use Rattle.group_loader.specs.Loading.{command_file, pathconfig_path, checked_root, without_anchors, counted_members, missing_root, members_of, missing_member, plain_options, source_found};
 
 use crate::limits::{ALL_SOURCES, DESCRIPTION, MEMBERS, SOURCE};

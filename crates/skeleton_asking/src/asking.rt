@@ -1,7 +1,7 @@
 //! The compiler is asked for the skeleton of each unit, in load order.
 
-ghost use Rattle.std.specs.Prelude.{◌≡◌, ◌∷◌, [], IfOk, length};
-ghost use Rattle.cm_base.specs.Calls.{Gives, Asks};
+ghost use Rattle.std.specs.Prelude.{◌≡◌, ◌∷◌, [], All, IfOk, length};
+ghost use Rattle.cm_base.specs.Calls.{Gives, Asks, IsSmallSkeleton};
 ghost use Rattle.skeleton_asking.specs.Answers.{GivesSkeletons};
 ghost use Rattle.skeleton_asking.specs.Skeletons.{skeletons_of};
 
@@ -15,9 +15,10 @@ fn ask_skeleton<C: Compiler>(
     compiler: &mut C,
     unit: &Unit,
 ) -> Result<Skeleton, Fault>
-    ensures gives { Gives result (C.skel unit.now.name unit.now.source) }
+    ensures gives { Gives result (C.defines.skel unit.now.name unit.now.source) }
     ensures asks { Asks result (C.asked_skeletons compiler.old) (C.asked_skeletons compiler.new) (unit.now.name ∷ []) }
     ensures same { C.asked compiler.new ≡ C.asked compiler.old }
+    ensures small { IfOk result IsSmallSkeleton }
 {
     match compiler.skeleton(alloc, &unit.name, &unit.source) {
         Ok(skeleton) => Ok(skeleton),
@@ -26,17 +27,19 @@ fn ask_skeleton<C: Compiler>(
     }
 }
 
-/// The skeletons of the units, or the first diagnostic. The compiler is asked for no unit after a refused one.
+/// The skeletons of the units, each of them small, or the first diagnostic. The compiler is asked for no unit after a
+/// refused one.
 pub fn ask_skeletons<C: Compiler>(
     alloc: Global,
     compiler: &mut C,
     units: &[Unit],
 ) -> Result<List<Skeleton>, Fault>
-    ensures gives { GivesSkeletons result (skeletons_of C.skel units.now) }
+    ensures gives { GivesSkeletons result (skeletons_of C.defines.skel units.now) }
     ensures asks { Asks result (C.asked_skeletons compiler.old) (C.asked_skeletons compiler.new)
-        (skeletons_of C.skel units.now).asked }
+        (skeletons_of C.defines.skel units.now).asked }
     ensures same { C.asked compiler.new ≡ C.asked compiler.old }
     ensures count { IfOk result (λ skeletons. length skeletons ≡ length units.now) }
+    ensures small { IfOk result (All IsSmallSkeleton) }
 {
     let mut skeletons = List::new(alloc);
     for unit in units {

@@ -4,6 +4,3 @@
 mod asking;
 
 pub use asking::ask_skeletons;
-
-#[cfg(test)]
-mod tests;

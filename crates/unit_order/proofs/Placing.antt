@@ -15,7 +15,7 @@ use Rattle.std.specs.Map.{lookup, keys_of}
 use Rattle.std.specs.BTreeMap.{is_at}
 use Rattle.std.proofs.lemmas.Map.Lookups.{CmpEqualImpliesEq, exact_bytes, exact_pairs, exact_unsigned}
 use Rattle.std.proofs.lemmas.Cmp.{on_total, then_total}
-use Rattle.cutoff_builder.specs.declared.planned.PlannedUnit.{PlannedUnit}
+use Rattle.cm_base.specs.declared.record.PlannedUnit.{PlannedUnit}
 use Rattle.unit_order.specs.declared.ranked.Position.{Position}
 use Rattle.unit_order.specs.declared.ranked.RankedUnit.{RankedUnit}
 use Rattle.unit_order.specs.Planning.{position_cmp, position, placed, in_order}

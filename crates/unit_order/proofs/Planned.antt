@@ -11,8 +11,8 @@ use Rattle.cm_base.specs.declared.diag.Diag.{Diag}
 use Rattle.cm_base.specs.declared.record.Skeleton.{Skeleton}
 use Rattle.cm_description.specs.declared.project.Unit.{Unit as SourceUnit}
 use Rattle.skeleton_asking.specs.Skeletons.{Skeletons, then_skeletons, skeletons_of}
-use Rattle.cutoff_builder.specs.declared.planned.PlannedUnit.{PlannedUnit}
-use Rattle.cutoff_builder.specs.declared.planned.WantedName.{WantedName}
+use Rattle.cm_base.specs.declared.record.PlannedUnit.{PlannedUnit}
+use Rattle.cm_base.specs.declared.record.WantedName.{WantedName}
 use Rattle.unit_order.specs.declared.ranked.Found.{Found}
 use Rattle.unit_order.specs.declared.ranked.Position.{Position}
 use Rattle.unit_order.specs.declared.ranked.RankedUnit.{RankedUnit}

@@ -8,7 +8,7 @@ use Rattle.cm_base.specs.declared.record.Spot.{Spot}
 use Rattle.cm_base.specs.declared.record.Need.{Need}
 use Rattle.cm_base.specs.declared.record.Skeleton.{Skeleton}
 use Rattle.cm_description.specs.declared.project.Unit.{Unit as SourceUnit}
-use Rattle.cutoff_builder.specs.declared.planned.WantedName.{WantedName}
+use Rattle.cm_base.specs.declared.record.WantedName.{WantedName}
 use Rattle.unit_order.specs.declared.ranked.RankedUnit.{RankedUnit}
 use Rattle.unit_order.specs.declared.ranked.Found.{Found}
 use Rattle.unit_order.specs.Planning.{definer, with_found, found_in, sure_definer, ranked_after, ranked_units}

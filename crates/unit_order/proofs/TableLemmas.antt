@@ -7,7 +7,8 @@ use Rattle.std.specs.Option.{option_or, option_copied}
 use Rattle.cm_base.specs.declared.record.ModName.{ModName}
 use Rattle.unit_order.specs.declared.ranked.RankedUnit.{RankedUnit}
 use Rattle.unit_order.specs.Planning.{definer, defines}
-use Rattle.unit_order.specs.Tables.{unit_at, Notes, IsTable}
+use Rattle.cm_base.specs.Places.{item_at}
+use Rattle.unit_order.specs.Tables.{Notes, IsTable}
 
 -- an item stands where it stood after more items are added
 slice_get-append : {X : Type 0} (xs ys : List X) (i : ℕ) → i < length xs → slice_get (xs ++ ys) i ≡ slice_get xs i
@@ -44,7 +45,7 @@ definer-add (first ∷ units) unit name =
 -- what a table finds after a unit was added
 finds_more : (units : List RankedUnit) (unit : RankedUnit) (b : Bool) (o : Option ℕ)
     → ((place : ℕ) → o ≡ Some place → place < length units)
-    → unit_at (units ++ unit ∷ []) (cond b (Some (length units)) o) ≡ cond b (Some unit) (unit_at units o)
+    → item_at (units ++ unit ∷ []) (cond b (Some (length units)) o) ≡ cond b (Some unit) (item_at units o)
 finds_more units unit true o below = slice_get-end units unit (length units) refl
 finds_more units unit false None below = refl
 finds_more units unit false (Some place) below = slice_get-append units (unit ∷ []) place (below place refl)
@@ -69,7 +70,7 @@ pub table_more : (old new : ModName → Option ℕ) (units : List RankedUnit) (u
     → IsTable old units → IsTable new (units ++ unit ∷ [])
 table_more old new units unit rank notes table = record {
   finds = λ name.
-      ap (unit_at (units ++ unit ∷ [])) (notes name)
+      ap (item_at (units ++ unit ∷ [])) (notes name)
       ∙ finds_more units unit (defines unit name) (old name) (table.below name)
       ∙ ap (cond (defines unit name) (Some unit)) (table.finds name)
       ∙ sym (definer-add units unit name);

@@ -14,7 +14,7 @@ use Rattle.cm_base.specs.declared.record.Need.{Need}
 use Rattle.cm_base.specs.declared.record.Skeleton.{Skeleton}
 use Rattle.cm_base.specs.contracts.record.ModNamePartialEq.TheImpl as equality
 use Rattle.cm_description.specs.declared.project.Unit.{Unit}
-use Rattle.cutoff_builder.specs.declared.planned.PlannedUnit.{PlannedUnit}
+use Rattle.cm_base.specs.declared.record.PlannedUnit.{PlannedUnit}
 use Rattle.unit_order.specs.declared.ranked.RankedUnit.{RankedUnit}
 use Rattle.unit_order.specs.declared.ranked.Found.{Found}
 use Rattle.unit_order.specs.declared.ranked.Position.{Position}

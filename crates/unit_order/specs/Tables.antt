@@ -1,11 +1,12 @@
 -- What is kept while the units get their ranks: a table that finds the definer of each module name.
-use Rattle.std.specs.Prelude.{ℕ, ◌≡◌, ◌<◌, Bool, List, Option, Some, None, length, slice_get, if◌then◌else◌}
+use Rattle.std.specs.Prelude.{ℕ, ◌≡◌, ◌<◌, Bool, List, Option, Some, length, if◌then◌else◌}
 use Rattle.std.specs.List.{list_any}
 use Rattle.indexmap.specs.IndexMap.{get}
+use Rattle.cm_base.specs.Places.{item_at}
 use Rattle.cm_base.specs.declared.record.ModName.{ModName}
 use Rattle.cm_base.specs.declared.record.Need.{Need}
 use Rattle.cm_base.specs.declared.record.Spot.{Spot}
-use Rattle.cutoff_builder.specs.declared.planned.WantedName.{WantedName}
+use Rattle.cm_base.specs.declared.record.WantedName.{WantedName}
 use Rattle.unit_order.specs.declared.ranked.RankedUnit.{RankedUnit}
 use Rattle.unit_order.specs.declared.ranking.Ranking.{Ranking}
 use Rattle.unit_order.specs.Planning.{same_name, definer}
@@ -22,14 +23,9 @@ among spots name = list_any (λ spot. same_name spot.name name) spots
 abbrev pub Notes : (ModName → Option ℕ) → (ModName → Option ℕ) → List Spot → ℕ → Type 0
 Notes old new spots place = (name : ModName) → new name ≡ (if among spots name then Some place else old name)
 
--- the unit at a place, if there is a place
-abbrev pub unit_at : List RankedUnit → Option ℕ → Option RankedUnit
-unit_at units None = None
-unit_at units (Some place) = slice_get units place
-
 -- a table of places finds the definer of each name
 pub record IsTable (table : ModName → Option ℕ) (units : List RankedUnit) : Type 0 where
-  pub finds : (name : ModName) → unit_at units (table name) ≡ definer units name
+  pub finds : (name : ModName) → item_at units (table name) ≡ definer units name
   pub below : (name : ModName) (place : ℕ) → table name ≡ Some place → place < length units
   pub low : (name : ModName) (unit : RankedUnit) → definer units name ≡ Some unit → unit.rank < length units
 

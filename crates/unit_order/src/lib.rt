@@ -10,6 +10,3 @@ mod ranking;
 pub use planning::plan;
 pub use ranked::{Found, Position, RankedUnit};
 pub use ranking::Ranking;
-
-#[cfg(test)]
-mod tests;

@@ -7,8 +7,7 @@ ghost use Rattle.std.specs.Map.{keys_of};
 ghost use Rattle.unit_order.specs.Planning.{position_cmp, placed, in_order};
 
 use crate::ranked::{Position, RankedUnit};
-use cm_base::{List, NoMemory};
-use cutoff_builder::PlannedUnit;
+use cm_base::{List, NoMemory, PlannedUnit};
 use std::alloc::Global;
 use std::collections::BTreeMap;
 

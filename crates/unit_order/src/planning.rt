@@ -7,9 +7,8 @@ ghost use Rattle.unit_order.specs.Tables.{IsRanking, wanted_name};
 use crate::order::in_order;
 use crate::ranked::{Found, RankedUnit};
 use crate::ranking::Ranking;
-use cm_base::{List, Need, NoMemory, Skeleton};
+use cm_base::{List, Need, NoMemory, PlannedUnit, Skeleton, WantedName};
 use cm_description::Unit;
-use cutoff_builder::{PlannedUnit, WantedName};
 use std::alloc::Global;
 
 /// A name that a unit uses, with its provider.
@@ -95,15 +94,16 @@ fn ranked_all(
     Ok(Some(ranking.into_units()))
 }
 
-/// The units in the order in which they are built, each with its providers. `None` means that the rule on
-/// names is broken: a member defines a name that an earlier one defines too, or uses a name that isn't sure
-/// or that no earlier one defines.
+/// The units in the order in which they are built, each with its providers; the skeletons are theirs, in load order.
+/// `None` means that the rule on names is broken: a member defines a name that an earlier one defines too, or uses a
+/// name that isn't sure or that no earlier one defines.
 pub fn plan(
     alloc: Global,
     units: &List<Unit>,
     skeletons: &List<Skeleton>,
 ) -> Result<Option<List<PlannedUnit>>, NoMemory>
-    requires { length units.now < 2 ^ 32 }
+    requires few { length units.now < 2 ^ 32 }
+    requires each { length skeletons.now ≡ length units.now }
     ensures { IfOk result (λ planned. planned ≡ plan_of units.now skeletons.now) }
 {
     match ranked_all(alloc, units.as_slice(), skeletons)? {

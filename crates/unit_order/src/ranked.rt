@@ -1,7 +1,6 @@
 //! A unit with its rank, and where it stands among the others.
 
-use cm_base::{List, Text};
-use cutoff_builder::{PlannedUnit, WantedName};
+use cm_base::{List, PlannedUnit, Text, WantedName};
 
 /// A unit with its providers, and the least rank above theirs.
 #[derive(Debug, Drop)]

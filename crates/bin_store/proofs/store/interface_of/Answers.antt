@@ -1,5 +1,6 @@
 use Rattle.std.proofs.Common.{sym}
-use Rattle.bin_store.proofs.StoredLaws.{Halves, too_long, too_short, head_differs, hash_differs, all_same, not_same, same}
+use Rattle.bin_formats.proofs.Tests.{not_same, same}
+use Rattle.bin_store.proofs.StoredLaws.{Halves, too_long, too_short, head_differs, hash_differs, all_same}
 use Rattle.bin_store.proofs.store.interface_of.Goals as goal
 
 pub returns-then-bytes-gt1048584 : goal.returns-then-bytes-gt1048584

@@ -2,14 +2,14 @@ use Rattle.std.proofs.Common.{refl}
 use Rattle.group_loader.specs.Loading.{project_of}
 use Rattle.cm_top.specs.Meaning.{of_project}
 use Rattle.cm_base.proofs.FrontLemmas.{grows_none}
-use Rattle.bin_store.specs.GoodStore.{Definitions}
+use Rattle.cm_base.specs.Definitions.{Definitions}
 use Rattle.cm_top.proofs.Staying.{stays_failed, stays_printed}
 use Rattle.cm_top.proofs.Ending.{after_print, after_cut}
 use Rattle.cm_top.proofs.run.run_build.Goals as goal
 
 pub returns-then-as_bytes-clause-means : goal.returns-then-as_bytes-clause-means
 returns-then-as_bytes-clause-means g c = λ files is text before.
-    let m = of_project (record { skel = g.C.Compiler.skel; compiled = g.C.Compiler.compiled }) c.args.root.now files (project_of files c.args.root.now) in
+    let m = of_project g.C.Compiler.defines c.args.root.now files (project_of files c.args.root.now) in
     after_cut m text (g.S.Sink.written c.args.out.now) (g.S.Sink.written c.args.out.now) (g.F.Folder.holds c.args.folder.now)
     (g.C.Compiler.asked c.args.compiler.now) (g.C.Compiler.asked c.args.compiler.now)
     (g.C.Compiler.asked_skeletons c.args.compiler.now) (g.C.Compiler.asked_skeletons c.args.compiler.now)
@@ -19,7 +19,7 @@ returns-then-as_bytes-clause-means g c = λ files is text before.
 
 pub returns-in-Ok-clause-means : goal.returns-in-Ok-clause-means
 returns-in-Ok-clause-means g c = λ files is text before.
-    let m = of_project (record { skel = g.C.Compiler.skel; compiled = g.C.Compiler.compiled }) c.args.root.now files (project_of files c.args.root.now) in
+    let m = of_project g.C.Compiler.defines c.args.root.now files (project_of files c.args.root.now) in
     let works = c.in-Ok.ensures.works files is in
     after_print m text (g.S.Sink.written c.args.out.now) (g.S.Sink.written c.print_report.new.out) (g.F.Folder.holds c.work.new.folder)
     (g.C.Compiler.asked c.args.compiler.now) (g.C.Compiler.asked c.work.new.compiler)
@@ -29,7 +29,7 @@ returns-in-Ok-clause-means g c = λ files is text before.
 
 pub returns-in-Err-Folder-clause-means : goal.returns-in-Err-Folder-clause-means
 returns-in-Err-Folder-clause-means g c = λ files is text before.
-    let m = of_project (record { skel = g.C.Compiler.skel; compiled = g.C.Compiler.compiled }) c.args.root.now files (project_of files c.args.root.now) in
+    let m = of_project g.C.Compiler.defines c.args.root.now files (project_of files c.args.root.now) in
     after_cut m text (g.S.Sink.written c.args.out.now) (g.S.Sink.written c.args.out.now) (g.F.Folder.holds c.work.new.folder)
     (g.C.Compiler.asked c.args.compiler.now) (g.C.Compiler.asked c.work.new.compiler)
     (g.C.Compiler.asked_skeletons c.args.compiler.now) (g.C.Compiler.asked_skeletons c.work.new.compiler)
@@ -37,7 +37,7 @@ returns-in-Err-Folder-clause-means g c = λ files is text before.
 
 pub returns-in-Err-NoMemory-clause-means : goal.returns-in-Err-NoMemory-clause-means
 returns-in-Err-NoMemory-clause-means g c = λ files is text before.
-    let m = of_project (record { skel = g.C.Compiler.skel; compiled = g.C.Compiler.compiled }) c.args.root.now files (project_of files c.args.root.now) in
+    let m = of_project g.C.Compiler.defines c.args.root.now files (project_of files c.args.root.now) in
     after_cut m text (g.S.Sink.written c.args.out.now) (g.S.Sink.written c.args.out.now) (g.F.Folder.holds c.work.new.folder)
     (g.C.Compiler.asked c.args.compiler.now) (g.C.Compiler.asked c.work.new.compiler)
     (g.C.Compiler.asked_skeletons c.args.compiler.now) (g.C.Compiler.asked_skeletons c.work.new.compiler)
@@ -45,11 +45,11 @@ returns-in-Err-NoMemory-clause-means g c = λ files is text before.
 
 pub returns-then-as_bytes-clause-stays : goal.returns-then-as_bytes-clause-stays
 returns-then-as_bytes-clause-stays g c = λ files is.
-    let by : Definitions = record { skel = g.C.Compiler.skel; compiled = g.C.Compiler.compiled } in
+    let by : Definitions = g.C.Compiler.defines in
     stays_failed by (of_project by c.args.root.now files (project_of files c.args.root.now)) (g.F.Folder.holds c.args.folder.now)
 
 pub returns-in-Ok-clause-stays : goal.returns-in-Ok-clause-stays
 returns-in-Ok-clause-stays g c = λ files is.
-    let by : Definitions = record { skel = g.C.Compiler.skel; compiled = g.C.Compiler.compiled } in
+    let by : Definitions = g.C.Compiler.defines in
     stays_printed by (of_project by c.args.root.now files (project_of files c.args.root.now)) c.print_report.result
     c.in-Ok.report (g.F.Folder.holds c.args.folder.now) (g.F.Folder.holds c.work.new.folder) (c.in-Ok.ensures.stays files is)

@@ -1,5 +1,5 @@
 use Rattle.std.proofs.Common.{◌∙◌, ap, Some, None}
-use Rattle.bin_store.specs.GoodStore.{Definitions}
+use Rattle.cm_base.specs.Definitions.{Definitions}
 use Rattle.cm_base.specs.Files.{Files, told}
 use Rattle.cutoff_builder.specs.PlainBuild.{plain_build}
 use Rattle.cutoff_builder.specs.Stored.{put_units}
@@ -13,7 +13,7 @@ returns-in-Err-Stop-clause-works g c = λ files is.
     let gives = rw c.in-Err-Stop.field-0-is at c.in-Err-Stop.ensures.gives in
     let stored = rw c.in-Err-Stop.field-0-is at c.in-Err-Stop.ensures.stored in
     let asked = rw c.in-Err-Stop.field-0-is at c.in-Err-Stop.ensures.asked in
-    let build = plain_build g.C.Compiler.compiled c.args.planned.now in
+    let build = plain_build g.C.Compiler.defines.compiled c.args.planned.now in
     stop_works c.args.planned.now build files c.finish-in-Err-Stop.result c.in-Err-Stop.diag c.in-Err-Stop.done.units
     (g.F.Folder.holds c.finish-in-Err-Stop.new.folder) (g.C.Compiler.asked c.args.compiler.now) (g.C.Compiler.asked c.build.new.compiler)
     gives.0 gives.1 asked
@@ -22,8 +22,8 @@ returns-in-Err-Stop-clause-works g c = λ files is.
 
 pub returns-in-Ok-clause-stays : goal.returns-in-Ok-clause-stays
 returns-in-Ok-clause-stays g c = λ files is.
-    let by : Definitions = record { skel = g.C.Compiler.skel; compiled = g.C.Compiler.compiled } in
-    stays_ended by files c.args.planned.now (plain_build g.C.Compiler.compiled c.args.planned.now)
+    let by : Definitions = g.C.Compiler.defines in
+    stays_ended by files c.args.planned.now (plain_build g.C.Compiler.defines.compiled c.args.planned.now)
     (g.F.Folder.holds c.args.folder.now) (g.F.Folder.holds c.build.new.folder) (g.F.Folder.holds c.finish.new.folder)
     c.finish.result None c.in-Ok.built.units is c.build.ensures.frame (c.build.ensures.good c.requires)
     (c.in-Ok.ensures.plain c.requires).plain c.finish.ensures.touches c.finish.ensures.ends
@@ -33,8 +33,8 @@ pub returns-in-Err-Stop-clause-stays : goal.returns-in-Err-Stop-clause-stays
 returns-in-Err-Stop-clause-stays g c = λ files is.
     let gives = rw c.in-Err-Stop.field-0-is at c.in-Err-Stop.ensures.gives in
     let plain = rw c.in-Err-Stop.field-0-is at c.in-Err-Stop.ensures.plain in
-    let by : Definitions = record { skel = g.C.Compiler.skel; compiled = g.C.Compiler.compiled } in
-    stays_ended by files c.args.planned.now (plain_build g.C.Compiler.compiled c.args.planned.now)
+    let by : Definitions = g.C.Compiler.defines in
+    stays_ended by files c.args.planned.now (plain_build g.C.Compiler.defines.compiled c.args.planned.now)
     (g.F.Folder.holds c.args.folder.now) (g.F.Folder.holds c.build.new.folder)
     (g.F.Folder.holds c.finish-in-Err-Stop.new.folder)
     c.finish-in-Err-Stop.result (Some c.in-Err-Stop.diag) c.in-Err-Stop.done.units is c.build.ensures.frame
@@ -44,14 +44,14 @@ returns-in-Err-Stop-clause-stays g c = λ files is.
 
 pub returns-in-Err-Folder-clause-stays : goal.returns-in-Err-Folder-clause-stays
 returns-in-Err-Folder-clause-stays g c = λ files is.
-    let by : Definitions = record { skel = g.C.Compiler.skel; compiled = g.C.Compiler.compiled } in
-    stays_cut by files c.args.planned.now (plain_build g.C.Compiler.compiled c.args.planned.now)
+    let by : Definitions = g.C.Compiler.defines in
+    stays_cut by files c.args.planned.now (plain_build g.C.Compiler.defines.compiled c.args.planned.now)
     (g.F.Folder.holds c.args.folder.now) (g.F.Folder.holds c.build.new.folder) fault.Folder c.build.ensures.frame
     (c.build.ensures.good c.requires)
 
 pub returns-in-Err-NoMemory-clause-stays : goal.returns-in-Err-NoMemory-clause-stays
 returns-in-Err-NoMemory-clause-stays g c = λ files is.
-    let by : Definitions = record { skel = g.C.Compiler.skel; compiled = g.C.Compiler.compiled } in
-    stays_cut by files c.args.planned.now (plain_build g.C.Compiler.compiled c.args.planned.now)
+    let by : Definitions = g.C.Compiler.defines in
+    stays_cut by files c.args.planned.now (plain_build g.C.Compiler.defines.compiled c.args.planned.now)
     (g.F.Folder.holds c.args.folder.now) (g.F.Folder.holds c.build.new.folder) fault.NoMemory c.build.ensures.frame
     (c.build.ensures.good c.requires)

@@ -12,8 +12,8 @@ returns-in-Err-Diag-clause-stored g c =
     let stored = rw c.in-Err-Diag.field-0-is at c.in-Err-Diag.ensures.stored in
     let next = drop_more c.args.units.now c.loop-planned.planned-index c.planned-item.result c.loop-planned-test.true
     ∙ ap (λ p. p ∷ drop (c.loop-planned.planned-index + 1) c.args.units.now) (sym c.planned-item.is) in
-    let ended = ended_here g.C.Compiler.compiled c.args.units.now c.loop-planned.invariant.going
-    (refused_next g.C.Compiler.compiled c.args.units.now c.loop-planned.planned-index c.loop-planned.done.units c.planned-item.result c.in-Err-Diag.diag next gives.0)
+    let ended = ended_here g.C.Compiler.defines.compiled c.args.units.now c.loop-planned.invariant.going
+    (refused_next g.C.Compiler.defines.compiled c.args.units.now c.loop-planned.planned-index c.loop-planned.done.units c.planned-item.result c.in-Err-Diag.diag next gives.0)
     refl in
     (stored ∙ ended.files, ended.fits)
 
@@ -23,7 +23,7 @@ returns-in-Err-Folder-clause-stored g c =
     let next = drop_more c.args.units.now c.loop-planned.planned-index c.planned-item.result c.loop-planned-test.true
     ∙ ap (λ p. p ∷ drop (c.loop-planned.planned-index + 1) c.args.units.now) (sym c.planned-item.is) in
     let there = slice_get_read c.args.units.now (length c.args.units.now) c.loop-planned.planned-index c.planned-item.result refl c.loop-planned-test.true c.planned-item.is in
-    cut_within g.C.Compiler.compiled c.args.units.now c.loop-planned.invariant.going next there stored.1 stored.2
+    cut_within g.C.Compiler.defines.compiled c.args.units.now c.loop-planned.invariant.going next there stored.1 stored.2
 
 pub returns-in-Err-NoMemory-clause-stored : goal.returns-in-Err-NoMemory-clause-stored
 returns-in-Err-NoMemory-clause-stored g c =
@@ -32,8 +32,8 @@ returns-in-Err-NoMemory-clause-stored g c =
     ∙ ap (λ p. p ∷ drop (c.loop-planned.planned-index + 1) c.args.units.now) (sym c.planned-item.is) in
     let there = slice_get_read c.args.units.now (length c.args.units.now) c.loop-planned.planned-index c.planned-item.result refl c.loop-planned-test.true c.planned-item.is in
     elim stored [
-      | inl same ↦ cut_before g.C.Compiler.compiled c.args.units.now c.loop-planned.invariant.going same
-      | inr begun ↦ cut_within g.C.Compiler.compiled c.args.units.now c.loop-planned.invariant.going next there begun.1 begun.2
+      | inl same ↦ cut_before g.C.Compiler.defines.compiled c.args.units.now c.loop-planned.invariant.going same
+      | inr begun ↦ cut_within g.C.Compiler.defines.compiled c.args.units.now c.loop-planned.invariant.going next there begun.1 begun.2
     ]
 
 pub returns-in-Err-Folder-clause-asked : goal.returns-in-Err-Folder-clause-asked
@@ -41,7 +41,7 @@ returns-in-Err-Folder-clause-asked g c =
     let asked = rw c.in-Err-Folder.field-0-is at c.in-Err-Folder.ensures.asked in
     let next = drop_more c.args.units.now c.loop-planned.planned-index c.planned-item.result c.loop-planned-test.true
     ∙ ap (λ p. p ∷ drop (c.loop-planned.planned-index + 1) c.args.units.now) (sym c.planned-item.is) in
-    cut_asked g.C.Compiler.compiled c.args.units.now (g.C.Compiler.asked c.build_unit.new.compiler) c.loop-planned.invariant.going next
+    cut_asked g.C.Compiler.defines.compiled c.args.units.now (g.C.Compiler.asked c.build_unit.new.compiler) c.loop-planned.invariant.going next
     (grows_all (g.C.Compiler.asked c.loop-planned.compiler) (g.C.Compiler.asked c.build_unit.new.compiler)
     (asked_for c.planned-item.result (givens_of c.loop-planned.done.units c.planned-item.result.wanted)) asked)
 
@@ -50,7 +50,7 @@ returns-in-Err-NoMemory-clause-asked g c =
     let asked = rw c.in-Err-NoMemory.field-0-is at c.in-Err-NoMemory.ensures.asked in
     let next = drop_more c.args.units.now c.loop-planned.planned-index c.planned-item.result c.loop-planned-test.true
     ∙ ap (λ p. p ∷ drop (c.loop-planned.planned-index + 1) c.args.units.now) (sym c.planned-item.is) in
-    cut_asked g.C.Compiler.compiled c.args.units.now (g.C.Compiler.asked c.build_unit.new.compiler) c.loop-planned.invariant.going next asked
+    cut_asked g.C.Compiler.defines.compiled c.args.units.now (g.C.Compiler.asked c.build_unit.new.compiler) c.loop-planned.invariant.going next asked
 
 pub loop-planned-preserved : goal.loop-planned-preserved
 loop-planned-preserved g c =
@@ -65,9 +65,9 @@ loop-planned-preserved g c =
     let stored = c.in-Ok.ensures.stored in
     let same : stored.0 ≡ gives.0 = cc (gives.1, stored.1) in
     let grown = ap (λ u. c.loop-planned.done.units ++ u ∷ []) same ∙ sym gives.2 in
-    let step = going_step g.C.Compiler.compiled c.args.units.now c.loop-planned.invariant.going next taken long stored.1 c.in-Ok.ensures.asked stored.2 stored.3 in
+    let step = going_step g.C.Compiler.defines.compiled c.args.units.now c.loop-planned.invariant.going next taken long stored.1 c.in-Ok.ensures.asked stored.2 stored.3 in
     record {
-      going = subst (λ us. Going g.C.Compiler.compiled c.args.units.now (i + 1) us (g.C.Compiler.asked c.args.compiler.now)
+      going = subst (λ us. Going g.C.Compiler.defines.compiled c.args.units.now (i + 1) us (g.C.Compiler.asked c.args.compiler.now)
           (g.C.Compiler.asked c.build_unit.new.compiler) (g.F.Folder.holds c.args.folder.now) (g.F.Folder.holds c.build_unit.new.folder)) grown step;
       done = c.in-Ok.ensures.done;
       few = c.in-Ok.ensures.few;
@@ -77,6 +77,6 @@ loop-planned-preserved g c =
 
 pub returns-clause-stored : goal.returns-clause-stored
 returns-clause-stored g c =
-    let ended = ended_here g.C.Compiler.compiled c.args.units.now c.loop-planned.invariant.going
-    (ap (build_after g.C.Compiler.compiled c.loop-planned.done.units) (drop_all c.loop-planned.planned-index c.args.units.now c.loop-planned-test.false)) (sym (append-nil _)) in
+    let ended = ended_here g.C.Compiler.defines.compiled c.args.units.now c.loop-planned.invariant.going
+    (ap (build_after g.C.Compiler.defines.compiled c.loop-planned.done.units) (drop_all c.loop-planned.planned-index c.args.units.now c.loop-planned-test.false)) (sym (append-nil _)) in
     (ended.files, ended.fits)

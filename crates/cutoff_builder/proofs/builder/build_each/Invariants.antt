@@ -7,7 +7,7 @@ use Rattle.cutoff_builder.proofs.builder.build_each.Given as goal
 -- what is done and the plain build of the rest is the plain build of all, and so in the store and in what was asked
 abbrev pub invariant-loop-planned : goal.invariant-loop-planned
 invariant-loop-planned g l = record {
-  going : Going g.C.Compiler.compiled l.units l.planned-index l.done.units
+  going : Going g.C.Compiler.defines.compiled l.units l.planned-index l.done.units
       (g.C.Compiler.asked l.fn.compiler) (g.C.Compiler.asked l.compiler) (g.F.Folder.holds l.fn.folder) (g.F.Folder.holds l.folder);
   done : IsDone l.done;
   few : l.done.interface_bytes ≤ ALL_INTERFACES;

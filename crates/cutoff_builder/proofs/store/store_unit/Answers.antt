@@ -1,6 +1,6 @@
 use Rattle.std.proofs.Common.{refl, inl, inr, subst}
 use Rattle.std.specs.Prelude.{OnOk}
-use Rattle.bin_store.specs.Format.{IsBin}
+use Rattle.bin_formats.specs.Format.{IsBin}
 use Rattle.bin_store.specs.Stored.{PutsBin}
 use Rattle.cutoff_builder.proofs.StoreLemmas.{put_both}
 use Rattle.cutoff_builder.proofs.store.store_unit.Goals as goal

@@ -1,7 +1,8 @@
-use Rattle.std.proofs.Common.{◌∙◌, ap, arith, length, length-append, ◌∷◌, [], drop, ◌+◌}
-use Rattle.std.specs.Prelude.{Ok}
+use Rattle.std.proofs.Common.{◌∙◌, ap, sym, subst, arith, length, length-append, ◌∷◌, [], drop, ◌+◌}
+use Rattle.std.specs.Prelude.{All, Ok}
+use Rattle.std.proofs.lemmas.List.Elements.{All-push}
 use Rattle.cm_base.specs.declared.fault.Fault.TheVariants as fault
-use Rattle.cm_base.specs.Calls.{Asks}
+use Rattle.cm_base.specs.Calls.{Asks, IsSmallSkeleton}
 use Rattle.skeleton_asking.specs.Answers.{GivesSkeletons}
 use Rattle.skeleton_asking.specs.Skeletons.{skeletons_of}
 use Rattle.skeleton_asking.proofs.Steps.{rest_at, continues_more, stops_gives, stops_asks, kept_asks, all_gives, all_asks, passed}
@@ -9,7 +10,7 @@ use Rattle.skeleton_asking.proofs.asking.ask_skeletons.Goals as goal
 
 pub loop-unit-preserved : goal.loop-unit-preserved
 loop-unit-preserved g c =
-    let skel = g.C.Compiler.skel in
+    let skel = g.C.Compiler.defines.skel in
     let units = c.args.units.now in
     let at = c.loop-unit.unit-index in
     record {
@@ -19,6 +20,9 @@ loop-unit-preserved g c =
         length-append c.loop-unit.skeletons (c.in_ok-skeleton.skeleton ∷ []),
         c.loop-unit.invariant.count,
       );
+      small = subst (All IsSmallSkeleton) (sym c.in_ok-add.ensures.ok)
+          (All-push IsSmallSkeleton c.loop-unit.skeletons c.in_ok-skeleton.skeleton c.loop-unit.invariant.small
+          c.in_ok-skeleton.ensures.small);
       same = c.in_ok-skeleton.ensures.same ∙ c.loop-unit.invariant.same;
       so = continues_more c.loop-unit.skeletons c.add.new.self (g.C.Compiler.asked_skeletons c.args.compiler.now)
           (g.C.Compiler.asked_skeletons c.loop-unit.compiler)
@@ -33,9 +37,9 @@ loop-unit-preserved g c =
 
 pub returns-in_err-skeleton-clause-gives : goal.returns-in_err-skeleton-clause-gives
 returns-in_err-skeleton-clause-gives g c =
-    let all = skeletons_of g.C.Compiler.skel c.args.units.now in
+    let all = skeletons_of g.C.Compiler.defines.skel c.args.units.now in
     passed c.from_residual.result c.in_err-skeleton.field-0.0 (λ r. GivesSkeletons r all) c.from_residual.ensures.1
-    (stops_gives c.in_err-skeleton.field-0.0 g.C.Compiler.skel c.args.units.now c.loop-unit.unit-index
+    (stops_gives c.in_err-skeleton.field-0.0 g.C.Compiler.defines.skel c.args.units.now c.loop-unit.unit-index
     c.unit-item.result
     c.loop-unit.skeletons (g.C.Compiler.asked_skeletons c.args.compiler.now)
     (g.C.Compiler.asked_skeletons c.loop-unit.compiler) all
@@ -43,12 +47,12 @@ returns-in_err-skeleton-clause-gives g c =
 
 pub returns-in_err-skeleton-clause-asks : goal.returns-in_err-skeleton-clause-asks
 returns-in_err-skeleton-clause-asks g c =
-    let all = skeletons_of g.C.Compiler.skel c.args.units.now in
+    let all = skeletons_of g.C.Compiler.defines.skel c.args.units.now in
     passed c.from_residual.result c.in_err-skeleton.field-0.0
     (λ r. Asks r (g.C.Compiler.asked_skeletons c.args.compiler.now)
     (g.C.Compiler.asked_skeletons c.ask_skeleton.new.compiler) all.asked)
     c.from_residual.ensures.1
-    (stops_asks c.in_err-skeleton.field-0.0 g.C.Compiler.skel c.args.units.now c.loop-unit.unit-index
+    (stops_asks c.in_err-skeleton.field-0.0 g.C.Compiler.defines.skel c.args.units.now c.loop-unit.unit-index
     c.unit-item.result
     c.loop-unit.skeletons (g.C.Compiler.asked_skeletons c.args.compiler.now)
     (g.C.Compiler.asked_skeletons c.loop-unit.compiler) (g.C.Compiler.asked_skeletons c.ask_skeleton.new.compiler) all
@@ -57,12 +61,12 @@ returns-in_err-skeleton-clause-asks g c =
 
 pub returns-in_err-add-clause-asks : goal.returns-in_err-add-clause-asks
 returns-in_err-add-clause-asks g c =
-    let all = skeletons_of g.C.Compiler.skel c.args.units.now in
+    let all = skeletons_of g.C.Compiler.defines.skel c.args.units.now in
     passed c.from_residual-in_err-add.result fault.NoMemory
     (λ r. Asks r (g.C.Compiler.asked_skeletons c.args.compiler.now)
     (g.C.Compiler.asked_skeletons c.ask_skeleton.new.compiler) all.asked)
     c.from_residual-in_err-add.ensures.1
-    (kept_asks g.C.Compiler.skel c.args.units.now c.loop-unit.unit-index c.unit-item.result c.in_ok-skeleton.skeleton
+    (kept_asks g.C.Compiler.defines.skel c.args.units.now c.loop-unit.unit-index c.unit-item.result c.in_ok-skeleton.skeleton
     c.loop-unit.skeletons (g.C.Compiler.asked_skeletons c.args.compiler.now)
     (g.C.Compiler.asked_skeletons c.loop-unit.compiler) (g.C.Compiler.asked_skeletons c.ask_skeleton.new.compiler) all
     c.loop-unit-test.true c.unit-item.is c.in_ok-skeleton.ensures.gives c.in_ok-skeleton.ensures.asks
@@ -70,12 +74,12 @@ returns-in_err-add-clause-asks g c =
 
 pub returns-clause-gives : goal.returns-clause-gives
 returns-clause-gives g c =
-    all_gives g.C.Compiler.skel c.args.units.now c.loop-unit.unit-index c.loop-unit.skeletons
+    all_gives g.C.Compiler.defines.skel c.args.units.now c.loop-unit.unit-index c.loop-unit.skeletons
     (g.C.Compiler.asked_skeletons c.args.compiler.now) (g.C.Compiler.asked_skeletons c.loop-unit.compiler)
-    (skeletons_of g.C.Compiler.skel c.args.units.now) c.loop-unit-test.false c.loop-unit.invariant.so
+    (skeletons_of g.C.Compiler.defines.skel c.args.units.now) c.loop-unit-test.false c.loop-unit.invariant.so
 
 pub returns-clause-asks : goal.returns-clause-asks
 returns-clause-asks g c =
-    all_asks g.C.Compiler.skel c.args.units.now c.loop-unit.unit-index c.loop-unit.skeletons
+    all_asks g.C.Compiler.defines.skel c.args.units.now c.loop-unit.unit-index c.loop-unit.skeletons
     (g.C.Compiler.asked_skeletons c.args.compiler.now) (g.C.Compiler.asked_skeletons c.loop-unit.compiler)
-    (skeletons_of g.C.Compiler.skel c.args.units.now) c.loop-unit-test.false c.loop-unit.invariant.so
+    (skeletons_of g.C.Compiler.defines.skel c.args.units.now) c.loop-unit-test.false c.loop-unit.invariant.so

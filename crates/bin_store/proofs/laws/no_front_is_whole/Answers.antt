@@ -1,9 +1,0 @@
-use Rattle.bin_store.proofs.Formats.{bin_no_front, interface_no_front, record_no_front}
-use Rattle.bin_store.proofs.laws.no_front_is_whole.Goals as goal
-
-pub returns : goal.returns
-returns c = record {
-  bins = bin_no_front;
-  interfaces = interface_no_front;
-  records = record_no_front;
-}
