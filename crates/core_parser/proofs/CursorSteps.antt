@@ -8,19 +8,19 @@ use Rattle.grammars.specs.Reading.{Out, read}
 use Rattle.grammars.proofs.Sound.{sound}
 use Rattle.grammars.proofs.Fronts.{place}
 use Rattle.sml_lexer.specs.declared.lexeme.Lexeme.{Lexeme}
-use Rattle.sml_syntax.specs.declared.full_exp.FullDec.{FullDec}
+use Rattle.sml_trees.specs.declared.full_exp.FullDec.{FullDec}
 use Rattle.core_parser.specs.Answers.{Answers, AnswersDec, LongestRun, Refuses, refusal, place_of}
-use Rattle.core_phrases.specs.Bindings.{declares}
+use Rattle.core_bindings.specs.Decs.{declares}
 use Rattle.core_parser.specs.Cursors.{CursorState, before, mark_last, marked, fault_of, failure_of, refused_before, refused_at, scoped, FailsBefore, FailsWith, Settles, ParsesHere, ParsesDecHere}
-use Rattle.core_phrases.specs.Fixities.{Fixities}
-use Rattle.core_phrases.specs.Level.{Decs}
-use Rattle.core_phrases.specs.Reads.{Reads, Stops}
-use Rattle.core_phrases.specs.ReadsDec.{ReadsDec}
-use Rattle.core_phrases.specs.Words.{g}
+use Rattle.infix_names.specs.Fixities.{Fixities}
+use Rattle.core_bindings.specs.Decs.{Decs}
+use Rattle.phrase_reading.specs.Reads.{Reads, Stops}
+use Rattle.core_bindings.specs.Decs.{ReadsDec}
+use Rattle.phrase_reading.specs.Words.{g}
 use Rattle.core_parser.specs.declared.cursor.Scope.{Scope}
-use Rattle.core_phrases.specs.declared.stop.Stop.{Stop}
-use Rattle.core_phrases.specs.declared.stop.Stop.TheVariants as stop
-use Rattle.core_phrases.specs.declared.tall.Tall.{Tall}
+use Rattle.phrase_reading.specs.declared.stop.Stop.{Stop}
+use Rattle.phrase_reading.specs.declared.stop.Stop.TheVariants as stop
+use Rattle.phrase_reading.specs.declared.tall.Tall.{Tall}
 
 -- ---- places
 
@@ -64,7 +64,7 @@ moved_stop grammar all left taken stop.TooDeep h =
     h ∙ ap (λ (xs : List Lexeme). Out.out End.deep xs) (left_there grammar End.deep all left taken h)
 moved_stop grammar all left taken stop.NoMemory h = tt
 
-pub moved_dec : (grammar : g Decs) (all left : List Lexeme) (taken : ℕ) (made : Result (Tall FullDec) Stop)
+pub moved_dec : (grammar : g (Decs FullDec)) (all left : List Lexeme) (taken : ℕ) (made : Result (Tall FullDec) Stop)
     (fs : Fixities) → ReadsDec grammar (drop taken all) made fs left
     → ReadsDec grammar (drop taken all) made fs (drop (length all - length left) all)
 moved_dec grammar all left taken (Ok dec) fs h =
@@ -175,7 +175,7 @@ settles_as fs old now (Err stopped) left result same (given, is, fails) =
     (given, is, failed_as fs old now stopped left given fails)
 
 -- the same of a declaration, which changes infix status
-pub answers_dec : (grammar : g Decs) (fs : Fixities) (old now : CursorState) (made : Result (Tall FullDec) Stop)
+pub answers_dec : (grammar : g (Decs FullDec)) (fs : Fixities) (old now : CursorState) (made : Result (Tall FullDec) Stop)
     (left : List Lexeme) (result : Result FullDec Fault) → ReadsDec grammar old.rest made fs left
     → Settles made left (scoped fs old.scopes old) result now → ParsesDecHere grammar old result now
 answers_dec grammar fs old now (Ok tall) left result h (is, moves) =

@@ -8,12 +8,12 @@ use Rattle.cm_base.specs.declared.fault.Fault.TheVariants as fault
 use Rattle.sml_lexer.specs.declared.lexeme.Lexeme.{Lexeme}
 use Rattle.grammars.specs.Grammar.{End, head_or, Ends}
 use Rattle.grammars.specs.Front.{FirstNoFront}
-use Rattle.sml_syntax.specs.declared.full_exp.FullDec.{FullDec}
-use Rattle.core_phrases.specs.Bindings.{declares}
-use Rattle.core_phrases.specs.Fixities.{Fixities}
-use Rattle.core_phrases.specs.Level.{Decs}
-use Rattle.core_phrases.specs.Words.{g}
-use Rattle.core_phrases.specs.declared.tall.Tall.{Tall}
+use Rattle.sml_trees.specs.declared.full_exp.FullDec.{FullDec}
+use Rattle.core_bindings.specs.Decs.{declares}
+use Rattle.infix_names.specs.Fixities.{Fixities}
+use Rattle.core_bindings.specs.Decs.{Decs}
+use Rattle.phrase_reading.specs.Words.{g}
+use Rattle.phrase_reading.specs.declared.tall.Tall.{Tall}
 
 -- the place of a lexeme, or the whole file where there is none
 abbrev pub place_of : List ℕ → Option Lexeme → Place
@@ -53,7 +53,7 @@ Answers {A} grammar file all rest (Ok tree) left =
 Answers grammar file all rest (Err fault) left = Refuses grammar file all rest fault
 
 -- The same of one declaration, behind which names bind so.
-abbrev pub AnswersDec : g Decs → List ℕ → List Lexeme → List Lexeme → Result FullDec Fault → Fixities → List Lexeme
+abbrev pub AnswersDec : g (Decs FullDec) → List ℕ → List Lexeme → List Lexeme → Result FullDec Fault → Fixities → List Lexeme
     → Type 0
 AnswersDec grammar file all rest (Ok dec) fs left =
     (height : ℕ) × LongestRun grammar (End.whole (declares (record { tree = dec; height = height }) fs)) rest left

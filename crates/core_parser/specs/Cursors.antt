@@ -6,21 +6,21 @@ use Rattle.cm_base.specs.declared.diag.Diag.{Diag}
 use Rattle.cm_base.specs.declared.fault.Fault.{Fault}
 use Rattle.cm_base.specs.declared.fault.Fault.TheVariants as fault
 use Rattle.sml_lexer.specs.declared.lexeme.Lexeme.{Lexeme}
-use Rattle.sml_syntax.specs.declared.full_exp.FullDec.{FullDec}
+use Rattle.sml_trees.specs.declared.full_exp.FullDec.{FullDec}
 use Rattle.core_parser.specs.Answers.{Answers, AnswersDec}
-use Rattle.core_phrases.specs.Fixities.{Fixities, initial, left_over}
-use Rattle.core_phrases.specs.Level.{Decs}
-use Rattle.core_phrases.specs.Reads.{Reads}
-use Rattle.core_phrases.specs.ReadsDec.{ReadsDec}
-use Rattle.core_phrases.specs.Words.{g}
+use Rattle.infix_names.specs.Fixities.{Fixities, initial, left_over}
+use Rattle.core_bindings.specs.Decs.{Decs}
+use Rattle.phrase_reading.specs.Reads.{Reads}
+use Rattle.core_bindings.specs.Decs.{ReadsDec}
+use Rattle.phrase_reading.specs.Words.{g}
 use Rattle.core_parser.specs.declared.cursor.Cursor.{Cursor}
 use Rattle.core_parser.specs.declared.failure.Failure.{Failure}
 use Rattle.core_parser.specs.declared.failure.Failure.TheVariants as why
 use Rattle.core_parser.specs.declared.cursor.Scope.{Scope}
 use Rattle.core_parser.specs.declared.parsing.Reading.{Reading}
-use Rattle.core_phrases.specs.declared.stop.Stop.{Stop}
-use Rattle.core_phrases.specs.declared.stop.Stop.TheVariants as stop
-use Rattle.core_phrases.specs.declared.tall.Tall.{Tall}
+use Rattle.phrase_reading.specs.declared.stop.Stop.{Stop}
+use Rattle.phrase_reading.specs.declared.stop.Stop.TheVariants as stop
+use Rattle.phrase_reading.specs.declared.tall.Tall.{Tall}
 
 -- a place in a source, with what is known there
 pub record CursorState : Type 0 where
@@ -219,23 +219,23 @@ Parses grammar old result now = ParsesUnless old.failed (grammar (128 - old.nest
 -- ---- the call that reads a declaration, which leaves the infix status behind it
 
 -- the reading went from a place in these lexemes to another, behind which names bind so
-abbrev pub ReadsDecFrom : g Decs → List Lexeme → ℕ → Reading FullDec → Fixities → Type 0
+abbrev pub ReadsDecFrom : g (Decs FullDec) → List Lexeme → ℕ → Reading FullDec → Fixities → Type 0
 ReadsDecFrom grammar all taken reading fs =
     ReadsDec grammar (drop taken all) reading.made fs (drop reading.taken all)
 
-abbrev pub ParsesDecHere : g Decs → CursorState → Result FullDec Fault → CursorState → Type 0
+abbrev pub ParsesDecHere : g (Decs FullDec) → CursorState → Result FullDec Fault → CursorState → Type 0
 ParsesDecHere grammar old (Ok dec) now =
     AnswersDec grammar old.file old.all old.rest (Ok dec) now.fixities now.rest
     × (now ≡ before now.rest (scoped now.fixities old.scopes old))
 ParsesDecHere grammar old (Err fault) now =
     AnswersDec grammar old.file old.all old.rest (Err fault) [] [] × FailsWith fault old now
 
-abbrev pub ParsesDecUnless : Option Failure → g Decs → CursorState → Result FullDec Fault → CursorState → Type 0
+abbrev pub ParsesDecUnless : Option Failure → g (Decs FullDec) → CursorState → Result FullDec Fault → CursorState → Type 0
 ParsesDecUnless None grammar old result now = ParsesDecHere grammar old result now
 ParsesDecUnless (Some because) grammar old result now =
     FailsAgain (fault_of old.file because) result × (now ≡ old)
 
 -- what the call answers and leaves that reads a declaration
-abbrev pub ParsesDec : (ℕ → Fixities → g Decs) → CursorState → Result FullDec Fault → CursorState → Type 0
+abbrev pub ParsesDec : (ℕ → Fixities → g (Decs FullDec)) → CursorState → Result FullDec Fault → CursorState → Type 0
 ParsesDec grammar old result now =
     ParsesDecUnless old.failed (grammar (128 - old.nest) old.fixities) old result now

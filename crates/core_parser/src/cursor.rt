@@ -7,7 +7,7 @@ ghost use Rattle.core_parser.specs.Cursors.{state, at_first, before, under, scop
 
 use crate::failure::Failure;
 use cm_base::{List, NoMemory, Text};
-use core_phrases::fixity::Fixities;
+use infix_names::fixity::Fixities;
 use sml_lexer::Lexeme;
 use std::alloc::Global;
 
@@ -21,14 +21,14 @@ pub struct Scope {
 /// A place in the lexemes of a source, with the infix status of names there. Contracts see what `state` says of it.
 #[derive(Drop)]
 pub struct Cursor {
-    pub(crate) alloc: Global,
-    pub(crate) file: Text,
-    pub(crate) lexemes: List<Lexeme>,
-    pub(crate) taken: usize,
-    pub(crate) fixities: Fixities,
-    pub(crate) scopes: Vec<Scope>,
-    pub(crate) nest: u32,
-    pub(crate) failed: Option<Failure>,
+    pub alloc: Global,
+    pub file: Text,
+    pub lexemes: List<Lexeme>,
+    pub taken: usize,
+    pub fixities: Fixities,
+    pub scopes: Vec<Scope>,
+    pub nest: u32,
+    pub failed: Option<Failure>,
 }
 
 /// How many scopes there are.
@@ -118,7 +118,7 @@ impl Cursor {
     }
 
     /// How many levels are left at the cursor's place.
-    pub(crate) fn levels(&self) -> u32
+    pub fn levels(&self) -> u32
         ensures { result ≡ 128 - self.now.nest }
     {
         128u32.saturating_sub(self.nest)

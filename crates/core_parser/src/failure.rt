@@ -5,7 +5,7 @@ ghost use Rattle.std.specs.Option.{option_copied};
 ghost use Rattle.core_parser.specs.Cursors.{fault_of, failure_of, refused, refused_before, refused_at, IsFault};
 
 use cm_base::{Diag, Fault, List, NoMemory, Place, Text};
-use core_phrases::stop::Stop;
+use phrase_reading::stop::Stop;
 use sml_lexer::Lexeme;
 use std::alloc::Global;
 
@@ -46,7 +46,7 @@ fn refused_before(all: &[Lexeme], left: &[Lexeme]) -> Failure
 }
 
 /// Why a cursor fails where reading stops before these lexemes.
-pub(crate) fn failure_of(all: &[Lexeme], stop: Stop, left: &[Lexeme]) -> Failure
+pub fn failure_of(all: &[Lexeme], stop: Stop, left: &[Lexeme]) -> Failure
     ensures { result ≡ failure_of all.now stop left.now }
 {
     match stop {
@@ -72,7 +72,7 @@ fn refusal(alloc: Global, file: &Text, line: u32, col: u32) -> Result<Diag, NoMe
 }
 
 /// What a cursor of this file answers that has failed so.
-pub(crate) fn fault_of(alloc: Global, file: &Text, failure: Failure) -> Fault
+pub fn fault_of(alloc: Global, file: &Text, failure: Failure) -> Fault
     ensures { IsFault (fault_of file.now failure) result }
 {
     let made = match failure {

@@ -1,25 +1,9 @@
-//! The core of Standard ML, read from its lexemes: expressions and declarations as they are written, and the public calls
-//! that read a phrase at a cursor.
+//! The core of Standard ML at a cursor: the public calls that read a declaration, an expression, a pattern or a type.
 #![tactic(auto)]
 
-mod atexp;
-mod binds;
-mod chain;
 mod cursor;
-pub mod decs;
-pub mod exp;
-mod exp_constraints;
-mod exp_starts;
 mod failure;
-mod fun_decs;
-mod head;
-mod heads;
-mod nodes;
-mod paren_head;
 mod parsing;
-mod rule_pats;
-mod run;
-mod val_decs;
 
 pub use cursor::{Cursor, Scope};
 pub use failure::Failure;

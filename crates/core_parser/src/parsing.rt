@@ -2,25 +2,25 @@
 
 ghost use Rattle.std.specs.Prelude.{◌≡◌, ◌-◌, drop, length, take, OnOk};
 ghost use Rattle.core_parser.specs.Cursors.{state, because, FailsBefore, Parses, ParsesHere, ReadsFrom, Settles, ParsesDec, ParsesDecHere, ReadsDecFrom};
-ghost use Rattle.core_parser.specs.Levels.{exp, dec};
-ghost use Rattle.core_phrases.specs.Patterns.{pat};
-ghost use Rattle.core_phrases.specs.ReadsDec.{ReadsDec};
-ghost use Rattle.core_phrases.specs.Types.{ty};
+ghost use Rattle.core_expressions.specs.Levels.{exp, dec};
+ghost use Rattle.core_patterns.specs.Patterns.{pat};
+ghost use Rattle.core_bindings.specs.Decs.{ReadsDec};
+ghost use Rattle.core_types.specs.Types.{ty};
 
 use crate::cursor::Cursor;
-use crate::decs::dec;
-use crate::exp::exp;
-use crate::exp_starts::first_of_dec;
 use crate::failure::{Failure, failure_of, fault_of};
 use cm_base::Fault;
-use core_phrases::fixity::Fixities;
-use core_phrases::lexemes::Lexemes;
-use core_phrases::patterns::pat;
-use core_phrases::stop::Stop;
-use core_phrases::tall::Tall;
-use core_phrases::types::ty;
+use core_expressions::decs::dec;
+use core_expressions::exp::exp;
+use core_patterns::patterns::pat;
+use core_types::types::ty;
+use expression_parts::exp_starts::first_of_dec;
+use infix_names::fixity::Fixities;
+use phrase_reading::lexemes::Lexemes;
+use phrase_reading::stop::Stop;
+use phrase_reading::tall::Tall;
 use sml_lexer::Lexeme;
-use sml_syntax::{FullDec, FullExp, FullPat, FullTy};
+use sml_trees::{FullDec, FullExp, FullPat, FullTy};
 use std::alloc::Global;
 
 /// What was read from a place in lexemes on, and how many of these stand before the place behind it.
@@ -105,7 +105,7 @@ fn exp_from(
 }
 
 /// One declaration.
-#[tactic(auto, unfolding(crate::specs::Levels::dec))]
+#[tactic(auto, unfolding(core_expressions::specs::Levels::dec))]
 fn one_dec(
     alloc: Global,
     lexemes: &mut Lexemes<'_>,

@@ -6,8 +6,6 @@ mod laws;
 mod made;
 mod reader;
 mod refusal;
-#[cfg(test)]
-mod tests;
 mod token;
 mod tree;
 

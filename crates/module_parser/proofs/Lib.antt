@@ -1,5 +1,3 @@
-pub mod BoundSteps
-pub mod SigSteps
 pub mod StrSteps
 pub mod TopSteps
 pub mod UnitLaws

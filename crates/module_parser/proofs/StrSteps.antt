@@ -6,30 +6,30 @@ use Rattle.grammars.specs.Reading.{Out, chain, read}
 use Rattle.grammars.proofs.Complete.{goes, stops}
 use Rattle.grammars.proofs.Rounds.{many_go, many_end, not_longer}
 use Rattle.sml_lexer.specs.declared.lexeme.Lexeme.{Lexeme}
-use Rattle.sml_syntax.specs.declared.full_exp.FullStrExp.{FullStrExp}
-use Rattle.sml_syntax.specs.declared.full_sig.FullSigExp.{FullSigExp}
-use Rattle.sml_syntax.specs.declared.name.At.{At}
-use Rattle.sml_syntax.specs.declared.name.Name.{Name}
-use Rattle.core_phrases.specs.Bindings.{if_marked, marked, flat}
+use Rattle.sml_trees.specs.declared.full_str.FullStrExp.{FullStrExp}
+use Rattle.sml_trees.specs.declared.full_sig.FullSigExp.{FullSigExp}
+use Rattle.sml_trees.specs.declared.name.At.{At}
+use Rattle.sml_trees.specs.declared.name.Name.{Name}
+use Rattle.phrase_reading.specs.Names.{if_marked, marked, flat}
 use Rattle.std.specs.Result.{IsErrAnd}
-use Rattle.sml_syntax.specs.declared.full_exp.FullDec.{FullDec}
-use Rattle.core_phrases.specs.DecReads.{declared}
-use Rattle.core_phrases.specs.declared.tall.Tall.{Tall}
-use Rattle.core_phrases.specs.Fixities.{Fixities}
-use Rattle.core_phrases.specs.Level.{Decs}
-use Rattle.core_phrases.specs.Reads.{Stops}
-use Rattle.core_phrases.specs.Words.{g, is, word}
-use Rattle.core_phrases.specs.declared.stop.Stop.{Stop}
-use Rattle.core_phrases.specs.declared.stop.Stop.TheVariants as stop
-use Rattle.core_phrases.specs.declared.words.Word.TheVariants as w
-use Rattle.core_phrases.proofs.BindingSteps.{marked_go, marked_stop}
-use Rattle.core_parser.proofs.DecSteps.{opened_go, opened_deep}
-use Rattle.core_phrases.proofs.Kept.{kept_then}
-use Rattle.module_parser.specs.Rounds.{next_begin}
+use Rattle.sml_trees.specs.declared.full_str.FullStrDec.{FullStrDec}
+use Rattle.core_bindings.specs.Decs.{declared}
+use Rattle.phrase_reading.specs.declared.tall.Tall.{Tall}
+use Rattle.infix_names.specs.Fixities.{Fixities}
+use Rattle.core_bindings.specs.Decs.{Decs}
+use Rattle.phrase_reading.specs.Reads.{Stops}
+use Rattle.phrase_reading.specs.Words.{g, is, word}
+use Rattle.phrase_reading.specs.declared.stop.Stop.{Stop}
+use Rattle.phrase_reading.specs.declared.stop.Stop.TheVariants as stop
+use Rattle.phrase_reading.specs.declared.words.Word.TheVariants as w
+use Rattle.phrase_reading.proofs.NameSteps.{marked_go, marked_stop}
+use Rattle.core_expressions.proofs.DecSteps.{opened_go, opened_deep}
+use Rattle.infix_names.proofs.Kept.{kept_then}
+use Rattle.signature_parser.specs.Rounds.{next_begin}
 use Rattle.module_parser.specs.StrLevels.{str_level, str_below}
 use Rattle.module_parser.specs.Structures.{StrLevel, starts_str, if_str, next_str, str, seal_behind, maybe_seal, str_within, str_dec_of, str_dec_word, is_str_round, str_round, str_decs_from, of_str, of_decs, argument, seals_on, if_seal, next_seal, seals, seal_of}
-use Rattle.module_parser.specs.declared.joined.Joined.{Joined}
-use Rattle.module_parser.proofs.SigSteps.{begin_go, begin_end, begin_kept, begin_stops, begin_left}
+use Rattle.signature_parser.specs.declared.joined.Joined.{Joined}
+use Rattle.signature_parser.proofs.SigSteps.{begin_go, begin_end, begin_kept, begin_stops, begin_left}
 
 -- ---- levels
 
@@ -208,22 +208,22 @@ pub ruleset seals_steps = (seals_end, not_longer, seals_left)
 
 -- ---- declarations
 
-pub str_decs_end : (n : ℕ) (parts : StrLevel) (found : Decs) (xs : List Lexeme)
+pub str_decs_end : (n : ℕ) (parts : StrLevel) (found : Decs FullStrDec) (xs : List Lexeme)
     → next_begin is_str_round (head_or xs None) ≡ None
     → read (str_decs_from n parts found) xs ≡ Out.out (End.whole found) xs
 unfolding str_decs_from
 str_decs_end n parts found xs h = begin_end is_str_round (str_round n parts) found xs h
 
-pub str_decs_kept : (n : ℕ) (parts : StrLevel) (found next : Decs) (x : Lexeme) (xs rest : List Lexeme)
-    (target : Out Lexeme Decs) → next_begin is_str_round (head_or xs None) ≡ Some x
+pub str_decs_kept : (n : ℕ) (parts : StrLevel) (found next : Decs FullStrDec) (x : Lexeme) (xs rest : List Lexeme)
+    (target : Out Lexeme (Decs FullStrDec)) → next_begin is_str_round (head_or xs None) ≡ Some x
     → read (str_round n parts found x) (drop 1 xs) ≡ Out.out (End.whole next) rest
     → read (str_decs_from n parts found) xs ≡ target → read (str_decs_from n parts next) rest ≡ target
 unfolding str_decs_from
 str_decs_kept n parts found next x xs rest target h is so =
     begin_kept is_str_round (str_round n parts) found next x xs rest target h is so
 
-pub str_decs_stops : (n : ℕ) (parts : StrLevel) (found : Decs) (x : Lexeme) (why : Stop) (xs rest : List Lexeme)
-    (target : Out Lexeme Decs) → next_begin is_str_round (head_or xs None) ≡ Some x
+pub str_decs_stops : (n : ℕ) (parts : StrLevel) (found : Decs FullStrDec) (x : Lexeme) (why : Stop) (xs rest : List Lexeme)
+    (target : Out Lexeme (Decs FullStrDec)) → next_begin is_str_round (head_or xs None) ≡ Some x
     → Stops why (read (str_round n parts found x) (drop 1 xs)) rest
     → read (str_decs_from n parts found) xs ≡ target → Stops why target rest
 unfolding str_decs_from
@@ -235,12 +235,12 @@ pub str_decs_left : (x : Lexeme) (xs : List Lexeme) → next_begin is_str_round 
 str_decs_left x xs h = begin_left is_str_round x xs h
 
 -- what a call answers that reads declarations, by what the reader does
-abbrev pub DecsOut : Out Lexeme Decs → Result (Tall (List FullDec)) Stop → Fixities → List Lexeme → Type 0
+abbrev pub DecsOut : Out Lexeme (Decs FullStrDec) → Result (Tall (List FullStrDec)) Stop → Fixities → List Lexeme → Type 0
 DecsOut o (Ok made) fs left = o ≡ Out.out (End.whole (declared made fs)) left
 DecsOut o (Err why) fs left = Stops why o left
 
 -- the same of one that passes a stop on
-pub as_decs : (target : Out Lexeme Decs) (why : Stop) (result : Result (Tall (List FullDec)) Stop) (fs : Fixities)
+pub as_decs : (target : Out Lexeme (Decs FullStrDec)) (why : Stop) (result : Result (Tall (List FullStrDec)) Stop) (fs : Fixities)
     (left : List Lexeme) → IsErrAnd result (λ given. given ≡ why) → Stops why target left → DecsOut target result fs left
 as_decs target why (Ok made) fs left h stops = absurd h
 as_decs target why (Err given) fs left h stops = subst (λ (s : Stop). Stops s target left) (sym h) stops

@@ -5,23 +5,23 @@ use Rattle.grammars.specs.Reading.{Out, chain, read}
 use Rattle.grammars.proofs.Complete.{goes, stops}
 use Rattle.grammars.proofs.Rounds.{not_longer}
 use Rattle.sml_lexer.specs.declared.lexeme.Lexeme.{Lexeme}
-use Rattle.sml_syntax.specs.declared.full_sig.FullSpec.{FullSpec}
-use Rattle.sml_syntax.specs.declared.full_unit.FullParam.{FullParam}
-use Rattle.sml_syntax.specs.declared.full_unit.FullParam.TheVariants as param
-use Rattle.sml_syntax.specs.declared.full_unit.FullTopDec.{FullTopDec}
-use Rattle.sml_syntax.specs.declared.name.Name.{Name}
-use Rattle.core_phrases.specs.Reads.{Stops}
-use Rattle.core_phrases.specs.Sized.{part}
-use Rattle.core_phrases.specs.Words.{is, word}
-use Rattle.core_phrases.specs.declared.stop.Stop.{Stop}
-use Rattle.core_phrases.specs.declared.tall.Tall.{Tall}
-use Rattle.core_phrases.specs.declared.words.Word.TheVariants as w
+use Rattle.sml_trees.specs.declared.full_sig.FullSpec.{FullSpec}
+use Rattle.sml_trees.specs.declared.full_unit.FullParam.{FullParam}
+use Rattle.sml_trees.specs.declared.full_unit.FullParam.TheVariants as param
+use Rattle.sml_trees.specs.declared.full_unit.FullTopDec.{FullTopDec}
+use Rattle.sml_trees.specs.declared.name.Name.{Name}
+use Rattle.phrase_reading.specs.Reads.{Stops}
+use Rattle.phrase_reading.specs.Sized.{part}
+use Rattle.phrase_reading.specs.Words.{is, word}
+use Rattle.phrase_reading.specs.declared.stop.Stop.{Stop}
+use Rattle.phrase_reading.specs.declared.tall.Tall.{Tall}
+use Rattle.phrase_reading.specs.declared.words.Word.TheVariants as w
 use Rattle.module_parser.specs.Functors.{begin_at, specs_at, spec_param}
-use Rattle.module_parser.specs.Rounds.{next_begin, if_begins}
-use Rattle.module_parser.specs.SigLevels.{sig_level, sig_below}
-use Rattle.module_parser.specs.Specifications.{is_spec_round, spec_round, specs_from, no_specs}
+use Rattle.signature_parser.specs.Rounds.{next_begin, if_begins}
+use Rattle.signature_parser.specs.SigLevels.{sig_level, sig_below}
+use Rattle.signature_parser.specs.Specifications.{is_spec_round, spec_round, specs_from, no_specs}
 use Rattle.module_parser.specs.Units.{starts_top, semicolon, top_round, topdecs_from}
-use Rattle.module_parser.proofs.SigSteps.{begin_end, begin_kept, begin_stops, begin_left, specs_go}
+use Rattle.signature_parser.proofs.SigSteps.{begin_end, begin_kept, begin_stops, begin_left, specs_go}
 
 -- ---- a functor's parameter
 

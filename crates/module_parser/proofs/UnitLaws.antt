@@ -13,14 +13,14 @@ use Rattle.grammars.proofs.Sound.{sound}
 use Rattle.grammars.proofs.Fronts.{place}
 use Rattle.sml_lexer.specs.Lexing.{lexemes_of}
 use Rattle.sml_lexer.specs.declared.lexeme.Lexeme.{Lexeme}
-use Rattle.sml_syntax.specs.declared.full_unit.FullTopDec.{FullTopDec}
-use Rattle.sml_syntax.specs.declared.full_unit.FullUnit.{FullUnit}
+use Rattle.sml_trees.specs.declared.full_unit.FullTopDec.{FullTopDec}
+use Rattle.sml_trees.specs.declared.full_unit.FullUnit.{FullUnit}
 use Rattle.core_parser.specs.Answers.{LongestRun, refusal}
-use Rattle.core_phrases.specs.Reads.{Stops}
-use Rattle.core_phrases.specs.Words.{g}
-use Rattle.core_phrases.specs.declared.stop.Stop.{Stop}
-use Rattle.core_phrases.specs.declared.stop.Stop.TheVariants as stop
-use Rattle.core_phrases.specs.declared.tall.Tall.{Tall}
+use Rattle.phrase_reading.specs.Reads.{Stops}
+use Rattle.phrase_reading.specs.Words.{g}
+use Rattle.phrase_reading.specs.declared.stop.Stop.{Stop}
+use Rattle.phrase_reading.specs.declared.stop.Stop.TheVariants as stop
+use Rattle.phrase_reading.specs.declared.tall.Tall.{Tall}
 use Rattle.module_parser.specs.Answers.{AnswersLexemes, AnswersUnit, StopsWith}
 use Rattle.module_parser.specs.Laws.{OneUnit, UnitHasNoDiagnostic, OneDiagnostic, UnitsAreParsed, DiagnosticsAreParsed}
 use Rattle.module_parser.specs.Parsing.{parsed, parsed_lexemes, parsed_unit}

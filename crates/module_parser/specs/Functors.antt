@@ -12,26 +12,26 @@ use Rattle.std.specs.Prelude.{ℕ, max, List, [], Option, None, Some}
 use Rattle.grammars.specs.Grammar.{Grammar, ◌>>=◌, ◌>>◌}
 use Rattle.grammars.specs.Grammar.Grammar.{pure, refuse, on, many, within}
 use Rattle.sml_lexer.specs.declared.lexeme.Lexeme.{Lexeme}
-use Rattle.sml_syntax.specs.declared.full_sig.FullSigExp.{FullSigExp}
-use Rattle.sml_syntax.specs.declared.full_sig.FullSpec.{FullSpec}
-use Rattle.sml_syntax.specs.declared.full_unit.FullFunctorBind.{FullFunctorBind}
-use Rattle.sml_syntax.specs.declared.full_unit.FullFunsigBind.{FullFunsigBind}
-use Rattle.sml_syntax.specs.declared.full_unit.FullParam.{FullParam}
-use Rattle.sml_syntax.specs.declared.full_unit.FullParam.TheVariants as param
-use Rattle.sml_syntax.specs.declared.name.At.{At}
-use Rattle.sml_syntax.specs.declared.name.Name.{Name}
-use Rattle.core_phrases.specs.Bindings.{if_taken}
-use Rattle.core_phrases.specs.Fixities.{initial}
-use Rattle.core_phrases.specs.Sized.{part}
-use Rattle.core_phrases.specs.Words.{g, word, at, named, token}
-use Rattle.core_phrases.specs.declared.tall.Tall.{Tall}
-use Rattle.core_phrases.specs.declared.words.Word.TheVariants as w
-use Rattle.module_parser.specs.Joined.{module_name_of, module_name, alone}
-use Rattle.module_parser.specs.SigLevels.{sig_level, sig_below}
-use Rattle.module_parser.specs.Specifications.{is_spec_round, spec_round, specs_from, no_specs}
+use Rattle.sml_trees.specs.declared.full_sig.FullSigExp.{FullSigExp}
+use Rattle.sml_trees.specs.declared.full_sig.FullSpec.{FullSpec}
+use Rattle.sml_trees.specs.declared.full_unit.FullFunctorBind.{FullFunctorBind}
+use Rattle.sml_trees.specs.declared.full_unit.FullFunsigBind.{FullFunsigBind}
+use Rattle.sml_trees.specs.declared.full_unit.FullParam.{FullParam}
+use Rattle.sml_trees.specs.declared.full_unit.FullParam.TheVariants as param
+use Rattle.sml_trees.specs.declared.name.At.{At}
+use Rattle.sml_trees.specs.declared.name.Name.{Name}
+use Rattle.phrase_reading.specs.Names.{if_taken}
+use Rattle.infix_names.specs.Fixities.{initial}
+use Rattle.phrase_reading.specs.Sized.{part}
+use Rattle.phrase_reading.specs.Words.{g, word, at, named, token}
+use Rattle.phrase_reading.specs.declared.tall.Tall.{Tall}
+use Rattle.phrase_reading.specs.declared.words.Word.TheVariants as w
+use Rattle.signature_parser.specs.Joined.{module_name_of, module_name, alone}
+use Rattle.signature_parser.specs.SigLevels.{sig_level, sig_below}
+use Rattle.signature_parser.specs.Specifications.{is_spec_round, spec_round, specs_from, no_specs}
 use Rattle.module_parser.specs.StrLevels.{str_level}
 use Rattle.module_parser.specs.Structures.{maybe_seal, str}
-use Rattle.module_parser.specs.declared.joined.Joined.{Joined}
+use Rattle.signature_parser.specs.declared.joined.Joined.{Joined}
 
 -- strid : sigexp, behind the name
 unfoldable pub named_param : ℕ → Name → g (Tall FullParam)

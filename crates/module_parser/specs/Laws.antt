@@ -1,7 +1,7 @@
 -- What a text is, and what is said of one that is no unit, is determined; and a function gives it.
 use Rattle.std.specs.Prelude.{◌≡◌, ◌↔◌, ℕ, List, Ok, Err}
 use Rattle.cm_base.specs.declared.diag.Diag.{Diag}
-use Rattle.sml_syntax.specs.declared.full_unit.FullUnit.{FullUnit}
+use Rattle.sml_trees.specs.declared.full_unit.FullUnit.{FullUnit}
 use Rattle.module_parser.specs.Parsing.{parsed_unit}
 use Rattle.module_parser.specs.Units.{IsUnit, IsFirstDiagnostic}
 

@@ -8,10 +8,10 @@ use Rattle.grammars.specs.Grammar.{End}
 use Rattle.grammars.specs.Reading.{Out, read}
 use Rattle.sml_lexer.specs.Lexing.{lexemes_of}
 use Rattle.sml_lexer.specs.declared.lexeme.Lexeme.{Lexeme}
-use Rattle.sml_syntax.specs.declared.full_unit.FullTopDec.{FullTopDec}
-use Rattle.sml_syntax.specs.declared.full_unit.FullUnit.{FullUnit}
+use Rattle.sml_trees.specs.declared.full_unit.FullTopDec.{FullTopDec}
+use Rattle.sml_trees.specs.declared.full_unit.FullUnit.{FullUnit}
 use Rattle.core_parser.specs.Answers.{refusal}
-use Rattle.core_phrases.specs.declared.tall.Tall.{Tall}
+use Rattle.phrase_reading.specs.declared.tall.Tall.{Tall}
 use Rattle.module_parser.specs.Units.{topdecs, top_refusal}
 
 -- What the reading of all lexemes of a file gives: a unit where none is left behind it; 21 or 20 at one that stands

@@ -17,39 +17,43 @@
 --
 -- What stands behind the parenthesis of a functor is a structure expression where it begins with `struct`, `let` or a
 -- name, and declarations, of which there may be none, where it begins otherwise.
-use Rattle.std.specs.Prelude.{ℕ, zero, suc, ◌+◌, ◌-◌, ◌++◌, ◌||◌, ◌&&◌, not, max, length, Bool, true, false, Option, None, Some, is_some, List, [], ◌∷◌, if◌then◌else◌}
+use Rattle.std.specs.Prelude.{ℕ, zero, suc, ◌+◌, ◌-◌, ◌++◌, ◌||◌, ◌&&◌, not, max, length, map, Bool, true, false, Option, None, Some, is_some, List, [], ◌∷◌, if◌then◌else◌}
 use Rattle.grammars.specs.Grammar.{Grammar, ◌>>=◌, ◌>>◌}
 use Rattle.grammars.specs.Grammar.Grammar.{pure, refuse, on, many, within}
 use Rattle.sml_lexer.specs.declared.lexeme.Lexeme.{Lexeme}
-use Rattle.sml_syntax.specs.declared.full_exp.FullDec.{FullDec}
-use Rattle.sml_syntax.specs.declared.full_exp.FullDec.TheVariants as d
-use Rattle.sml_syntax.specs.declared.full_exp.FullStrBind.{FullStrBind, roll-FullStrBind}
-use Rattle.sml_syntax.specs.declared.full_exp.FullStrExp.{FullStrExp}
-use Rattle.sml_syntax.specs.declared.full_exp.FullStrExp.TheVariants as t
-use Rattle.sml_syntax.specs.declared.full_sig.FullSeal.{FullSeal}
-use Rattle.sml_syntax.specs.declared.full_sig.FullSigExp.{FullSigExp}
-use Rattle.sml_syntax.specs.declared.name.At.{At}
-use Rattle.sml_syntax.specs.declared.name.Name.{Name}
-use Rattle.core_phrases.specs.Bindings.{either, if_mark, if_marked, declares, flat, strid_of}
-use Rattle.core_parser.specs.Declarations.{plain, starts_dec_word, with_dec}
-use Rattle.core_phrases.specs.Fixities.{Fixities, left_over}
-use Rattle.core_phrases.specs.Level.{Decs, opened}
-use Rattle.core_parser.specs.Levels.{level}
-use Rattle.core_phrases.specs.Sized.{leaf, over, part, lower}
-use Rattle.core_phrases.specs.Words.{g, is, word, at, named, long_named, made, token}
-use Rattle.core_phrases.specs.declared.tall.Tall.{Tall}
-use Rattle.core_phrases.specs.declared.words.Word.{Word}
-use Rattle.core_phrases.specs.declared.words.Word.TheVariants as w
-use Rattle.module_parser.specs.Joined.{module_name_of, apart, alone, joined_over, bindings}
-use Rattle.module_parser.specs.SigLevels.{sig_level}
-use Rattle.module_parser.specs.declared.joined.Joined.{Joined}
+use Rattle.sml_trees.specs.declared.full_exp.FullDec.{FullDec}
+use Rattle.sml_trees.specs.declared.full_str.FullStrDec.{FullStrDec}
+use Rattle.sml_trees.specs.declared.full_str.FullStrDec.TheVariants as d
+use Rattle.sml_trees.specs.declared.full_str.FullStrBind.{FullStrBind, roll-FullStrBind}
+use Rattle.sml_trees.specs.declared.full_str.FullStrExp.{FullStrExp}
+use Rattle.sml_trees.specs.declared.full_str.FullStrExp.TheVariants as t
+use Rattle.sml_trees.specs.declared.full_sig.FullSeal.{FullSeal}
+use Rattle.sml_trees.specs.declared.full_sig.FullSigExp.{FullSigExp}
+use Rattle.sml_trees.specs.declared.name.At.{At}
+use Rattle.sml_trees.specs.declared.name.Name.{Name}
+use Rattle.core_bindings.specs.Decs.{declares}
+use Rattle.phrase_reading.specs.Names.{either, if_mark, if_marked, flat, strid_of}
+use Rattle.core_bindings.specs.Decs.{plain, with_dec}
+use Rattle.expression_parts.specs.ExpStarts.{starts_dec_word}
+use Rattle.infix_names.specs.Fixities.{Fixities, left_over}
+use Rattle.core_bindings.specs.Decs.{Decs}
+use Rattle.phrase_reading.specs.Sized.{opened}
+use Rattle.core_expressions.specs.Levels.{level}
+use Rattle.phrase_reading.specs.Sized.{leaf, over, part, lower}
+use Rattle.phrase_reading.specs.Words.{g, is, word, at, named, long_named, made, token}
+use Rattle.phrase_reading.specs.declared.tall.Tall.{Tall}
+use Rattle.phrase_reading.specs.declared.words.Word.{Word}
+use Rattle.phrase_reading.specs.declared.words.Word.TheVariants as w
+use Rattle.signature_parser.specs.Joined.{module_name_of, apart, alone, joined_over, bindings}
+use Rattle.signature_parser.specs.SigLevels.{sig_level}
+use Rattle.signature_parser.specs.declared.joined.Joined.{Joined}
 
 -- the phrases of structures that nest at most so deep
 pub record StrLevel : Type 1 where
   -- a structure expression, behind its first lexeme
   pub str_after : Fixities → Lexeme → g (Joined FullStrExp)
   -- declarations and semicolons, none or more
-  pub decs : Fixities → g Decs
+  pub decs : Fixities → g (Decs FullStrDec)
 
 -- whether a structure expression begins with the lexeme
 abbrev pub starts_str : Lexeme → Bool
@@ -198,13 +202,13 @@ str_behind n parts fs x = opened n (str_within n parts fs x)
 -- ---- declarations
 
 -- structure strbind and ..
-unfoldable pub structures : ℕ → StrLevel → Fixities → At → g (Tall FullDec)
+unfoldable pub structures : ℕ → StrLevel → Fixities → At → g (Tall FullStrDec)
 structures n parts fs place = do
   found ← bindings (str_bind n parts fs)
   pure (over (λ (binds : List FullStrBind). d.Structures binds place) found)
 
 -- local strdec in strdec end
-unfoldable pub local_str : StrLevel → Fixities → At → g Decs
+unfoldable pub local_str : StrLevel → Fixities → At → g (Decs FullStrDec)
 local_str parts fs place = do
   hidden ← parts.decs fs
   token w.In
@@ -213,14 +217,25 @@ local_str parts fs place = do
   pure (declares (record { tree = d.Local hidden.decs shown.decs place; height = max hidden.height shown.height + 1 })
       (left_over (length fs) (length hidden.fixities) shown.fixities))
 
--- a declaration of so many levels, of which its first word opened one, behind that word
-abbrev pub str_dec_word : ℕ → StrLevel → Fixities → Lexeme → Option Word → g Decs
+-- declarations of the core as declarations in a structure, of the same levels
+abbrev pub of_core : Decs FullDec → Decs FullStrDec
+of_core found = record { decs = map d.Core found.decs; fixities = found.fixities; height = found.height }
+
+-- a declaration of the core with at most so many levels, behind its first word
+unfoldable pub core_dec : ℕ → Fixities → Lexeme → g (Decs FullStrDec)
+core_dec n fs x = do
+  found ← (level n).dec fs x
+  pure (of_core found)
+
+-- A declaration of so many levels, of which its first word opened one, behind that word. A `local` here is always one
+-- of structures, which may declare structures on both sides.
+abbrev pub str_dec_word : ℕ → StrLevel → Fixities → Lexeme → Option Word → g (Decs FullStrDec)
 str_dec_word n parts fs x (Some w.Structure) = plain fs (structures (n - 1) parts fs (at x))
 str_dec_word n parts fs x (Some w.Local) = local_str parts fs (at x)
-str_dec_word n parts fs x _ = (level n).dec fs x
+str_dec_word n parts fs x _ = core_dec n fs x
 
 -- a declaration behind its first word, with so many levels left
-abbrev pub str_dec_of : ℕ → StrLevel → Fixities → Lexeme → g Decs
+abbrev pub str_dec_of : ℕ → StrLevel → Fixities → Lexeme → g (Decs FullStrDec)
 str_dec_of n parts fs x = opened n (str_dec_word n parts fs x (word x))
 
 -- whether a declaration begins with this word, or it is a semicolon
@@ -230,19 +245,19 @@ is_str_round (Some w.Semicolon) = true
 is_str_round found = starts_dec_word found
 
 -- one more declaration
-unfoldable pub next_str_dec : ℕ → StrLevel → Decs → Lexeme → g Decs
+unfoldable pub next_str_dec : ℕ → StrLevel → Decs FullStrDec → Lexeme → g (Decs FullStrDec)
 next_str_dec n parts found x = do
   next ← str_dec_of n parts found.fixities x
   pure (with_dec found next)
 
 -- one more declaration behind its first word, or nothing behind a semicolon
-abbrev pub str_round : ℕ → StrLevel → Decs → Lexeme → g Decs
+abbrev pub str_round : ℕ → StrLevel → Decs FullStrDec → Lexeme → g (Decs FullStrDec)
 str_round n parts found x = either (is w.Semicolon x) (pure found) (next_str_dec n parts found x)
 
 -- further declarations and semicolons
-unfoldable pub str_decs_from : ℕ → StrLevel → Decs → g Decs
+unfoldable pub str_decs_from : ℕ → StrLevel → Decs FullStrDec → g (Decs FullStrDec)
 str_decs_from n parts found = many (λ _ x. is_str_round (word x)) (str_round n parts) found
 
 -- declarations and semicolons, none or more
-abbrev pub str_decs_of : ℕ → StrLevel → Fixities → g Decs
+abbrev pub str_decs_of : ℕ → StrLevel → Fixities → g (Decs FullStrDec)
 str_decs_of n parts fs = str_decs_from n parts (record { decs = []; fixities = fs; height = 0 })

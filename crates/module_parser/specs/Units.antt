@@ -14,26 +14,26 @@ use Rattle.cm_base.specs.Diags.{whole_file}
 use Rattle.cm_base.specs.declared.diag.Diag.{Diag}
 use Rattle.sml_lexer.specs.Lexing.{lexemes_of}
 use Rattle.sml_lexer.specs.declared.lexeme.Lexeme.{Lexeme}
-use Rattle.sml_syntax.specs.declared.full_exp.FullStrBind.{FullStrBind}
-use Rattle.sml_syntax.specs.declared.full_sig.FullSigBind.{FullSigBind}
-use Rattle.sml_syntax.specs.declared.full_unit.FullFunctorBind.{FullFunctorBind}
-use Rattle.sml_syntax.specs.declared.full_unit.FullFunsigBind.{FullFunsigBind}
-use Rattle.sml_syntax.specs.declared.full_unit.FullTopDec.{FullTopDec}
-use Rattle.sml_syntax.specs.declared.full_unit.FullTopDec.TheVariants as top
-use Rattle.sml_syntax.specs.declared.full_unit.FullUnit.{FullUnit}
-use Rattle.sml_syntax.specs.declared.name.At.{At}
+use Rattle.sml_trees.specs.declared.full_str.FullStrBind.{FullStrBind}
+use Rattle.sml_trees.specs.declared.full_sig.FullSigBind.{FullSigBind}
+use Rattle.sml_trees.specs.declared.full_unit.FullFunctorBind.{FullFunctorBind}
+use Rattle.sml_trees.specs.declared.full_unit.FullFunsigBind.{FullFunsigBind}
+use Rattle.sml_trees.specs.declared.full_unit.FullTopDec.{FullTopDec}
+use Rattle.sml_trees.specs.declared.full_unit.FullTopDec.TheVariants as top
+use Rattle.sml_trees.specs.declared.full_unit.FullUnit.{FullUnit}
+use Rattle.sml_trees.specs.declared.name.At.{At}
 use Rattle.core_parser.specs.Answers.{LongestRun, place_of, refusal}
-use Rattle.core_parser.specs.Declarations.{starts_dec_word}
-use Rattle.core_phrases.specs.Fixities.{initial}
-use Rattle.core_phrases.specs.Sized.{over, more}
-use Rattle.core_phrases.specs.Words.{g, is, word, at}
-use Rattle.core_phrases.specs.declared.tall.Tall.{Tall}
-use Rattle.core_phrases.specs.declared.words.Word.{Word}
-use Rattle.core_phrases.specs.declared.words.Word.TheVariants as w
+use Rattle.expression_parts.specs.ExpStarts.{starts_dec_word}
+use Rattle.infix_names.specs.Fixities.{initial}
+use Rattle.phrase_reading.specs.Sized.{over, more}
+use Rattle.phrase_reading.specs.Words.{g, is, word, at}
+use Rattle.phrase_reading.specs.declared.tall.Tall.{Tall}
+use Rattle.phrase_reading.specs.declared.words.Word.{Word}
+use Rattle.phrase_reading.specs.declared.words.Word.TheVariants as w
 use Rattle.module_parser.specs.Functors.{fun_bind, funsig_bind}
-use Rattle.module_parser.specs.Joined.{bindings}
-use Rattle.module_parser.specs.SigLevels.{sig_level}
-use Rattle.module_parser.specs.Signatures.{sig_bind}
+use Rattle.signature_parser.specs.Joined.{bindings}
+use Rattle.signature_parser.specs.SigLevels.{sig_level}
+use Rattle.signature_parser.specs.Signatures.{sig_bind}
 use Rattle.module_parser.specs.StrLevels.{str_level}
 use Rattle.module_parser.specs.Structures.{str_bind}
 

@@ -1,34 +1,33 @@
 //! Functors, and signatures of functors.
 
-ghost use Rattle.std.specs.Prelude.{◌≡◌, None, Some, IfOk};
+ghost use Rattle.std.specs.Prelude.{◌≡◌, None, Some};
 ghost use Rattle.grammars.specs.Grammar.{head_or};
-ghost use Rattle.core_phrases.specs.Fixities.{initial};
-ghost use Rattle.core_phrases.specs.Reads.{Reads};
-ghost use Rattle.core_phrases.specs.Words.{named};
-ghost use Rattle.module_parser.specs.Functors.{begin_at, named_param, specs_at, spec_param, functor_param, fun_bind, funsig_bind};
-ghost use Rattle.module_parser.specs.Joined.{bindings, bindings_from};
-ghost use Rattle.module_parser.specs.Rounds.{next_begin};
-ghost use Rattle.module_parser.specs.Specifications.{is_spec_round};
+ghost use Rattle.infix_names.specs.Fixities.{initial};
+ghost use Rattle.phrase_reading.specs.Reads.{Reads};
+ghost use Rattle.module_parser.specs.Functors.{begin_at, named_param, spec_param, functor_param, fun_bind, funsig_bind};
+ghost use Rattle.signature_parser.specs.Joined.{bindings, bindings_from};
+ghost use Rattle.signature_parser.specs.Rounds.{next_begin};
+ghost use Rattle.signature_parser.specs.Specifications.{is_spec_round};
 ghost use Rattle.module_parser.specs.StrLevels.{str_level};
 ghost use Rattle.module_parser.specs.Structures.{str};
 
-use crate::joined::{Joined, alone, joined_more, joined_one, next_name};
-use crate::names::{module_name, sees_module_name};
-use crate::rounds::next_spec;
 use crate::seals::maybe_seal;
-use crate::sig_exps::{sig, specs};
 use crate::str_exps::str_exp;
 use cm_base::List;
-use core_phrases::fixity::Fixities;
-use core_phrases::lexemes::Lexemes;
-use core_phrases::stop::Stop;
-use core_phrases::tall::Tall;
-use core_phrases::{Word, lexeme};
-use sml_syntax::{At, FullFunctorBind, FullFunsigBind, FullParam, FullStrExp, Name};
+use infix_names::fixity::Fixities;
+use phrase_reading::lexemes::Lexemes;
+use phrase_reading::stop::Stop;
+use phrase_reading::tall::Tall;
+use phrase_reading::{Word, lexeme};
+use signature_parser::joined::{Joined, alone, joined_more, joined_one, next_name};
+use signature_parser::names::{module_name, sees_module_name};
+use signature_parser::rounds::next_spec;
+use signature_parser::sig_exps::{sig, specs};
+use sml_trees::{At, FullFunctorBind, FullFunsigBind, FullParam, FullStrExp, Name};
 use std::alloc::Global;
 
 /// `strid : sigexp`, behind the name.
-#[tactic(auto, unfolding(crate::specs::Functors::named_param, crate::specs::Joined::alone))]
+#[tactic(auto, unfolding(crate::specs::Functors::named_param, signature_parser::specs::Joined::alone))]
 fn named_param(
     alloc: Global,
     lexemes: &mut Lexemes<'_>,
@@ -78,7 +77,7 @@ fn spec_param(
 }
 
 /// What a functor takes.
-#[tactic(auto, using(core_phrases::proofs::BindingSteps::if_taken_steps), unfolding(crate::specs::Functors::functor_param))]
+#[tactic(auto, using(phrase_reading::proofs::NameSteps::if_taken_steps), unfolding(crate::specs::Functors::functor_param))]
 fn functor_param(
     alloc: Global,
     lexemes: &mut Lexemes<'_>,
@@ -134,7 +133,7 @@ fn fun_bind(
 }
 
 /// Further functors, each behind its `and`.
-#[tactic(auto, using(crate::proofs::BoundSteps::bindings_steps))]
+#[tactic(auto, using(signature_parser::proofs::BoundSteps::bindings_steps))]
 fn fun_binds_from(
     alloc: Global,
     lexemes: &mut Lexemes<'_>,
@@ -152,7 +151,7 @@ fn fun_binds_from(
 }
 
 /// Functors.
-#[tactic(auto, unfolding(crate::specs::Joined::bindings))]
+#[tactic(auto, unfolding(signature_parser::specs::Joined::bindings))]
 pub fn fun_binds(
     alloc: Global,
     lexemes: &mut Lexemes<'_>,
@@ -168,7 +167,7 @@ pub fn fun_binds(
 }
 
 /// A signature of functors behind its name, over parts of so many levels.
-#[tactic(auto, unfolding(crate::specs::Functors::funsig_bind, crate::specs::Joined::alone))]
+#[tactic(auto, unfolding(crate::specs::Functors::funsig_bind, signature_parser::specs::Joined::alone))]
 fn funsig_bind(
     alloc: Global,
     lexemes: &mut Lexemes<'_>,
@@ -201,7 +200,7 @@ fn funsig_bind(
 }
 
 /// Further signatures of functors, each behind its `and`.
-#[tactic(auto, using(crate::proofs::BoundSteps::bindings_steps))]
+#[tactic(auto, using(signature_parser::proofs::BoundSteps::bindings_steps))]
 fn funsig_binds_from(
     alloc: Global,
     lexemes: &mut Lexemes<'_>,
@@ -219,7 +218,7 @@ fn funsig_binds_from(
 }
 
 /// Signatures of functors.
-#[tactic(auto, unfolding(crate::specs::Joined::bindings))]
+#[tactic(auto, unfolding(signature_parser::specs::Joined::bindings))]
 pub fn funsig_binds(
     alloc: Global,
     lexemes: &mut Lexemes<'_>,

@@ -2,27 +2,27 @@
 
 ghost use Rattle.std.specs.Prelude.{◌≡◌, ◌-◌, true, false, None, IfOk};
 ghost use Rattle.std.specs.Option.{option_copied};
-ghost use Rattle.grammars.specs.Grammar.{begins, head_or};
-ghost use Rattle.core_phrases.specs.Reads.{Reads};
-ghost use Rattle.core_phrases.specs.Words.{is};
-ghost use Rattle.module_parser.specs.SigLevels.{sig_level};
+ghost use Rattle.grammars.specs.Grammar.{head_or};
+ghost use Rattle.phrase_reading.specs.Reads.{Reads};
+ghost use Rattle.phrase_reading.specs.Words.{is};
+ghost use Rattle.signature_parser.specs.SigLevels.{sig_level};
 ghost use Rattle.module_parser.specs.Structures.{seal_behind, maybe_seal, is_seal, next_seal, sealed_tree, sealed_of, seal_of, seals};
+ghost use Rattle.signature_parser.specs.Joined.{joined_over};
 
-use crate::joined::{Joined, alone};
-use crate::sig_exps::sig;
 use cm_base::{Boxed, NoMemory};
-use core_phrases::binders::marked;
-use core_phrases::lexemes::Lexemes;
-use core_phrases::stop::Stop;
-use core_phrases::tall::Tall;
-use core_phrases::type_decs::above;
-use core_phrases::{Word, lexeme};
+use phrase_reading::binders::marked;
+use phrase_reading::lexemes::Lexemes;
+use phrase_reading::stop::Stop;
+use phrase_reading::tall::{Tall, both, boxed_first, one_above};
+use phrase_reading::{Word, lexeme};
+use signature_parser::joined::{Joined, alone};
+use signature_parser::sig_exps::sig;
 use sml_lexer::Lexeme;
-use sml_syntax::{At, FullSeal, FullSigExp, FullStrExp};
+use sml_trees::{At, FullSeal, FullSigExp, FullStrExp};
 use std::alloc::Global;
 
 /// The signature behind this mark.
-#[tactic(auto, unfolding(crate::specs::Structures::seal_behind, crate::specs::Joined::alone))]
+#[tactic(auto, unfolding(crate::specs::Structures::seal_behind, signature_parser::specs::Joined::alone))]
 fn seal_behind(
     alloc: Global,
     lexemes: &mut Lexemes<'_>,
@@ -86,20 +86,31 @@ fn next_seal<'a>(lexemes: &Lexemes<'a>, joined: bool) -> Option<&'a Lexeme>
 }
 
 /// A structure with its signature.
-fn sealed_tree(
+fn sealed_tree(opaque: bool, place: At, body: Boxed<FullStrExp>, sig: FullSigExp) -> FullStrExp
+    ensures { result ≡ sealed_tree opaque place body sig }
+{
+    if opaque {
+        FullStrExp::Opaque(body, sig, place)
+    } else {
+        FullStrExp::Transparent(body, sig, place)
+    }
+}
+
+/// The same, one level above both.
+fn sealed(
     alloc: Global,
     opaque: bool,
     place: At,
-    body: FullStrExp,
-    sig: FullSigExp,
-) -> Result<FullStrExp, NoMemory>
-    ensures { IfOk result (λ tree. tree ≡ sealed_tree opaque place body sig) }
+    body: Tall<FullStrExp>,
+    sig: Joined<FullSigExp>,
+) -> Result<Joined<FullStrExp>, NoMemory>
+    ensures { IfOk result (λ made. made ≡ joined_over (sealed_tree opaque place) body sig) }
 {
-    let body = Boxed::new(alloc, body)?;
-    if opaque {
-        return Ok(FullStrExp::Opaque(body, sig, place));
-    }
-    Ok(FullStrExp::Transparent(body, sig, place))
+    let Joined { made, joined } = sig;
+    let (body, sig) = boxed_first(alloc, body, made)?;
+    let height = body.height.max(sig.height);
+    let made = one_above(sealed_tree(opaque, place, body.tree, sig.tree), height)?;
+    Ok(Joined { made, joined })
 }
 
 /// A structure with the signature behind the mark, which may have so many levels.
@@ -115,18 +126,13 @@ fn sealed_of(
     ensures { Reads (sealed_of (sig_level levels).sig place left opaque) lexemes.old.rest.now
         result lexemes.new.rest.now }
 {
-    let Joined { made, joined } = sig(alloc, lexemes, levels)?;
-    Ok(Joined {
-        made: Tall {
-            height: above(left.height.max(made.height))?,
-            tree: sealed_tree(alloc, opaque, place, left.tree, made.tree)?,
-        },
-        joined,
-    })
+    let sig = sig(alloc, lexemes, levels);
+    let (left, sig) = both(left, sig)?;
+    Ok(sealed(alloc, opaque, place, left, sig)?)
 }
 
 /// Behind the mark: what stands before it becomes a part of a structure with so many levels.
-#[tactic(auto, using(crate::proofs::SigSteps::lower_steps), unfolding(crate::specs::Structures::seal_of))]
+#[tactic(auto, using(signature_parser::proofs::SigSteps::lower_steps), unfolding(crate::specs::Structures::seal_of))]
 fn seal_of(
     alloc: Global,
     lexemes: &mut Lexemes<'_>,

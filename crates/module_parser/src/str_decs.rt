@@ -3,28 +3,28 @@
 ghost use Rattle.std.specs.Prelude.{◌≡◌, ◌-◌, ◌<◌, None, Some, OnOk, take, length};
 ghost use Rattle.std.specs.Option.{option_copied};
 ghost use Rattle.grammars.specs.Grammar.{head_or};
-ghost use Rattle.core_phrases.specs.DecReads.{ReadsDecs, declared};
-ghost use Rattle.core_phrases.specs.Reads.{Reads};
-ghost use Rattle.core_phrases.specs.ReadsDec.{ReadsDec};
-ghost use Rattle.core_phrases.specs.Words.{word};
-ghost use Rattle.module_parser.specs.Joined.{bindings, bindings_from};
-ghost use Rattle.module_parser.specs.Rounds.{next_begin};
+ghost use Rattle.core_bindings.specs.Decs.{ReadsDecs, declared};
+ghost use Rattle.phrase_reading.specs.Reads.{Reads};
+ghost use Rattle.core_bindings.specs.Decs.{ReadsDec};
+ghost use Rattle.phrase_reading.specs.Words.{word};
+ghost use Rattle.signature_parser.specs.Joined.{bindings, bindings_from};
+ghost use Rattle.signature_parser.specs.Rounds.{next_begin};
 ghost use Rattle.module_parser.specs.StrLevels.{str_level, str_below};
-ghost use Rattle.module_parser.specs.Structures.{is_str_round, str_bind, structures, local_str, str_dec_word, str_dec_of, str_round, str_decs_from};
+ghost use Rattle.module_parser.specs.Structures.{is_str_round, str_bind, structures, local_str, core_dec, str_dec_word, str_dec_of, str_round};
 
-use crate::joined::{Joined, alone, joined_more, joined_one, next_name};
-use crate::names::module_name;
 use crate::str_exps::str_bind;
 use cm_base::List;
-use core_parser::decs::{dec, starts_dec_word};
-use core_phrases::fixity::Fixities;
-use core_phrases::lexemes::Lexemes;
-use core_phrases::stop::Stop;
-use core_phrases::tall::{Tall, more};
-use core_phrases::type_decs::above;
-use core_phrases::{Word, lexeme};
+use core_expressions::decs::dec;
+use expression_parts::exp_starts::starts_dec_word;
+use infix_names::fixity::Fixities;
+use phrase_reading::lexemes::Lexemes;
+use phrase_reading::stop::Stop;
+use phrase_reading::tall::{Tall, both, more, one_above};
+use phrase_reading::{Word, lexeme};
+use signature_parser::joined::{Joined, alone, joined_more, joined_one, next_name};
+use signature_parser::names::module_name;
 use sml_lexer::Lexeme;
-use sml_syntax::{At, FullDec, FullStrBind};
+use sml_trees::{At, FullStrBind, FullStrDec};
 use std::alloc::Global;
 
 /// Whether a declaration in a structure begins with this word, or it is a semicolon.
@@ -50,7 +50,7 @@ fn next_str_dec<'a>(lexemes: &Lexemes<'a>) -> Option<&'a Lexeme>
 
 /// Further structures that are bound, each behind its `and`.
 #[cycle(strs)]
-#[tactic(auto, using(crate::proofs::BoundSteps::bindings_steps))]
+#[tactic(auto, using(signature_parser::proofs::BoundSteps::bindings_steps))]
 fn str_binds_from(
     alloc: Global,
     lexemes: &mut Lexemes<'_>,
@@ -72,7 +72,7 @@ fn str_binds_from(
 
 /// Structures that are bound.
 #[cycle(strs)]
-#[tactic(auto, unfolding(crate::specs::Joined::bindings))]
+#[tactic(auto, unfolding(signature_parser::specs::Joined::bindings))]
 pub fn str_binds(
     alloc: Global,
     lexemes: &mut Lexemes<'_>,
@@ -99,55 +99,70 @@ fn structures(
     fixities: &mut Fixities,
     levels: u32,
     place: At,
-) -> Result<Tall<FullDec>, Stop>
+) -> Result<Tall<FullStrDec>, Stop>
     ensures same { OnOk result (fixities.new ≡ fixities.old) }
     ensures reads { Reads (structures levels (str_level levels) fixities.old place) lexemes.old.rest.now
         result lexemes.new.rest.now }
 {
     let found = str_binds(alloc, lexemes, fixities, levels)?;
-    Ok(Tall {
-        height: above(found.height)?,
-        tree: FullDec::Structures(found.tree, place),
-    })
+    Ok(one_above(FullStrDec::Structures(found.tree, place), found.height)?)
 }
 
 /// `local strdec in strdec end`
 #[cycle(strs)]
-#[tactic(auto, using(core_phrases::proofs::Kept::kept_steps), unfolding(crate::specs::Structures::local_str))]
+#[tactic(auto, using(infix_names::proofs::Kept::kept_steps), unfolding(crate::specs::Structures::local_str))]
 fn local_str(
     alloc: Global,
     lexemes: &mut Lexemes<'_>,
     fixities: &mut Fixities,
     levels: u32,
     place: At,
-) -> Result<Tall<FullDec>, Stop>
+) -> Result<Tall<FullStrDec>, Stop>
     ensures kept { OnOk result (take (length fixities.old) fixities.new ≡ fixities.old) }
     ensures reads { ReadsDec (local_str (str_level levels) fixities.old place) lexemes.old.rest.now
         result fixities.new lexemes.new.rest.now }
 {
     let start = fixities.len();
     let hidden = str_decs(alloc, lexemes, fixities, levels)?;
-    lexemes.expect(Word::In)?;
+    let (hidden, ()) = both(hidden, lexemes.expect(Word::In))?;
     let kept = fixities.len();
     let shown = str_decs(alloc, lexemes, fixities, levels)?;
-    lexemes.expect(Word::End)?;
+    let ((hidden, shown), ()) = both((hidden, shown), lexemes.expect(Word::End))?;
     fixities.keep(start, kept);
+    let height = hidden.height.max(shown.height);
+    Ok(one_above(FullStrDec::Local(hidden.tree, shown.tree, place), height)?)
+}
+
+/// A declaration of the core behind its first word.
+#[tactic(auto, unfolding(crate::specs::Structures::core_dec))]
+fn core_dec(
+    alloc: Global,
+    lexemes: &mut Lexemes<'_>,
+    fixities: &mut Fixities,
+    levels: u32,
+    first: &Lexeme,
+) -> Result<Tall<FullStrDec>, Stop>
+    ensures kept { OnOk result (take (length fixities.old) fixities.new ≡ fixities.old) }
+    ensures reads { ReadsDec (core_dec levels fixities.old first.now) lexemes.old.rest.now
+        result fixities.new lexemes.new.rest.now }
+{
+    let found = dec(alloc, lexemes, fixities, levels, first)?;
     Ok(Tall {
-        height: above(hidden.height.max(shown.height))?,
-        tree: FullDec::Local(hidden.tree, shown.tree, place),
+        tree: FullStrDec::Core(found.tree),
+        height: found.height,
     })
 }
 
 /// A declaration behind its first word, which opened one of its levels.
 #[cycle(strs)]
-#[tactic(auto, using(core_phrases::proofs::Kept::kept_steps), unfolding(core_parser::specs::Declarations::plain))]
+#[tactic(auto, using(infix_names::proofs::Kept::kept_steps), unfolding(core_bindings::specs::Decs::plain))]
 fn str_dec_word(
     alloc: Global,
     lexemes: &mut Lexemes<'_>,
     fixities: &mut Fixities,
     levels: u32,
     first: &Lexeme,
-) -> Result<Tall<FullDec>, Stop>
+) -> Result<Tall<FullStrDec>, Stop>
     requires { 0 < levels }
     ensures kept { OnOk result (take (length fixities.old) fixities.new ≡ fixities.old) }
     ensures reads { ReadsDec (str_dec_word levels (str_level (levels - 1)) fixities.old first.now (word first.now))
@@ -157,7 +172,7 @@ fn str_dec_word(
     match lexeme::word(first) {
         Some(Word::Structure) => structures(alloc, lexemes, fixities, levels - 1, place),
         Some(Word::Local) => local_str(alloc, lexemes, fixities, levels - 1, place),
-        _ => dec(alloc, lexemes, fixities, levels, first),
+        _ => core_dec(alloc, lexemes, fixities, levels, first),
     }
 }
 
@@ -170,7 +185,7 @@ fn str_dec(
     fixities: &mut Fixities,
     levels: u32,
     first: &Lexeme,
-) -> Result<Tall<FullDec>, Stop>
+) -> Result<Tall<FullStrDec>, Stop>
     ensures kept { OnOk result (take (length fixities.old) fixities.new ≡ fixities.old) }
     ensures reads { ReadsDec (str_dec_of levels (str_below levels) fixities.old first.now)
         lexemes.old.rest.now result fixities.new lexemes.new.rest.now }
@@ -183,15 +198,15 @@ fn str_dec(
 
 /// One more declaration behind its first word, or nothing behind a semicolon.
 #[cycle(strs)]
-#[tactic(auto, using(core_phrases::proofs::Kept::kept_steps), unfolding(crate::specs::Structures::next_str_dec))]
+#[tactic(auto, using(infix_names::proofs::Kept::kept_steps), unfolding(crate::specs::Structures::next_str_dec))]
 fn str_round(
     alloc: Global,
     lexemes: &mut Lexemes<'_>,
     fixities: &mut Fixities,
     levels: u32,
-    found: Tall<List<FullDec>>,
+    found: Tall<List<FullStrDec>>,
     first: &Lexeme,
-) -> Result<Tall<List<FullDec>>, Stop>
+) -> Result<Tall<List<FullStrDec>>, Stop>
     ensures kept { OnOk result (take (length fixities.old) fixities.new ≡ fixities.old) }
     ensures reads { ReadsDecs (str_round levels (str_below levels) (declared found fixities.old) first.now)
         lexemes.old.rest.now result fixities.new lexemes.new.rest.now }
@@ -211,7 +226,7 @@ pub fn str_decs(
     lexemes: &mut Lexemes<'_>,
     fixities: &mut Fixities,
     levels: u32,
-) -> Result<Tall<List<FullDec>>, Stop>
+) -> Result<Tall<List<FullStrDec>>, Stop>
     ensures kept { OnOk result (take (length fixities.old) fixities.new ≡ fixities.old) }
     ensures reads { ReadsDecs ((str_level levels).decs fixities.old) lexemes.old.rest.now
         result fixities.new lexemes.new.rest.now }

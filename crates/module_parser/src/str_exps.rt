@@ -1,30 +1,30 @@
 //! Structure expressions, read by recursive descent.
 
-ghost use Rattle.std.specs.Prelude.{◌≡◌, ◌-◌, ◌<◌, None, Some, true, false, OnOk, IfOk, MatchResult, drop, is_some, take, length};
+ghost use Rattle.std.specs.Prelude.{◌≡◌, ◌-◌, ◌<◌, None, Some, OnOk};
 ghost use Rattle.std.specs.Option.{option_copied};
 ghost use Rattle.grammars.specs.Grammar.{begins, head_or};
-ghost use Rattle.core_phrases.specs.Bindings.{strid_of};
-ghost use Rattle.core_phrases.specs.Reads.{Reads};
-ghost use Rattle.core_phrases.specs.Words.{is, at, made, named};
-ghost use Rattle.module_parser.specs.Joined.{module_name_of};
+ghost use Rattle.phrase_reading.specs.Names.{strid_of};
+ghost use Rattle.phrase_reading.specs.Reads.{Reads};
+ghost use Rattle.phrase_reading.specs.Words.{is, at, made};
+ghost use Rattle.signature_parser.specs.Joined.{module_name_of};
 ghost use Rattle.module_parser.specs.StrLevels.{str_level};
 ghost use Rattle.module_parser.specs.Structures.{starts_str, str, str_bind, struct_str, let_str, of_str, of_decs, argument, str_name, str_named, str_atom, str_within, next_str};
+ghost use Rattle.signature_parser.specs.Joined.{alone};
 
-use crate::joined::{Joined, alone, apart};
-use crate::names::module_name_of;
 use crate::seals::{maybe_seal, seals};
 use crate::str_decs::str_decs;
-use cm_base::{Boxed, List, Text};
-use core_phrases::binders::single;
-use core_phrases::fixity::Fixities;
-use core_phrases::infix_decs::{is_strid, strid_of};
-use core_phrases::lexemes::Lexemes;
-use core_phrases::stop::Stop;
-use core_phrases::tall::Tall;
-use core_phrases::type_decs::above;
-use core_phrases::{Word, lexeme};
+use cm_base::{List, Text};
+use core_bindings::infix_decs::{is_strid, strid_of};
+use infix_names::fixity::Fixities;
+use phrase_reading::binders::single;
+use phrase_reading::lexemes::Lexemes;
+use phrase_reading::stop::Stop;
+use phrase_reading::tall::{Tall, both, boxed, boxed_first, one_above};
+use phrase_reading::{Word, lexeme};
+use signature_parser::joined::{Joined, alone, apart};
+use signature_parser::names::module_name_of;
 use sml_lexer::Lexeme;
-use sml_syntax::{At, FullStrBind, FullStrExp, LongName, Name};
+use sml_trees::{At, FullStrBind, FullStrExp, LongName, Name};
 use std::alloc::Global;
 
 /// Whether a structure expression begins with the lexeme.
@@ -156,7 +156,7 @@ fn long_named(lexemes: &Lexemes<'_>, first: &Lexeme) -> Result<Tall<FullStrExp>,
 
 /// A name without structures before it: that of a functor where a parenthesis stands behind it, else of a structure.
 #[cycle(strs)]
-#[tactic(auto, using(core_phrases::proofs::BindingSteps::mark_steps))]
+#[tactic(auto, using(phrase_reading::proofs::NameSteps::mark_steps))]
 fn short_named(
     alloc: Global,
     lexemes: &mut Lexemes<'_>,
@@ -205,7 +205,7 @@ fn argument(
 
 /// `funid ( strexp )`, behind the first lexeme of the argument.
 #[cycle(strs)]
-#[tactic(auto, unfolding(crate::specs::Structures::of_str, crate::specs::Joined::alone))]
+#[tactic(auto, unfolding(crate::specs::Structures::of_str, signature_parser::specs::Joined::alone))]
 fn of_str(
     alloc: Global,
     lexemes: &mut Lexemes<'_>,
@@ -221,11 +221,9 @@ fn of_str(
 {
     let whole = str_after(alloc, lexemes, fixities, levels, first)?;
     let found = alone(lexemes, whole)?;
-    lexemes.expect(Word::Close)?;
-    Ok(Tall {
-        height: above(found.height)?,
-        tree: FullStrExp::Functor(name, Boxed::new(alloc, found.tree)?, place),
-    })
+    let (found, ()) = both(found, lexemes.expect(Word::Close))?;
+    let found = boxed(alloc, found)?;
+    Ok(one_above(FullStrExp::Functor(name, found.tree, place), found.height)?)
 }
 
 /// `funid ( strdec )`, behind the parenthesis.
@@ -245,12 +243,12 @@ fn of_decs(
 {
     let start = fixities.len();
     let inner = str_decs(alloc, lexemes, fixities, levels)?;
-    lexemes.expect(Word::Close)?;
+    let (inner, ()) = both(inner, lexemes.expect(Word::Close))?;
     fixities.truncate(start);
-    Ok(Tall {
-        height: above(inner.height)?,
-        tree: FullStrExp::FunctorOfDecs(name, inner.tree, place),
-    })
+    Ok(one_above(
+        FullStrExp::FunctorOfDecs(name, inner.tree, place),
+        inner.height,
+    )?)
 }
 
 /// `struct strdec end`, behind `struct`.
@@ -269,17 +267,31 @@ fn struct_str(
 {
     let start = fixities.len();
     let inner = str_decs(alloc, lexemes, fixities, levels)?;
-    lexemes.expect(Word::End)?;
+    let (inner, ()) = both(inner, lexemes.expect(Word::End))?;
     fixities.truncate(start);
-    Ok(Tall {
-        height: above(inner.height)?,
-        tree: FullStrExp::Struct(inner.tree, place),
-    })
+    Ok(one_above(FullStrExp::Struct(inner.tree, place), inner.height)?)
+}
+
+/// A structure expression behind which no `and` was taken.
+#[cycle(strs)]
+#[tactic(auto, unfolding(signature_parser::specs::Joined::alone))]
+fn lone_str(
+    alloc: Global,
+    lexemes: &mut Lexemes<'_>,
+    fixities: &mut Fixities,
+    levels: u32,
+) -> Result<Tall<FullStrExp>, Stop>
+    ensures same { OnOk result (fixities.new ≡ fixities.old) }
+    ensures reads { Reads (alone (str (str_level levels) fixities.old)) lexemes.old.rest.now
+        result lexemes.new.rest.now }
+{
+    let whole = str_exp(alloc, lexemes, fixities, levels)?;
+    alone(lexemes, whole)
 }
 
 /// `let strdec in strexp end`, behind `let`.
 #[cycle(strs)]
-#[tactic(auto, unfolding(crate::specs::Structures::let_str, crate::specs::Joined::alone))]
+#[tactic(auto, unfolding(crate::specs::Structures::let_str))]
 fn let_str(
     alloc: Global,
     lexemes: &mut Lexemes<'_>,
@@ -293,15 +305,13 @@ fn let_str(
 {
     let start = fixities.len();
     let inner = str_decs(alloc, lexemes, fixities, levels)?;
-    lexemes.expect(Word::In)?;
-    let whole = str_exp(alloc, lexemes, fixities, levels)?;
-    let body = alone(lexemes, whole)?;
-    lexemes.expect(Word::End)?;
+    let (inner, ()) = both(inner, lexemes.expect(Word::In))?;
+    let body = lone_str(alloc, lexemes, fixities, levels)?;
+    let ((inner, body), ()) = both((inner, body), lexemes.expect(Word::End))?;
     fixities.truncate(start);
-    Ok(Tall {
-        height: above(inner.height.max(body.height))?,
-        tree: FullStrExp::Within(inner.tree, Boxed::new(alloc, body.tree)?, place),
-    })
+    let (body, inner) = boxed_first(alloc, body, inner)?;
+    let height = inner.height.max(body.height);
+    Ok(one_above(FullStrExp::Within(inner.tree, body.tree, place), height)?)
 }
 
 /// `strid [ : sigexp | :> sigexp ] = strexp`, behind the name, over parts of so many levels.
@@ -319,8 +329,10 @@ pub fn str_bind(
         result lexemes.new.rest.now }
 {
     let seal = maybe_seal(alloc, lexemes, levels)?;
-    lexemes.expect(Word::Equals)?;
-    let Joined { made, joined } = str_exp(alloc, lexemes, fixities, levels)?;
+    let (seal, ()) = both(seal, lexemes.expect(Word::Equals))?;
+    let body = str_exp(alloc, lexemes, fixities, levels);
+    let (seal, body) = both(seal, body)?;
+    let Joined { made, joined } = body;
     let Tall { tree, height } = made;
     Ok(Joined {
         made: Tall {

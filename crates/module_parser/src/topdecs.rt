@@ -3,22 +3,21 @@
 ghost use Rattle.std.specs.Prelude.{◌≡◌, None, Some};
 ghost use Rattle.std.specs.Option.{option_copied};
 ghost use Rattle.grammars.specs.Grammar.{head_or};
-ghost use Rattle.core_phrases.specs.Reads.{Reads};
-ghost use Rattle.module_parser.specs.Rounds.{next_begin};
+ghost use Rattle.phrase_reading.specs.Reads.{Reads};
+ghost use Rattle.signature_parser.specs.Rounds.{next_begin};
 ghost use Rattle.module_parser.specs.Units.{starts_top, top_structures, top_signatures, top_functors, top_funsigs, top_word, semicolon, top_round, topdecs_from, topdecs};
 
 use crate::functors::{fun_binds, funsig_binds};
-use crate::sig_exps::sig_binds;
 use crate::str_decs::str_binds;
 use cm_base::List;
-use core_phrases::fixity::Fixities;
-use core_phrases::lexemes::Lexemes;
-use core_phrases::stop::Stop;
-use core_phrases::tall::{Tall, more};
-use core_phrases::type_decs::above;
-use core_phrases::{Word, lexeme};
+use infix_names::fixity::Fixities;
+use phrase_reading::lexemes::Lexemes;
+use phrase_reading::stop::Stop;
+use phrase_reading::tall::{Tall, more, one_above};
+use phrase_reading::{Word, lexeme};
+use signature_parser::sig_exps::sig_binds;
 use sml_lexer::Lexeme;
-use sml_syntax::{At, FullTopDec};
+use sml_trees::{At, FullTopDec};
 use std::alloc::Global;
 
 /// How many levels are left for what stands in a declaration of the top level.
@@ -59,10 +58,7 @@ fn top_structures(
 {
     let mut fixities = Fixities::initial(alloc)?;
     let found = str_binds(alloc, lexemes, &mut fixities, levels)?;
-    Ok(Tall {
-        height: above(found.height)?,
-        tree: FullTopDec::Structures(found.tree, place),
-    })
+    Ok(one_above(FullTopDec::Structures(found.tree, place), found.height)?)
 }
 
 /// `signature sigid = sigexp and ..`
@@ -76,10 +72,7 @@ fn top_signatures(
     ensures { Reads (top_signatures levels place) lexemes.old.rest.now result lexemes.new.rest.now }
 {
     let found = sig_binds(alloc, lexemes, levels, Word::Equals)?;
-    Ok(Tall {
-        height: above(found.height)?,
-        tree: FullTopDec::Signatures(found.tree, place),
-    })
+    Ok(one_above(FullTopDec::Signatures(found.tree, place), found.height)?)
 }
 
 /// `functor funbind and ..`
@@ -93,10 +86,7 @@ fn top_functors(
     ensures { Reads (top_functors levels place) lexemes.old.rest.now result lexemes.new.rest.now }
 {
     let found = fun_binds(alloc, lexemes, levels)?;
-    Ok(Tall {
-        height: above(found.height)?,
-        tree: FullTopDec::Functors(found.tree, place),
-    })
+    Ok(one_above(FullTopDec::Functors(found.tree, place), found.height)?)
 }
 
 /// `funsig funid ( strid : sigexp ) = sigexp and ..`
@@ -110,10 +100,7 @@ fn top_funsigs(
     ensures { Reads (top_funsigs levels place) lexemes.old.rest.now result lexemes.new.rest.now }
 {
     let found = funsig_binds(alloc, lexemes, levels)?;
-    Ok(Tall {
-        height: above(found.height)?,
-        tree: FullTopDec::Funsigs(found.tree, place),
-    })
+    Ok(one_above(FullTopDec::Funsigs(found.tree, place), found.height)?)
 }
 
 /// A declaration of the top level behind its first word, over parts of so many levels.

@@ -2,19 +2,19 @@
 
 ghost use Rattle.std.specs.Prelude.{◌≡◌, None, Some, IfOk};
 ghost use Rattle.std.specs.Option.{option_copied};
-ghost use Rattle.core_parser.specs.Answers.{place_of, refusal};
-ghost use Rattle.core_phrases.specs.Reads.{Reads};
+ghost use Rattle.core_parser.specs.Answers.{refusal};
+ghost use Rattle.phrase_reading.specs.Reads.{Reads};
 ghost use Rattle.module_parser.specs.Answers.{AnswersUnit, AnswersLexemes, refused, StopsWith};
-ghost use Rattle.module_parser.specs.Units.{topdecs, top_number, top_refusal};
+ghost use Rattle.module_parser.specs.Units.{topdecs, top_refusal};
 
 use crate::topdecs::topdecs;
 use cm_base::{Diag, Fault, List, NoMemory, Place, Text};
-use core_parser::decs::starts_dec_word;
-use core_phrases::lexeme;
-use core_phrases::lexemes::Lexemes;
-use core_phrases::stop::Stop;
+use expression_parts::exp_starts::starts_dec_word;
+use phrase_reading::lexeme;
+use phrase_reading::lexemes::Lexemes;
+use phrase_reading::stop::Stop;
 use sml_lexer::{Lexeme, lex};
-use sml_syntax::FullUnit;
+use sml_trees::FullUnit;
 use std::alloc::Global;
 
 /// The number of a declaration of the core at the top level.

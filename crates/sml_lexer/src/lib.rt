@@ -15,6 +15,3 @@ mod quoted;
 
 pub use lexeme::{Lexeme, LexemeKind};
 pub use lexing::lex;
-
-#[cfg(test)]
-mod tests;

@@ -3,32 +3,32 @@ use Rattle.std.proofs.Common.{◌≡◌, ℕ, List, [], ◌∷◌, ◌++◌, ref
 use Rattle.std.specs.List.{flat_map}
 use Rattle.cm_bytes.specs.Fields.{u32_of, list_of}
 use Rattle.sml_syntax.specs.Code.{parts, name_of, long_of, ty_of, ty_field_of, ty_level, ty_field_level, pat_of, pat_field_of, pat_level, pat_field_level, spec_of, sig_bind_of, sig_level, spec_level, sig_bind_level, exp_of, exp_field_of, rule_of, dec_of, str_bind_of, exp_level, exp_field_level, rule_level, dec_level, str_level, str_bind_level}
-use Rattle.sml_syntax.specs.declared.name.At.{At}
-use Rattle.sml_syntax.specs.declared.name.LongName.{LongName}
-use Rattle.sml_syntax.specs.declared.ty.Ty.{Ty}
-use Rattle.sml_syntax.specs.declared.ty.Ty.TheOpen.{Ty-F}
-use Rattle.sml_syntax.specs.declared.ty.Ty.TheFolds.{fold-roll-Ty}
-use Rattle.sml_syntax.specs.declared.ty.Ty.TheVariants as ty
-use Rattle.sml_syntax.specs.declared.ty.TyField.{TyField}
-use Rattle.sml_syntax.specs.declared.name.Name.{Name}
-use Rattle.sml_syntax.specs.declared.pat.Pat.TheOpen.{Pat-F}
-use Rattle.sml_syntax.specs.declared.pat.Pat.TheFolds.{fold-roll-Pat}
-use Rattle.sml_syntax.specs.declared.pat.Pat.TheVariants as pat
-use Rattle.sml_syntax.specs.declared.pat.PatField.{PatField}
-use Rattle.sml_syntax.specs.declared.sig_exp.SigExp.TheOpen.{Spec-F}
-use Rattle.sml_syntax.specs.declared.sig_exp.SigExp.TheFolds.{fold-roll-Spec}
-use Rattle.sml_syntax.specs.declared.sig_exp.Spec.{Spec}
-use Rattle.sml_syntax.specs.declared.sig_exp.Spec.TheVariants as spec
-use Rattle.sml_syntax.specs.declared.sig_exp.SigBind.{SigBind}
-use Rattle.sml_syntax.specs.declared.exp.Dec.{Dec}
-use Rattle.sml_syntax.specs.declared.exp.Dec.TheOpen.{Dec-F, Exp-F}
-use Rattle.sml_syntax.specs.declared.exp.Dec.TheFolds.{fold-roll-Dec, fold-roll-Exp}
-use Rattle.sml_syntax.specs.declared.exp.Dec.TheVariants as dec
-use Rattle.sml_syntax.specs.declared.exp.Exp.{Exp}
-use Rattle.sml_syntax.specs.declared.exp.Exp.TheVariants as exp
-use Rattle.sml_syntax.specs.declared.exp.ExpField.{ExpField}
-use Rattle.sml_syntax.specs.declared.exp.Rule.{Rule}
-use Rattle.sml_syntax.specs.declared.exp.StrBind.{StrBind}
+use Rattle.sml_trees.specs.declared.name.At.{At}
+use Rattle.sml_trees.specs.declared.name.LongName.{LongName}
+use Rattle.sml_trees.specs.declared.ty.Ty.{Ty}
+use Rattle.sml_trees.specs.declared.ty.Ty.TheOpen.{Ty-F}
+use Rattle.sml_trees.specs.declared.ty.Ty.TheFolds.{fold-roll-Ty}
+use Rattle.sml_trees.specs.declared.ty.Ty.TheVariants as ty
+use Rattle.sml_trees.specs.declared.ty.TyField.{TyField}
+use Rattle.sml_trees.specs.declared.name.Name.{Name}
+use Rattle.sml_trees.specs.declared.pat.Pat.TheOpen.{Pat-F}
+use Rattle.sml_trees.specs.declared.pat.Pat.TheFolds.{fold-roll-Pat}
+use Rattle.sml_trees.specs.declared.pat.Pat.TheVariants as pat
+use Rattle.sml_trees.specs.declared.pat.PatField.{PatField}
+use Rattle.sml_trees.specs.declared.sig_exp.SigExp.TheOpen.{Spec-F}
+use Rattle.sml_trees.specs.declared.sig_exp.SigExp.TheFolds.{fold-roll-Spec}
+use Rattle.sml_trees.specs.declared.sig_exp.Spec.{Spec}
+use Rattle.sml_trees.specs.declared.sig_exp.Spec.TheVariants as spec
+use Rattle.sml_trees.specs.declared.sig_exp.SigBind.{SigBind}
+use Rattle.sml_trees.specs.declared.exp.Dec.{Dec}
+use Rattle.sml_trees.specs.declared.exp.Dec.TheOpen.{Dec-F, Exp-F}
+use Rattle.sml_trees.specs.declared.exp.Dec.TheFolds.{fold-roll-Dec, fold-roll-Exp}
+use Rattle.sml_trees.specs.declared.exp.Dec.TheVariants as dec
+use Rattle.sml_trees.specs.declared.exp.Exp.{Exp}
+use Rattle.sml_trees.specs.declared.exp.Exp.TheVariants as exp
+use Rattle.sml_trees.specs.declared.exp.ExpField.{ExpField}
+use Rattle.sml_trees.specs.declared.exp.Rule.{Rule}
+use Rattle.sml_trees.specs.declared.exp.StrBind.{StrBind}
 
 -- parts that are the spellings of the items of a list are the list's spelling
 pub parts_map : {A : Type 0} (item_of : A → List ℕ) (xs : List A) → parts (map item_of xs) ≡ list_of item_of xs

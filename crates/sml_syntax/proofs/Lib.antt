@@ -1,7 +1,7 @@
-mod Exact
+pub mod Exact
 mod Integers
 mod Level
-mod Marks
+pub mod Marks
 mod Places
 mod PlacesSig
 mod PlacesUnit
@@ -11,4 +11,4 @@ mod ReadPat
 mod ReadSig
 mod ReadSteps
 mod ReadTy
-mod ReadUnit
+pub mod ReadUnit

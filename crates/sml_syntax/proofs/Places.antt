@@ -4,20 +4,20 @@ use Rattle.cm_bytes.specs.Fields.{list_of}
 use Rattle.sml_syntax.specs.Code.{parts, option_of, name_of, long_of, ty_of, ty_field_of, ty_level, ty_field_level, typ_bind_of, con_bind_of, dat_bind_of, ex_body_of, ex_bind_of, val_desc_of, typ_desc_of}
 use Rattle.sml_syntax.specs.Places.{unplaced_name, unplaced_long, ty_unplaced, ty_field_unplaced, unplaced_ty, unplaced_ty_field, unplaced_typ_bind, unplaced_con_bind, unplaced_dat_bind, unplaced_ex_body, unplaced_ex_bind, unplaced_val_desc, unplaced_typ_desc}
 use Rattle.sml_syntax.proofs.Level.{parts_map}
-use Rattle.sml_syntax.specs.declared.name.Name.{Name}
-use Rattle.sml_syntax.specs.declared.name.LongName.{LongName}
-use Rattle.sml_syntax.specs.declared.ty.Ty.{Ty, roll-Ty}
-use Rattle.sml_syntax.specs.declared.ty.TyField.{TyField, roll-TyField}
-use Rattle.sml_syntax.specs.declared.ty.Ty.TheOpen.{Ty-F, TyField-F}
-use Rattle.sml_syntax.specs.declared.ty.Ty.TheFolds.{map-Ty, map-TyField, fold-roll-Ty, fold-roll-TyField, ind-Ty, ind-TyField}
-use Rattle.sml_syntax.specs.declared.ty.TypBind.{TypBind}
-use Rattle.sml_syntax.specs.declared.ty.ConBind.{ConBind}
-use Rattle.sml_syntax.specs.declared.ty.DatBind.{DatBind}
-use Rattle.sml_syntax.specs.declared.ty.ExBind.{ExBind}
-use Rattle.sml_syntax.specs.declared.ty.ValDesc.{ValDesc}
-use Rattle.sml_syntax.specs.declared.ty.TypDesc.{TypDesc}
-use Rattle.sml_syntax.specs.declared.ty.ExBody.{ExBody}
-use Rattle.sml_syntax.specs.declared.ty.ExBody.TheVariants as exn
+use Rattle.sml_trees.specs.declared.name.Name.{Name}
+use Rattle.sml_trees.specs.declared.name.LongName.{LongName}
+use Rattle.sml_trees.specs.declared.ty.Ty.{Ty, roll-Ty}
+use Rattle.sml_trees.specs.declared.ty.TyField.{TyField, roll-TyField}
+use Rattle.sml_trees.specs.declared.ty.Ty.TheOpen.{Ty-F, TyField-F}
+use Rattle.sml_trees.specs.declared.ty.Ty.TheFolds.{map-Ty, map-TyField, fold-roll-Ty, fold-roll-TyField, ind-Ty, ind-TyField}
+use Rattle.sml_trees.specs.declared.ty.TypBind.{TypBind}
+use Rattle.sml_trees.specs.declared.ty.ConBind.{ConBind}
+use Rattle.sml_trees.specs.declared.ty.DatBind.{DatBind}
+use Rattle.sml_trees.specs.declared.ty.ExBind.{ExBind}
+use Rattle.sml_trees.specs.declared.ty.ValDesc.{ValDesc}
+use Rattle.sml_trees.specs.declared.ty.TypDesc.{TypDesc}
+use Rattle.sml_trees.specs.declared.ty.ExBody.{ExBody}
+use Rattle.sml_trees.specs.declared.ty.ExBody.TheVariants as exn
 
 pub ap₃ : {A B C D : Type 0} (f : A → B → C → D) {a a' : A} {b b' : B} {c c' : C} → a ≡ a' → b ≡ b' → c ≡ c'
     → f a b c ≡ f a' b' c'

@@ -4,15 +4,15 @@ use Rattle.cm_bytes.specs.Fields.{list_of}
 use Rattle.sml_syntax.specs.Code.{parts, option_of, name_of, long_of, int_of, ty_of, typ_desc_of, con_bind_of, dat_bind_of, val_desc_of, pat_of, pat_field_of, pat_level, pat_field_level, sig_of, spec_of, sig_bind_of, sig_level, spec_level, sig_bind_level}
 use Rattle.sml_syntax.specs.Places.{unplaced_name, unplaced_ty, unplaced_con_bind, unplaced_dat_bind, unplaced_val_desc, unplaced_typ_desc, pat_unplaced, pat_field_unplaced, unplaced_pat, unplaced_pat_field, sig_unplaced, spec_unplaced, sig_bind_unplaced, unplaced_sig, unplaced_spec, unplaced_sig_bind}
 use Rattle.sml_syntax.proofs.Places.{ap₃, list_same, held_same, option_same, names_same, ty_same, con_bind_same, dat_bind_same, val_desc_same, typ_desc_same}
-use Rattle.sml_syntax.specs.declared.pat.Pat.{Pat, roll-Pat}
-use Rattle.sml_syntax.specs.declared.pat.PatField.{PatField, roll-PatField}
-use Rattle.sml_syntax.specs.declared.pat.Pat.TheOpen.{Pat-F, PatField-F}
-use Rattle.sml_syntax.specs.declared.pat.Pat.TheFolds.{map-Pat, map-PatField, fold-roll-Pat, fold-roll-PatField, ind-Pat, ind-PatField}
-use Rattle.sml_syntax.specs.declared.sig_exp.SigExp.{SigExp, roll-SigExp}
-use Rattle.sml_syntax.specs.declared.sig_exp.Spec.{Spec, roll-Spec}
-use Rattle.sml_syntax.specs.declared.sig_exp.SigBind.{SigBind, roll-SigBind}
-use Rattle.sml_syntax.specs.declared.sig_exp.SigExp.TheOpen.{SigExp-F, Spec-F, SigBind-F}
-use Rattle.sml_syntax.specs.declared.sig_exp.SigExp.TheFolds.{map-SigExp, map-Spec, map-SigBind, fold-roll-SigExp, fold-roll-Spec, fold-roll-SigBind, ind-SigExp, ind-Spec, ind-SigBind}
+use Rattle.sml_trees.specs.declared.pat.Pat.{Pat, roll-Pat}
+use Rattle.sml_trees.specs.declared.pat.PatField.{PatField, roll-PatField}
+use Rattle.sml_trees.specs.declared.pat.Pat.TheOpen.{Pat-F, PatField-F}
+use Rattle.sml_trees.specs.declared.pat.Pat.TheFolds.{map-Pat, map-PatField, fold-roll-Pat, fold-roll-PatField, ind-Pat, ind-PatField}
+use Rattle.sml_trees.specs.declared.sig_exp.SigExp.{SigExp, roll-SigExp}
+use Rattle.sml_trees.specs.declared.sig_exp.Spec.{Spec, roll-Spec}
+use Rattle.sml_trees.specs.declared.sig_exp.SigBind.{SigBind, roll-SigBind}
+use Rattle.sml_trees.specs.declared.sig_exp.SigExp.TheOpen.{SigExp-F, Spec-F, SigBind-F}
+use Rattle.sml_trees.specs.declared.sig_exp.SigExp.TheFolds.{map-SigExp, map-Spec, map-SigBind, fold-roll-SigExp, fold-roll-Spec, fold-roll-SigBind, ind-SigExp, ind-Spec, ind-SigBind}
 
 -- ---- patterns
 

@@ -6,19 +6,19 @@ use Rattle.sml_syntax.specs.Places.{unplaced_name, unplaced_ty, unplaced_typ_bin
 use Rattle.sml_syntax.specs.PlacesUnit.{exp_unplaced, exp_field_unplaced, rule_unplaced, dec_unplaced, str_unplaced, str_bind_unplaced, unplaced_exp, unplaced_exp_field, unplaced_rule, unplaced_dec, unplaced_str, unplaced_str_bind, unplaced_fun_bind, unplaced_funsig_bind, unplaced_topdec, unplaced}
 use Rattle.sml_syntax.proofs.Places.{ap₃, list_same, held_same, names_same, longs_same, ty_same, typ_bind_same, dat_bind_same, ex_bind_same}
 use Rattle.sml_syntax.proofs.PlacesSig.{pat_same, sig_same, sig_bind_same}
-use Rattle.sml_syntax.specs.declared.exp.Dec.{Dec, roll-Dec}
-use Rattle.sml_syntax.specs.declared.exp.Exp.{Exp, roll-Exp}
-use Rattle.sml_syntax.specs.declared.exp.StrExp.{StrExp, roll-StrExp}
-use Rattle.sml_syntax.specs.declared.exp.ExpField.{ExpField, roll-ExpField}
-use Rattle.sml_syntax.specs.declared.exp.Rule.{Rule, roll-Rule}
-use Rattle.sml_syntax.specs.declared.exp.StrBind.{StrBind, roll-StrBind}
-use Rattle.sml_syntax.specs.declared.exp.Dec.TheOpen.{Dec-F, Exp-F, StrExp-F, ExpField-F, Rule-F, StrBind-F}
-use Rattle.sml_syntax.specs.declared.exp.Dec.TheFolds.{map-Dec, map-Exp, map-StrExp, map-ExpField, map-Rule, map-StrBind, fold-roll-Dec, fold-roll-Exp, fold-roll-StrExp, fold-roll-ExpField, fold-roll-Rule, fold-roll-StrBind, ind-Dec, ind-Exp, ind-StrExp, ind-ExpField, ind-Rule, ind-StrBind}
-use Rattle.sml_syntax.specs.declared.unit.FunBind.{FunBind}
-use Rattle.sml_syntax.specs.declared.unit.FunsigBind.{FunsigBind}
-use Rattle.sml_syntax.specs.declared.unit.TopDec.{TopDec}
-use Rattle.sml_syntax.specs.declared.unit.TopDec.TheVariants as top
-use Rattle.sml_syntax.specs.declared.unit.BareUnit.{BareUnit}
+use Rattle.sml_trees.specs.declared.exp.Dec.{Dec, roll-Dec}
+use Rattle.sml_trees.specs.declared.exp.Exp.{Exp, roll-Exp}
+use Rattle.sml_trees.specs.declared.exp.StrExp.{StrExp, roll-StrExp}
+use Rattle.sml_trees.specs.declared.exp.ExpField.{ExpField, roll-ExpField}
+use Rattle.sml_trees.specs.declared.exp.Rule.{Rule, roll-Rule}
+use Rattle.sml_trees.specs.declared.exp.StrBind.{StrBind, roll-StrBind}
+use Rattle.sml_trees.specs.declared.exp.Dec.TheOpen.{Dec-F, Exp-F, StrExp-F, ExpField-F, Rule-F, StrBind-F}
+use Rattle.sml_trees.specs.declared.exp.Dec.TheFolds.{map-Dec, map-Exp, map-StrExp, map-ExpField, map-Rule, map-StrBind, fold-roll-Dec, fold-roll-Exp, fold-roll-StrExp, fold-roll-ExpField, fold-roll-Rule, fold-roll-StrBind, ind-Dec, ind-Exp, ind-StrExp, ind-ExpField, ind-Rule, ind-StrBind}
+use Rattle.sml_trees.specs.declared.unit.FunBind.{FunBind}
+use Rattle.sml_trees.specs.declared.unit.FunsigBind.{FunsigBind}
+use Rattle.sml_trees.specs.declared.unit.TopDec.{TopDec}
+use Rattle.sml_trees.specs.declared.unit.TopDec.TheVariants as top
+use Rattle.sml_trees.specs.declared.unit.BareUnit.{BareUnit}
 
 abbrev SameDec : Dec → Type 0
 SameDec x = dec_of (unplaced_dec x) ≡ dec_of x

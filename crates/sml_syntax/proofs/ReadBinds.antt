@@ -7,16 +7,16 @@ use Rattle.sml_syntax.proofs.ReadTy.{name_exact, long_exact, ty_exact}
 use Rattle.sml_syntax.specs.Code.{con_bind_of, dat_bind_of, ex_bind_of, ex_body_of, typ_bind_of, typ_desc_of, val_desc_of}
 use Rattle.sml_syntax.specs.Reading.{long_at, ty_at}
 use Rattle.sml_syntax.specs.ReadingBinds.{typ_bind_at, IsTypBind, con_bind_at, IsConBind, dat_bind_at, IsDatBind, val_desc_at, IsValDesc, typ_desc_at, IsTypDesc, ex_bind_at, IsExBind, ex_body_at, IsExBody}
-use Rattle.sml_syntax.specs.declared.name.Name.{Name}
-use Rattle.sml_syntax.specs.declared.ty.Ty.{Ty}
-use Rattle.sml_syntax.specs.declared.ty.TypBind.{TypBind}
-use Rattle.sml_syntax.specs.declared.ty.ConBind.{ConBind}
-use Rattle.sml_syntax.specs.declared.ty.DatBind.{DatBind}
-use Rattle.sml_syntax.specs.declared.ty.ExBind.{ExBind}
-use Rattle.sml_syntax.specs.declared.ty.ExBody.{ExBody}
-use Rattle.sml_syntax.specs.declared.ty.ValDesc.{ValDesc}
-use Rattle.sml_syntax.specs.declared.ty.TypDesc.{TypDesc}
-use Rattle.sml_syntax.specs.declared.ty.ExBody.TheVariants as exn
+use Rattle.sml_trees.specs.declared.name.Name.{Name}
+use Rattle.sml_trees.specs.declared.ty.Ty.{Ty}
+use Rattle.sml_trees.specs.declared.ty.TypBind.{TypBind}
+use Rattle.sml_trees.specs.declared.ty.ConBind.{ConBind}
+use Rattle.sml_trees.specs.declared.ty.DatBind.{DatBind}
+use Rattle.sml_trees.specs.declared.ty.ExBind.{ExBind}
+use Rattle.sml_trees.specs.declared.ty.ExBody.{ExBody}
+use Rattle.sml_trees.specs.declared.ty.ValDesc.{ValDesc}
+use Rattle.sml_trees.specs.declared.ty.TypDesc.{TypDesc}
+use Rattle.sml_trees.specs.declared.ty.ExBody.TheVariants as exn
 
 pub typ_bind_exact : (n : ℕ) → IsExact typ_bind_of (typ_bind_at n) (IsTypBind n)
 unfolding typ_bind_at

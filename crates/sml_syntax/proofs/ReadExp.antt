@@ -12,26 +12,26 @@ use Rattle.sml_syntax.specs.Code.{dat_bind_of, dec_level, dec_of, ex_bind_of, ex
 use Rattle.sml_syntax.specs.Reading.{nowhere, IsName}
 use Rattle.sml_syntax.specs.ReadingPat.{pat_is}
 use Rattle.sml_syntax.specs.ReadingExp.{exp_field_at, IsExpField, rule_at, IsRule, str_bind_at, IsStrBind, exp_table, exp_level_is, dec_table, dec_level_is, str_table, str_level_is, exp_steps, exp_is}
-use Rattle.sml_syntax.specs.declared.name.At.{At}
-use Rattle.sml_syntax.specs.declared.name.Name.{Name}
-use Rattle.sml_syntax.specs.declared.name.LongName.{LongName}
-use Rattle.sml_syntax.specs.declared.ty.Ty.{Ty}
-use Rattle.sml_syntax.specs.declared.ty.TypBind.{TypBind}
-use Rattle.sml_syntax.specs.declared.ty.DatBind.{DatBind}
-use Rattle.sml_syntax.specs.declared.ty.ExBind.{ExBind}
-use Rattle.sml_syntax.specs.declared.pat.Pat.{Pat}
-use Rattle.sml_syntax.specs.declared.sig_exp.SigExp.{SigExp}
-use Rattle.sml_syntax.specs.declared.exp.Exp.{Exp, out-Exp, roll-Exp, roll-out-Exp, out-roll-Exp}
-use Rattle.sml_syntax.specs.declared.exp.Dec.TheOpen.{Dec-F, Exp-F, StrExp-F}
-use Rattle.sml_syntax.specs.declared.exp.Exp.TheVariants as expv
-use Rattle.sml_syntax.specs.declared.exp.Dec.{Dec, out-Dec, roll-Dec, roll-out-Dec, out-roll-Dec}
-use Rattle.sml_syntax.specs.declared.exp.Dec.TheVariants as decv
-use Rattle.sml_syntax.specs.declared.exp.StrExp.{StrExp, out-StrExp, roll-StrExp, roll-out-StrExp, out-roll-StrExp}
-use Rattle.sml_syntax.specs.declared.exp.StrExp.TheVariants as strv
-use Rattle.sml_syntax.specs.declared.exp.ExpField.{ExpField, out-ExpField, roll-ExpField, roll-out-ExpField, out-roll-ExpField}
-use Rattle.sml_syntax.specs.declared.exp.Rule.{Rule, out-Rule, roll-Rule, roll-out-Rule, out-roll-Rule}
-use Rattle.sml_syntax.specs.declared.exp.StrBind.{StrBind, out-StrBind, roll-StrBind, roll-out-StrBind, out-roll-StrBind}
-use Rattle.sml_syntax.specs.declared.exp.Dec.TheFolds.{fold-roll-Dec, fold-roll-Exp, fold-roll-StrExp, fold-roll-ExpField, fold-roll-Rule, fold-roll-StrBind}
+use Rattle.sml_trees.specs.declared.name.At.{At}
+use Rattle.sml_trees.specs.declared.name.Name.{Name}
+use Rattle.sml_trees.specs.declared.name.LongName.{LongName}
+use Rattle.sml_trees.specs.declared.ty.Ty.{Ty}
+use Rattle.sml_trees.specs.declared.ty.TypBind.{TypBind}
+use Rattle.sml_trees.specs.declared.ty.DatBind.{DatBind}
+use Rattle.sml_trees.specs.declared.ty.ExBind.{ExBind}
+use Rattle.sml_trees.specs.declared.pat.Pat.{Pat}
+use Rattle.sml_trees.specs.declared.sig_exp.SigExp.{SigExp}
+use Rattle.sml_trees.specs.declared.exp.Exp.{Exp, out-Exp, roll-Exp, roll-out-Exp, out-roll-Exp}
+use Rattle.sml_trees.specs.declared.exp.Dec.TheOpen.{Dec-F, Exp-F, StrExp-F}
+use Rattle.sml_trees.specs.declared.exp.Exp.TheVariants as expv
+use Rattle.sml_trees.specs.declared.exp.Dec.{Dec, out-Dec, roll-Dec, roll-out-Dec, out-roll-Dec}
+use Rattle.sml_trees.specs.declared.exp.Dec.TheVariants as decv
+use Rattle.sml_trees.specs.declared.exp.StrExp.{StrExp, out-StrExp, roll-StrExp, roll-out-StrExp, out-roll-StrExp}
+use Rattle.sml_trees.specs.declared.exp.StrExp.TheVariants as strv
+use Rattle.sml_trees.specs.declared.exp.ExpField.{ExpField, out-ExpField, roll-ExpField, roll-out-ExpField, out-roll-ExpField}
+use Rattle.sml_trees.specs.declared.exp.Rule.{Rule, out-Rule, roll-Rule, roll-out-Rule, out-roll-Rule}
+use Rattle.sml_trees.specs.declared.exp.StrBind.{StrBind, out-StrBind, roll-StrBind, roll-out-StrBind, out-roll-StrBind}
+use Rattle.sml_trees.specs.declared.exp.Dec.TheFolds.{fold-roll-Dec, fold-roll-Exp, fold-roll-StrExp, fold-roll-ExpField, fold-roll-Rule, fold-roll-StrBind}
 
 pub exp_of-Int_nowhere : (a0 : ℤ) → exp_of (expv.Int a0 nowhere) ≡ 16 ∷ int_of a0
 exp_of-Int_nowhere a0 =

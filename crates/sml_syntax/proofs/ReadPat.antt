@@ -8,15 +8,15 @@ use Rattle.sml_syntax.proofs.Level.{parts_map}
 use Rattle.sml_syntax.specs.Code.{int_of, long_of, name_of, option_of, pat_field_level, pat_field_of, pat_level, pat_of, ty_of}
 use Rattle.sml_syntax.specs.Reading.{nowhere, IsName}
 use Rattle.sml_syntax.specs.ReadingPat.{pat_field_at, IsPatField, pat_table, pat_level_is, pat_steps, pat_is}
-use Rattle.sml_syntax.specs.declared.name.At.{At}
-use Rattle.sml_syntax.specs.declared.name.Name.{Name}
-use Rattle.sml_syntax.specs.declared.name.LongName.{LongName}
-use Rattle.sml_syntax.specs.declared.ty.Ty.{Ty}
-use Rattle.sml_syntax.specs.declared.pat.Pat.{Pat, out-Pat, roll-Pat, roll-out-Pat, out-roll-Pat}
-use Rattle.sml_syntax.specs.declared.pat.Pat.TheOpen.{Pat-F}
-use Rattle.sml_syntax.specs.declared.pat.Pat.TheVariants as pat
-use Rattle.sml_syntax.specs.declared.pat.PatField.{PatField, out-PatField, roll-PatField, roll-out-PatField, out-roll-PatField}
-use Rattle.sml_syntax.specs.declared.pat.Pat.TheFolds.{fold-roll-Pat, fold-roll-PatField}
+use Rattle.sml_trees.specs.declared.name.At.{At}
+use Rattle.sml_trees.specs.declared.name.Name.{Name}
+use Rattle.sml_trees.specs.declared.name.LongName.{LongName}
+use Rattle.sml_trees.specs.declared.ty.Ty.{Ty}
+use Rattle.sml_trees.specs.declared.pat.Pat.{Pat, out-Pat, roll-Pat, roll-out-Pat, out-roll-Pat}
+use Rattle.sml_trees.specs.declared.pat.Pat.TheOpen.{Pat-F}
+use Rattle.sml_trees.specs.declared.pat.Pat.TheVariants as pat
+use Rattle.sml_trees.specs.declared.pat.PatField.{PatField, out-PatField, roll-PatField, roll-out-PatField, out-roll-PatField}
+use Rattle.sml_trees.specs.declared.pat.Pat.TheFolds.{fold-roll-Pat, fold-roll-PatField}
 
 pub pat_of-Wild_nowhere : pat_of (pat.Wild nowhere) ≡ 32 ∷ []
 pat_of-Wild_nowhere =

@@ -9,21 +9,21 @@ use Rattle.sml_syntax.proofs.ReadBinds.{con_bind_exact, dat_bind_exact, val_desc
 use Rattle.sml_syntax.specs.Code.{con_bind_of, dat_bind_of, long_of, name_of, sig_bind_level, sig_bind_of, sig_level, sig_of, spec_level, spec_of, ty_of, typ_desc_of, val_desc_of}
 use Rattle.sml_syntax.specs.Reading.{nowhere, IsName}
 use Rattle.sml_syntax.specs.ReadingSig.{sig_bind_at, IsSigBind, sig_table, sig_level_is, spec_table, spec_level_is, sig_steps, sig_is}
-use Rattle.sml_syntax.specs.declared.name.At.{At}
-use Rattle.sml_syntax.specs.declared.name.Name.{Name}
-use Rattle.sml_syntax.specs.declared.name.LongName.{LongName}
-use Rattle.sml_syntax.specs.declared.ty.Ty.{Ty}
-use Rattle.sml_syntax.specs.declared.ty.ConBind.{ConBind}
-use Rattle.sml_syntax.specs.declared.ty.DatBind.{DatBind}
-use Rattle.sml_syntax.specs.declared.ty.ValDesc.{ValDesc}
-use Rattle.sml_syntax.specs.declared.ty.TypDesc.{TypDesc}
-use Rattle.sml_syntax.specs.declared.sig_exp.SigExp.{SigExp, out-SigExp, roll-SigExp, roll-out-SigExp, out-roll-SigExp}
-use Rattle.sml_syntax.specs.declared.sig_exp.SigExp.TheOpen.{SigExp-F, Spec-F}
-use Rattle.sml_syntax.specs.declared.sig_exp.SigExp.TheVariants as sigv
-use Rattle.sml_syntax.specs.declared.sig_exp.Spec.{Spec, out-Spec, roll-Spec, roll-out-Spec, out-roll-Spec}
-use Rattle.sml_syntax.specs.declared.sig_exp.Spec.TheVariants as specv
-use Rattle.sml_syntax.specs.declared.sig_exp.SigBind.{SigBind, out-SigBind, roll-SigBind, roll-out-SigBind, out-roll-SigBind}
-use Rattle.sml_syntax.specs.declared.sig_exp.SigExp.TheFolds.{fold-roll-SigExp, fold-roll-Spec, fold-roll-SigBind}
+use Rattle.sml_trees.specs.declared.name.At.{At}
+use Rattle.sml_trees.specs.declared.name.Name.{Name}
+use Rattle.sml_trees.specs.declared.name.LongName.{LongName}
+use Rattle.sml_trees.specs.declared.ty.Ty.{Ty}
+use Rattle.sml_trees.specs.declared.ty.ConBind.{ConBind}
+use Rattle.sml_trees.specs.declared.ty.DatBind.{DatBind}
+use Rattle.sml_trees.specs.declared.ty.ValDesc.{ValDesc}
+use Rattle.sml_trees.specs.declared.ty.TypDesc.{TypDesc}
+use Rattle.sml_trees.specs.declared.sig_exp.SigExp.{SigExp, out-SigExp, roll-SigExp, roll-out-SigExp, out-roll-SigExp}
+use Rattle.sml_trees.specs.declared.sig_exp.SigExp.TheOpen.{SigExp-F, Spec-F}
+use Rattle.sml_trees.specs.declared.sig_exp.SigExp.TheVariants as sigv
+use Rattle.sml_trees.specs.declared.sig_exp.Spec.{Spec, out-Spec, roll-Spec, roll-out-Spec, out-roll-Spec}
+use Rattle.sml_trees.specs.declared.sig_exp.Spec.TheVariants as specv
+use Rattle.sml_trees.specs.declared.sig_exp.SigBind.{SigBind, out-SigBind, roll-SigBind, roll-out-SigBind, out-roll-SigBind}
+use Rattle.sml_trees.specs.declared.sig_exp.SigExp.TheFolds.{fold-roll-SigExp, fold-roll-Spec, fold-roll-SigBind}
 
 pub sig_of-Sig_nowhere : (a0 : Spec) → sig_of (sigv.Sig a0 nowhere) ≡ 96 ∷ spec_of a0
 sig_of-Sig_nowhere a0 =

@@ -6,14 +6,14 @@ use Rattle.sml_syntax.specs.Steps.{or_tag, IsExact}
 use Rattle.sml_syntax.specs.Reading.{nowhere, name_nowhere, long_nowhere, name_at, long_at, IsName, IsLong, ty_field_at, ty_table, ty_at, IsTyField, ty_is, IsTy}
 use Rattle.sml_syntax.proofs.Exact.{made_exact, both_exact, text_exact, list_exact, tagged_spelled, tagged_again, no_tag_spells, or_tag_spells}
 use Rattle.sml_syntax.proofs.Level.{ty_of-Var, ty_of-Record, ty_of-Named, ty_of-Arrow}
-use Rattle.sml_syntax.specs.declared.name.At.{At}
-use Rattle.sml_syntax.specs.declared.name.Name.{Name}
-use Rattle.sml_syntax.specs.declared.name.LongName.{LongName}
-use Rattle.sml_syntax.specs.declared.ty.Ty.{Ty, out-Ty, roll-Ty, roll-out-Ty, out-roll-Ty}
-use Rattle.sml_syntax.specs.declared.ty.Ty.TheOpen.{Ty-F}
-use Rattle.sml_syntax.specs.declared.ty.Ty.TheFolds.{fold-roll-TyField}
-use Rattle.sml_syntax.specs.declared.ty.Ty.TheVariants as ty
-use Rattle.sml_syntax.specs.declared.ty.TyField.{TyField, out-TyField, roll-TyField, roll-out-TyField, out-roll-TyField}
+use Rattle.sml_trees.specs.declared.name.At.{At}
+use Rattle.sml_trees.specs.declared.name.Name.{Name}
+use Rattle.sml_trees.specs.declared.name.LongName.{LongName}
+use Rattle.sml_trees.specs.declared.ty.Ty.{Ty, out-Ty, roll-Ty, roll-out-Ty, out-roll-Ty}
+use Rattle.sml_trees.specs.declared.ty.Ty.TheOpen.{Ty-F}
+use Rattle.sml_trees.specs.declared.ty.Ty.TheFolds.{fold-roll-TyField}
+use Rattle.sml_trees.specs.declared.ty.Ty.TheVariants as ty
+use Rattle.sml_trees.specs.declared.ty.TyField.{TyField, out-TyField, roll-TyField, roll-out-TyField, out-roll-TyField}
 
 pub name_exact : IsExact name_of name_at IsName
 unfolding name_at

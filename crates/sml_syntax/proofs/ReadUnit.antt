@@ -14,17 +14,17 @@ use Rattle.sml_syntax.specs.ReadingUnit.{fun_bind_at, IsFunBind, funsig_bind_at,
 use Rattle.sml_syntax.specs.Took.{IsUnitOf, ReadsCode}
 use Rattle.sml_syntax.specs.declared.fault.CodeFault.{CodeFault}
 use Rattle.sml_syntax.specs.declared.fault.CodeFault.TheVariants as fault
-use Rattle.sml_syntax.specs.declared.name.At.{At}
-use Rattle.sml_syntax.specs.declared.name.Name.{Name}
-use Rattle.sml_syntax.specs.declared.sig_exp.SigExp.{SigExp}
-use Rattle.sml_syntax.specs.declared.sig_exp.SigBind.{SigBind}
-use Rattle.sml_syntax.specs.declared.exp.StrExp.{StrExp}
-use Rattle.sml_syntax.specs.declared.exp.StrBind.{StrBind}
-use Rattle.sml_syntax.specs.declared.unit.TopDec.{TopDec}
-use Rattle.sml_syntax.specs.declared.unit.TopDec.TheVariants as top
-use Rattle.sml_syntax.specs.declared.unit.FunBind.{FunBind}
-use Rattle.sml_syntax.specs.declared.unit.FunsigBind.{FunsigBind}
-use Rattle.sml_syntax.specs.declared.unit.BareUnit.{BareUnit}
+use Rattle.sml_trees.specs.declared.name.At.{At}
+use Rattle.sml_trees.specs.declared.name.Name.{Name}
+use Rattle.sml_trees.specs.declared.sig_exp.SigExp.{SigExp}
+use Rattle.sml_trees.specs.declared.sig_exp.SigBind.{SigBind}
+use Rattle.sml_trees.specs.declared.exp.StrExp.{StrExp}
+use Rattle.sml_trees.specs.declared.exp.StrBind.{StrBind}
+use Rattle.sml_trees.specs.declared.unit.TopDec.{TopDec}
+use Rattle.sml_trees.specs.declared.unit.TopDec.TheVariants as top
+use Rattle.sml_trees.specs.declared.unit.FunBind.{FunBind}
+use Rattle.sml_trees.specs.declared.unit.FunsigBind.{FunsigBind}
+use Rattle.sml_trees.specs.declared.unit.BareUnit.{BareUnit}
 
 pub fun_bind_exact : (n : ℕ) → IsExact fun_bind_of (fun_bind_at n) (IsFunBind n)
 unfolding fun_bind_at

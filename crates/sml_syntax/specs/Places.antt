@@ -1,29 +1,29 @@
 -- Trees without their places: each line and column is 0.
 use Rattle.std.specs.Prelude.{List, Option, map, option_map}
 use Rattle.sml_syntax.specs.Reading.{nowhere, name_nowhere, long_nowhere}
-use Rattle.sml_syntax.specs.declared.name.Name.{Name}
-use Rattle.sml_syntax.specs.declared.name.LongName.{LongName}
-use Rattle.sml_syntax.specs.declared.ty.Ty.{Ty, roll-Ty}
-use Rattle.sml_syntax.specs.declared.ty.TyField.{TyField, roll-TyField}
-use Rattle.sml_syntax.specs.declared.ty.Ty.TheOpen.{Ty-F, TyField-F}
-use Rattle.sml_syntax.specs.declared.ty.Ty.TheFolds.{fold-Ty, fold-TyField}
-use Rattle.sml_syntax.specs.declared.ty.TypBind.{TypBind}
-use Rattle.sml_syntax.specs.declared.ty.ConBind.{ConBind}
-use Rattle.sml_syntax.specs.declared.ty.DatBind.{DatBind}
-use Rattle.sml_syntax.specs.declared.ty.ExBind.{ExBind}
-use Rattle.sml_syntax.specs.declared.ty.ValDesc.{ValDesc}
-use Rattle.sml_syntax.specs.declared.ty.TypDesc.{TypDesc}
-use Rattle.sml_syntax.specs.declared.ty.ExBody.{ExBody}
-use Rattle.sml_syntax.specs.declared.ty.ExBody.TheVariants as exn
-use Rattle.sml_syntax.specs.declared.pat.Pat.{Pat, roll-Pat}
-use Rattle.sml_syntax.specs.declared.pat.PatField.{PatField, roll-PatField}
-use Rattle.sml_syntax.specs.declared.pat.Pat.TheOpen.{Pat-F, PatField-F}
-use Rattle.sml_syntax.specs.declared.pat.Pat.TheFolds.{fold-Pat, fold-PatField}
-use Rattle.sml_syntax.specs.declared.sig_exp.SigExp.{SigExp, roll-SigExp}
-use Rattle.sml_syntax.specs.declared.sig_exp.Spec.{Spec, roll-Spec}
-use Rattle.sml_syntax.specs.declared.sig_exp.SigBind.{SigBind, roll-SigBind}
-use Rattle.sml_syntax.specs.declared.sig_exp.SigExp.TheOpen.{SigExp-F, Spec-F, SigBind-F}
-use Rattle.sml_syntax.specs.declared.sig_exp.SigExp.TheFolds.{fold-SigExp, fold-Spec, fold-SigBind}
+use Rattle.sml_trees.specs.declared.name.Name.{Name}
+use Rattle.sml_trees.specs.declared.name.LongName.{LongName}
+use Rattle.sml_trees.specs.declared.ty.Ty.{Ty, roll-Ty}
+use Rattle.sml_trees.specs.declared.ty.TyField.{TyField, roll-TyField}
+use Rattle.sml_trees.specs.declared.ty.Ty.TheOpen.{Ty-F, TyField-F}
+use Rattle.sml_trees.specs.declared.ty.Ty.TheFolds.{fold-Ty, fold-TyField}
+use Rattle.sml_trees.specs.declared.ty.TypBind.{TypBind}
+use Rattle.sml_trees.specs.declared.ty.ConBind.{ConBind}
+use Rattle.sml_trees.specs.declared.ty.DatBind.{DatBind}
+use Rattle.sml_trees.specs.declared.ty.ExBind.{ExBind}
+use Rattle.sml_trees.specs.declared.ty.ValDesc.{ValDesc}
+use Rattle.sml_trees.specs.declared.ty.TypDesc.{TypDesc}
+use Rattle.sml_trees.specs.declared.ty.ExBody.{ExBody}
+use Rattle.sml_trees.specs.declared.ty.ExBody.TheVariants as exn
+use Rattle.sml_trees.specs.declared.pat.Pat.{Pat, roll-Pat}
+use Rattle.sml_trees.specs.declared.pat.PatField.{PatField, roll-PatField}
+use Rattle.sml_trees.specs.declared.pat.Pat.TheOpen.{Pat-F, PatField-F}
+use Rattle.sml_trees.specs.declared.pat.Pat.TheFolds.{fold-Pat, fold-PatField}
+use Rattle.sml_trees.specs.declared.sig_exp.SigExp.{SigExp, roll-SigExp}
+use Rattle.sml_trees.specs.declared.sig_exp.Spec.{Spec, roll-Spec}
+use Rattle.sml_trees.specs.declared.sig_exp.SigBind.{SigBind, roll-SigBind}
+use Rattle.sml_trees.specs.declared.sig_exp.SigExp.TheOpen.{SigExp-F, Spec-F, SigBind-F}
+use Rattle.sml_trees.specs.declared.sig_exp.SigExp.TheFolds.{fold-SigExp, fold-Spec, fold-SigBind}
 
 abbrev pub unplaced_name : Name → Name
 unplaced_name name = name_nowhere name.text

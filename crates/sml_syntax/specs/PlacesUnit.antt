@@ -2,19 +2,19 @@
 use Rattle.std.specs.Prelude.{List, [], map}
 use Rattle.sml_syntax.specs.Reading.{nowhere}
 use Rattle.sml_syntax.specs.Places.{unplaced_name, unplaced_long, unplaced_ty, unplaced_typ_bind, unplaced_dat_bind, unplaced_ex_bind, unplaced_pat, unplaced_sig, unplaced_sig_bind}
-use Rattle.sml_syntax.specs.declared.exp.Dec.{Dec, roll-Dec}
-use Rattle.sml_syntax.specs.declared.exp.Exp.{Exp, roll-Exp}
-use Rattle.sml_syntax.specs.declared.exp.StrExp.{StrExp, roll-StrExp}
-use Rattle.sml_syntax.specs.declared.exp.ExpField.{ExpField, roll-ExpField}
-use Rattle.sml_syntax.specs.declared.exp.Rule.{Rule, roll-Rule}
-use Rattle.sml_syntax.specs.declared.exp.StrBind.{StrBind, roll-StrBind}
-use Rattle.sml_syntax.specs.declared.exp.Dec.TheOpen.{Dec-F, Exp-F, StrExp-F, ExpField-F, Rule-F, StrBind-F}
-use Rattle.sml_syntax.specs.declared.exp.Dec.TheFolds.{fold-Dec, fold-Exp, fold-StrExp, fold-ExpField, fold-Rule, fold-StrBind}
-use Rattle.sml_syntax.specs.declared.unit.FunBind.{FunBind}
-use Rattle.sml_syntax.specs.declared.unit.FunsigBind.{FunsigBind}
-use Rattle.sml_syntax.specs.declared.unit.TopDec.{TopDec}
-use Rattle.sml_syntax.specs.declared.unit.TopDec.TheVariants as top
-use Rattle.sml_syntax.specs.declared.unit.BareUnit.{BareUnit}
+use Rattle.sml_trees.specs.declared.exp.Dec.{Dec, roll-Dec}
+use Rattle.sml_trees.specs.declared.exp.Exp.{Exp, roll-Exp}
+use Rattle.sml_trees.specs.declared.exp.StrExp.{StrExp, roll-StrExp}
+use Rattle.sml_trees.specs.declared.exp.ExpField.{ExpField, roll-ExpField}
+use Rattle.sml_trees.specs.declared.exp.Rule.{Rule, roll-Rule}
+use Rattle.sml_trees.specs.declared.exp.StrBind.{StrBind, roll-StrBind}
+use Rattle.sml_trees.specs.declared.exp.Dec.TheOpen.{Dec-F, Exp-F, StrExp-F, ExpField-F, Rule-F, StrBind-F}
+use Rattle.sml_trees.specs.declared.exp.Dec.TheFolds.{fold-Dec, fold-Exp, fold-StrExp, fold-ExpField, fold-Rule, fold-StrBind}
+use Rattle.sml_trees.specs.declared.unit.FunBind.{FunBind}
+use Rattle.sml_trees.specs.declared.unit.FunsigBind.{FunsigBind}
+use Rattle.sml_trees.specs.declared.unit.TopDec.{TopDec}
+use Rattle.sml_trees.specs.declared.unit.TopDec.TheVariants as top
+use Rattle.sml_trees.specs.declared.unit.BareUnit.{BareUnit}
 
 abbrev pub dec_unplaced : {A B C D E F : Type 0} → Dec-F A B C D E F → Dec-F A B C D E F
 dec_unplaced (Dec-F.Val a b c at) = Dec-F.Val (map unplaced_name a) b c nowhere

@@ -4,13 +4,13 @@ use Rattle.std.specs.Prelude.{◌≡◌, ℕ, ℤ, FitsSigned, zero, suc, ◌<�
 use Rattle.cm_bytes.specs.Fields.{Step, raw_at, text_at, list_at}
 use Rattle.std.specs.Int.{w64, from_be_bytes, cast_signed}
 use Rattle.sml_syntax.specs.Steps.{made, both, Table, no_tag, or_tag, tagged}
-use Rattle.sml_syntax.specs.declared.name.At.{At}
-use Rattle.sml_syntax.specs.declared.name.Name.{Name}
-use Rattle.sml_syntax.specs.declared.name.LongName.{LongName}
-use Rattle.sml_syntax.specs.declared.ty.Ty.{Ty, out-Ty}
-use Rattle.sml_syntax.specs.declared.ty.Ty.TheOpen.{Ty-F}
-use Rattle.sml_syntax.specs.declared.ty.Ty.TheVariants as ty
-use Rattle.sml_syntax.specs.declared.ty.TyField.{TyField, out-TyField, roll-TyField}
+use Rattle.sml_trees.specs.declared.name.At.{At}
+use Rattle.sml_trees.specs.declared.name.Name.{Name}
+use Rattle.sml_trees.specs.declared.name.LongName.{LongName}
+use Rattle.sml_trees.specs.declared.ty.Ty.{Ty, out-Ty}
+use Rattle.sml_trees.specs.declared.ty.Ty.TheOpen.{Ty-F}
+use Rattle.sml_trees.specs.declared.ty.Ty.TheVariants as ty
+use Rattle.sml_trees.specs.declared.ty.TyField.{TyField, out-TyField, roll-TyField}
 
 -- ---- names
 

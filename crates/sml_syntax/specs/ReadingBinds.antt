@@ -3,14 +3,14 @@ use Rattle.std.specs.Prelude.{ℕ}
 use Rattle.cm_bytes.specs.Fields.{Step, list_at}
 use Rattle.sml_syntax.specs.Steps.{made, both, Table, no_tag, or_tag, tagged, nothing_at, option_at}
 use Rattle.sml_syntax.specs.Reading.{name_at, long_at, IsName, IsLong, AreAll, IfThere, ty_at, IsTy}
-use Rattle.sml_syntax.specs.declared.ty.TypBind.{TypBind}
-use Rattle.sml_syntax.specs.declared.ty.ConBind.{ConBind}
-use Rattle.sml_syntax.specs.declared.ty.DatBind.{DatBind}
-use Rattle.sml_syntax.specs.declared.ty.ExBind.{ExBind}
-use Rattle.sml_syntax.specs.declared.ty.ExBody.{ExBody}
-use Rattle.sml_syntax.specs.declared.ty.ValDesc.{ValDesc}
-use Rattle.sml_syntax.specs.declared.ty.TypDesc.{TypDesc}
-use Rattle.sml_syntax.specs.declared.ty.ExBody.TheVariants as exn
+use Rattle.sml_trees.specs.declared.ty.TypBind.{TypBind}
+use Rattle.sml_trees.specs.declared.ty.ConBind.{ConBind}
+use Rattle.sml_trees.specs.declared.ty.DatBind.{DatBind}
+use Rattle.sml_trees.specs.declared.ty.ExBind.{ExBind}
+use Rattle.sml_trees.specs.declared.ty.ExBody.{ExBody}
+use Rattle.sml_trees.specs.declared.ty.ValDesc.{ValDesc}
+use Rattle.sml_trees.specs.declared.ty.TypDesc.{TypDesc}
+use Rattle.sml_trees.specs.declared.ty.ExBody.TheVariants as exn
 
 unfoldable pub typ_bind_at : ℕ → Step TypBind
 typ_bind_at n = made (λ p. record { tyvars = p.0; name = p.1.0; ty = p.1.1 }) (both (list_at name_at) (both name_at (ty_at n)))

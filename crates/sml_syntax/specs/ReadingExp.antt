@@ -6,16 +6,16 @@ use Rattle.sml_syntax.specs.Reading.{nowhere, name_at, long_at, int_at, IsShort,
 use Rattle.sml_syntax.specs.ReadingBinds.{typ_bind_at, IsTypBind, dat_bind_at, IsDatBind, ex_bind_at, IsExBind}
 use Rattle.sml_syntax.specs.ReadingPat.{pat_steps, pat_is}
 use Rattle.sml_syntax.specs.ReadingSig.{sig_steps, sig_is}
-use Rattle.sml_syntax.specs.declared.exp.Exp.{Exp, out-Exp}
-use Rattle.sml_syntax.specs.declared.exp.Dec.TheOpen.{Dec-F, Exp-F, StrExp-F}
-use Rattle.sml_syntax.specs.declared.exp.Exp.TheVariants as expv
-use Rattle.sml_syntax.specs.declared.exp.Dec.{Dec, out-Dec}
-use Rattle.sml_syntax.specs.declared.exp.Dec.TheVariants as decv
-use Rattle.sml_syntax.specs.declared.exp.StrExp.{StrExp, out-StrExp}
-use Rattle.sml_syntax.specs.declared.exp.StrExp.TheVariants as strv
-use Rattle.sml_syntax.specs.declared.exp.ExpField.{ExpField, out-ExpField, roll-ExpField}
-use Rattle.sml_syntax.specs.declared.exp.Rule.{Rule, out-Rule, roll-Rule}
-use Rattle.sml_syntax.specs.declared.exp.StrBind.{StrBind, out-StrBind, roll-StrBind}
+use Rattle.sml_trees.specs.declared.exp.Exp.{Exp, out-Exp}
+use Rattle.sml_trees.specs.declared.exp.Dec.TheOpen.{Dec-F, Exp-F, StrExp-F}
+use Rattle.sml_trees.specs.declared.exp.Exp.TheVariants as expv
+use Rattle.sml_trees.specs.declared.exp.Dec.{Dec, out-Dec}
+use Rattle.sml_trees.specs.declared.exp.Dec.TheVariants as decv
+use Rattle.sml_trees.specs.declared.exp.StrExp.{StrExp, out-StrExp}
+use Rattle.sml_trees.specs.declared.exp.StrExp.TheVariants as strv
+use Rattle.sml_trees.specs.declared.exp.ExpField.{ExpField, out-ExpField, roll-ExpField}
+use Rattle.sml_trees.specs.declared.exp.Rule.{Rule, out-Rule, roll-Rule}
+use Rattle.sml_trees.specs.declared.exp.StrBind.{StrBind, out-StrBind, roll-StrBind}
 
 -- the steps that read each kind of node
 pub record ExpSteps : Type 0 where

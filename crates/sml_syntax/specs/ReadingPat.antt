@@ -3,10 +3,10 @@ use Rattle.std.specs.Prelude.{◌≡◌, ℕ, zero, suc, None}
 use Rattle.cm_bytes.specs.Fields.{Step, byte_at, text_at, list_at}
 use Rattle.sml_syntax.specs.Steps.{made, both, Table, no_tag, or_tag, tagged, nothing_at, option_at}
 use Rattle.sml_syntax.specs.Reading.{nowhere, name_at, long_at, int_at, IsShort, IsInt, IsByte, IsName, IsLong, AreAll, IfThere, ty_at, IsTy}
-use Rattle.sml_syntax.specs.declared.pat.Pat.{Pat, out-Pat}
-use Rattle.sml_syntax.specs.declared.pat.Pat.TheOpen.{Pat-F}
-use Rattle.sml_syntax.specs.declared.pat.Pat.TheVariants as pat
-use Rattle.sml_syntax.specs.declared.pat.PatField.{PatField, out-PatField, roll-PatField}
+use Rattle.sml_trees.specs.declared.pat.Pat.{Pat, out-Pat}
+use Rattle.sml_trees.specs.declared.pat.Pat.TheOpen.{Pat-F}
+use Rattle.sml_trees.specs.declared.pat.Pat.TheVariants as pat
+use Rattle.sml_trees.specs.declared.pat.PatField.{PatField, out-PatField, roll-PatField}
 
 -- the steps that read each kind of node
 pub record PatSteps : Type 0 where

@@ -4,12 +4,12 @@ use Rattle.cm_bytes.specs.Fields.{Step, list_at}
 use Rattle.sml_syntax.specs.Steps.{made, both, Table, no_tag, or_tag, tagged}
 use Rattle.sml_syntax.specs.Reading.{nowhere, name_at, long_at, IsName, IsLong, AreAll, ty_at, IsTy}
 use Rattle.sml_syntax.specs.ReadingBinds.{con_bind_at, IsConBind, dat_bind_at, IsDatBind, val_desc_at, IsValDesc, typ_desc_at, IsTypDesc}
-use Rattle.sml_syntax.specs.declared.sig_exp.SigExp.{SigExp, out-SigExp}
-use Rattle.sml_syntax.specs.declared.sig_exp.SigExp.TheOpen.{SigExp-F, Spec-F}
-use Rattle.sml_syntax.specs.declared.sig_exp.SigExp.TheVariants as sigv
-use Rattle.sml_syntax.specs.declared.sig_exp.Spec.{Spec, out-Spec}
-use Rattle.sml_syntax.specs.declared.sig_exp.Spec.TheVariants as specv
-use Rattle.sml_syntax.specs.declared.sig_exp.SigBind.{SigBind, out-SigBind, roll-SigBind}
+use Rattle.sml_trees.specs.declared.sig_exp.SigExp.{SigExp, out-SigExp}
+use Rattle.sml_trees.specs.declared.sig_exp.SigExp.TheOpen.{SigExp-F, Spec-F}
+use Rattle.sml_trees.specs.declared.sig_exp.SigExp.TheVariants as sigv
+use Rattle.sml_trees.specs.declared.sig_exp.Spec.{Spec, out-Spec}
+use Rattle.sml_trees.specs.declared.sig_exp.Spec.TheVariants as specv
+use Rattle.sml_trees.specs.declared.sig_exp.SigBind.{SigBind, out-SigBind, roll-SigBind}
 
 -- the steps that read each kind of node
 pub record SigSteps : Type 0 where

@@ -5,11 +5,11 @@ use Rattle.sml_syntax.specs.Steps.{made, both, Table, no_tag, or_tag, tagged}
 use Rattle.sml_syntax.specs.Reading.{nowhere, name_at, IsName, AreAll}
 use Rattle.sml_syntax.specs.ReadingSig.{sig_steps, sig_is, sig_bind_at, IsSigBind}
 use Rattle.sml_syntax.specs.ReadingExp.{exp_steps, exp_is, str_bind_at, IsStrBind}
-use Rattle.sml_syntax.specs.declared.unit.TopDec.{TopDec}
-use Rattle.sml_syntax.specs.declared.unit.TopDec.TheVariants as top
-use Rattle.sml_syntax.specs.declared.unit.FunBind.{FunBind}
-use Rattle.sml_syntax.specs.declared.unit.FunsigBind.{FunsigBind}
-use Rattle.sml_syntax.specs.declared.unit.BareUnit.{BareUnit}
+use Rattle.sml_trees.specs.declared.unit.TopDec.{TopDec}
+use Rattle.sml_trees.specs.declared.unit.TopDec.TheVariants as top
+use Rattle.sml_trees.specs.declared.unit.FunBind.{FunBind}
+use Rattle.sml_trees.specs.declared.unit.FunsigBind.{FunsigBind}
+use Rattle.sml_trees.specs.declared.unit.BareUnit.{BareUnit}
 
 unfoldable pub fun_bind_at : ℕ → Step FunBind
 fun_bind_at n = made (λ p. record { name = p.0; param = p.1.0; param_sig = p.1.1.0; body = p.1.1.1 }) (both name_at (both name_at (both (sig_steps n).sig (exp_steps n).str)))

@@ -4,7 +4,7 @@ use Rattle.sml_syntax.specs.Code.{code_of}
 use Rattle.sml_syntax.specs.ReadingUnit.{unit_of, IsRead}
 use Rattle.sml_syntax.specs.declared.fault.CodeFault.{CodeFault}
 use Rattle.sml_syntax.specs.declared.fault.CodeFault.TheVariants as fault
-use Rattle.sml_syntax.specs.declared.unit.BareUnit.{BareUnit}
+use Rattle.sml_trees.specs.declared.unit.BareUnit.{BareUnit}
 
 -- what a step makes of the bytes, with those that it leaves; a refusal where it reads nothing; want of memory is free
 abbrev pub Took : {A : Type 0} → Option (A × List ℕ) → Result A CodeFault → List ℕ → Type 0

@@ -6,7 +6,7 @@ ghost use Rattle.cm_bytes.specs.Fields.{IsBytes};
 ghost use Rattle.sml_syntax.specs.Code.{code_of};
 ghost use Rattle.sml_syntax.specs.PlacesUnit.{unplaced};
 ghost use Rattle.sml_syntax.specs.ReadingUnit.{unit_of, IsRead};
-ghost use Rattle.sml_syntax.specs.declared.unit.BareUnit.{BareUnit};
+ghost use Rattle.sml_trees.specs.declared.unit.BareUnit.{BareUnit};
 
 /// The code of a unit that stands nowhere is read as that unit.
 #[tactic(auto, using(crate::proofs::ReadUnit::unit_again))]

@@ -4,9 +4,9 @@ ghost use Rattle.std.specs.Prelude.{◌≡◌, ◌∷◌, ◌++◌, OnOk};
 ghost use Rattle.cm_bytes.specs.Fields.{u32_of, list_of};
 ghost use Rattle.sml_syntax.specs.Code.{name_of, long_of};
 
-use crate::name::{LongName, Name};
 use cm_base::{List, NoMemory, Text};
 use cm_bytes::Writer;
+use sml_trees::{LongName, Name};
 
 /// What has bytes of its own, wherever it stands in the code.
 pub trait Spelled {

@@ -1,18 +1,16 @@
 //! Reads the code of a unit.
 
 ghost use Rattle.std.specs.Prelude.{◌≡◌};
-ghost use Rattle.cm_bytes.specs.Fields.{list_at};
 ghost use Rattle.sml_syntax.specs.ReadingUnit.{topdec_at, topdec_table, code_at, most_tags, unit_of};
 ghost use Rattle.sml_syntax.specs.Took.{Took, IsUnitOf, ReadsCode};
 
 use crate::fault::CodeFault;
-use crate::name::At;
 use crate::read_exp::{read_str, read_str_binds};
 use crate::read_parts::{Readable, deeper, read_byte, read_list, read_name};
 use crate::read_sig::{read_sig, read_sig_binds};
-use crate::unit::{BareUnit, FunBind, FunsigBind, TopDec};
 use cm_base::{List, Text};
 use cm_bytes::Reader;
+use sml_trees::{At, BareUnit, FunBind, FunsigBind, TopDec};
 use std::alloc::Global;
 
 /// How many tags stand in one another at most.

@@ -7,8 +7,8 @@ ghost use Rattle.sml_syntax.specs.Took.{Took};
 use crate::fault::CodeFault;
 use crate::read_parts::{Readable, read_byte, read_list, read_long, read_name};
 use crate::read_ty::{read_optional_ty, read_ty};
-use crate::ty::{ConBind, DatBind, ExBind, ExBody, TypBind, TypDesc, ValDesc};
 use cm_bytes::Reader;
+use sml_trees::{ConBind, DatBind, ExBind, ExBody, TypBind, TypDesc, ValDesc};
 use std::alloc::Global;
 
 impl Readable for TypBind {

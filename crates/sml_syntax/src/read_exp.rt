@@ -5,9 +5,7 @@ ghost use Rattle.cm_bytes.specs.Fields.{list_at};
 ghost use Rattle.sml_syntax.specs.ReadingExp.{exp_steps, exp_table, dec_table, str_table, dec_body_table, exp_field_at, rule_at, str_bind_at};
 ghost use Rattle.sml_syntax.specs.Took.{Took};
 
-use crate::exp::{Dec, Exp, ExpField, Rule, StrBind, StrExp};
 use crate::fault::CodeFault;
-use crate::name::At;
 use crate::read_parts::{
     deeper, read_byte, read_count, read_int, read_list, read_long, read_name, read_text,
 };
@@ -16,6 +14,7 @@ use crate::read_sig::read_sig;
 use crate::read_ty::read_ty;
 use cm_base::{Boxed, List};
 use cm_bytes::Reader;
+use sml_trees::{At, Dec, Exp, ExpField, Rule, StrBind, StrExp};
 use std::alloc::Global;
 
 /// An expression of at most so many tags in one another.

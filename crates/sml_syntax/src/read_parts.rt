@@ -7,9 +7,9 @@ ghost use Rattle.sml_syntax.specs.Reading.{name_at, long_at, int_at};
 ghost use Rattle.sml_syntax.specs.Took.{Took};
 
 use crate::fault::CodeFault;
-use crate::name::{LongName, Name};
 use cm_base::{List, Text};
 use cm_bytes::Reader;
+use sml_trees::{LongName, Name};
 use std::alloc::Global;
 
 /// What has bytes of its own, wherever it stands in the code, with at most so many tags in one another.

@@ -6,12 +6,11 @@ ghost use Rattle.sml_syntax.specs.ReadingPat.{pat_steps, pat_table, pat_field_at
 ghost use Rattle.sml_syntax.specs.Took.{Took};
 
 use crate::fault::CodeFault;
-use crate::name::At;
-use crate::pat::{Pat, PatField};
 use crate::read_parts::{deeper, read_byte, read_count, read_int, read_long, read_name, read_text};
 use crate::read_ty::{read_optional_ty, read_ty};
 use cm_base::{Boxed, List};
 use cm_bytes::Reader;
+use sml_trees::{At, Pat, PatField};
 use std::alloc::Global;
 
 /// A pattern of at most so many tags in one another.

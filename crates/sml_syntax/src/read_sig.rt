@@ -6,12 +6,11 @@ ghost use Rattle.sml_syntax.specs.ReadingSig.{sig_steps, sig_table, spec_table, 
 ghost use Rattle.sml_syntax.specs.Took.{Took};
 
 use crate::fault::CodeFault;
-use crate::name::At;
 use crate::read_parts::{deeper, read_byte, read_count, read_list, read_long, read_name};
 use crate::read_ty::read_ty;
-use crate::sig_exp::{SigBind, SigExp, Spec};
 use cm_base::{Boxed, List};
 use cm_bytes::Reader;
+use sml_trees::{At, SigBind, SigExp, Spec};
 use std::alloc::Global;
 
 /// A signature expression of at most so many tags in one another.

@@ -7,11 +7,10 @@ ghost use Rattle.sml_syntax.specs.Took.{Took};
 ghost use Rattle.sml_syntax.specs.Steps.{option_at, option_table};
 
 use crate::fault::CodeFault;
-use crate::name::At;
 use crate::read_parts::{deeper, read_byte, read_count, read_long, read_name};
-use crate::ty::{Ty, TyField};
 use cm_base::{Boxed, List};
 use cm_bytes::Reader;
+use sml_trees::{At, Ty, TyField};
 use std::alloc::Global;
 
 /// A type of at most so many tags in one another.

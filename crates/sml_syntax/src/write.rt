@@ -1,14 +1,14 @@
 //! A unit as its code.
 
-ghost use Rattle.std.specs.Prelude.{◌≡◌, ◌++◌, IfOk, OnOk};
+ghost use Rattle.std.specs.Prelude.{◌≡◌, ◌++◌, IfOk};
 ghost use Rattle.sml_syntax.specs.Code.{code_of};
 
 use crate::parts::{Spelled, write_list, write_tagged_list};
-use crate::unit::{BareUnit, FunBind, FunsigBind, TopDec};
 use crate::write_exp::{write_str, write_str_binds};
 use crate::write_sig::{write_sig, write_sig_binds};
 use cm_base::{NoMemory, Text};
 use cm_bytes::Writer;
+use sml_trees::{BareUnit, FunBind, FunsigBind, TopDec};
 use std::alloc::Global;
 
 impl Spelled for FunBind {

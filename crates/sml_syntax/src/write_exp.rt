@@ -4,15 +4,13 @@ ghost use Rattle.std.specs.Prelude.{◌≡◌, ◌++◌, OnOk};
 ghost use Rattle.cm_bytes.specs.Fields.{list_of};
 ghost use Rattle.sml_syntax.specs.Code.{exp_of, exp_field_of, rule_of, dec_of, str_of, str_bind_of};
 
-use crate::exp::{Dec, Exp, ExpField, Rule, StrBind, StrExp};
-use crate::parts::{
-    Spelled, write_count, write_list, write_replication, write_tagged, write_tagged_list,
-};
+use crate::parts::{Spelled, write_count, write_replication, write_tagged, write_tagged_list};
 use crate::write_pat::write_pat;
 use crate::write_sig::write_sig;
 use crate::write_ty::write_ty;
 use cm_base::NoMemory;
 use cm_bytes::Writer;
+use sml_trees::{Dec, Exp, ExpField, Rule, StrBind, StrExp};
 
 #[cycle(write_exp)]
 #[tactic(auto, using(crate::proofs::Level::exp_spelled))]

@@ -5,10 +5,10 @@ ghost use Rattle.cm_bytes.specs.Fields.{list_of};
 ghost use Rattle.sml_syntax.specs.Code.{pat_of, pat_field_of};
 
 use crate::parts::{Spelled, write_count, write_tagged};
-use crate::pat::{Pat, PatField};
 use crate::write_ty::{write_optional_ty, write_ty};
 use cm_base::NoMemory;
 use cm_bytes::Writer;
+use sml_trees::{Pat, PatField};
 
 #[cycle(write_pat)]
 #[tactic(auto, using(crate::proofs::Level::pat_spelled))]

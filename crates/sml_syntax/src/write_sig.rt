@@ -7,10 +7,10 @@ ghost use Rattle.sml_syntax.specs.Code.{sig_of, spec_of, sig_bind_of};
 use crate::parts::{
     Spelled, write_count, write_list, write_replication, write_tagged, write_tagged_list,
 };
-use crate::sig_exp::{SigBind, SigExp, Spec};
 use crate::write_ty::write_ty;
 use cm_base::NoMemory;
 use cm_bytes::Writer;
+use sml_trees::{SigBind, SigExp, Spec};
 
 #[cycle(write_sig)]
 #[tactic(auto, using(crate::proofs::Level::sig_spelled))]

@@ -4,11 +4,10 @@ ghost use Rattle.std.specs.Prelude.{◌≡◌, ◌++◌, OnOk};
 ghost use Rattle.cm_bytes.specs.Fields.{list_of};
 ghost use Rattle.sml_syntax.specs.Code.{option_of, ty_of, ty_field_of};
 
-use crate::name::{LongName, Name};
 use crate::parts::{Spelled, write_count, write_list, write_tagged};
-use crate::ty::{ConBind, DatBind, ExBind, ExBody, Ty, TyField, TypBind, TypDesc, ValDesc};
 use cm_base::NoMemory;
 use cm_bytes::Writer;
+use sml_trees::{ConBind, DatBind, ExBind, ExBody, Ty, TyField, TypBind, TypDesc, ValDesc};
 
 #[cycle(write_ty)]
 #[tactic(auto, using(crate::proofs::Level::ty_spelled))]

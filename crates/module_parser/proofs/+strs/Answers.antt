@@ -1,13 +1,13 @@
 use Rattle.std.proofs.Common.{◌≡◌, sym, subst, take, length}
 use Rattle.grammars.specs.Reading.{read}
-use Rattle.core_phrases.specs.DecReads.{declared}
-use Rattle.core_phrases.specs.Fixities.{Fixities}
-use Rattle.core_phrases.proofs.Kept.{kept_then}
-use Rattle.module_parser.specs.Joined.{bindings_from}
+use Rattle.core_bindings.specs.Decs.{declared}
+use Rattle.infix_names.specs.Fixities.{Fixities}
+use Rattle.infix_names.proofs.Kept.{kept_then}
+use Rattle.signature_parser.specs.Joined.{bindings_from}
 use Rattle.module_parser.specs.StrLevels.{str_level, str_below}
 use Rattle.module_parser.specs.Structures.{str_bind, str_decs_from, argument, of_str}
-use Rattle.module_parser.proofs.BoundSteps.{binding_kept, binding_stops}
-use Rattle.module_parser.proofs.SigSteps.{as_result, reads_by}
+use Rattle.signature_parser.proofs.BoundSteps.{binding_kept, binding_stops}
+use Rattle.signature_parser.proofs.SigSteps.{as_result, reads_by}
 use Rattle.module_parser.proofs.StrSteps.{as_decs, str_decs_kept, str_decs_stops, argument_go}
 use Rattle.module_parser.proofs.+strs.Goals as goal
 

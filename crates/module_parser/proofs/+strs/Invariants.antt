@@ -1,7 +1,7 @@
 use Rattle.std.proofs.Common.{◌≡◌, ◌+◌, ◌*◌, length, take}
 use Rattle.grammars.specs.Reading.{read}
-use Rattle.core_phrases.specs.DecReads.{declared}
-use Rattle.module_parser.specs.Joined.{bindings_from}
+use Rattle.core_bindings.specs.Decs.{declared}
+use Rattle.signature_parser.specs.Joined.{bindings_from}
 use Rattle.module_parser.specs.StrLevels.{str_level, str_below}
 use Rattle.module_parser.specs.Structures.{str_bind, str_decs_from}
 use Rattle.module_parser.proofs.+strs.Given as goal
@@ -36,6 +36,9 @@ decreases-str_exps::of_decs l = 16 * l.levels + 4
 
 abbrev pub decreases-str_exps::struct_str : goal.decreases-str_exps::struct_str
 decreases-str_exps::struct_str l = 16 * l.levels + 4
+
+abbrev pub decreases-str_exps::lone_str : goal.decreases-str_exps::lone_str
+decreases-str_exps::lone_str l = 16 * l.levels + 3
 
 abbrev pub decreases-str_exps::let_str : goal.decreases-str_exps::let_str
 decreases-str_exps::let_str l = 16 * l.levels + 4

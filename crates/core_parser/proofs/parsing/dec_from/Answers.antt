@@ -1,4 +1,4 @@
-use Rattle.core_parser.specs.Levels.{dec}
+use Rattle.core_expressions.specs.Levels.{dec}
 use Rattle.core_parser.proofs.CursorSteps.{moved_dec}
 use Rattle.core_parser.proofs.parsing.dec_from.Goals as goal
 

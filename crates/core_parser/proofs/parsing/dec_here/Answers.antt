@@ -1,6 +1,6 @@
 use Rattle.std.proofs.Common.{◌-◌, drop}
 use Rattle.core_parser.specs.Cursors.{state}
-use Rattle.core_parser.specs.Levels.{dec}
+use Rattle.core_expressions.specs.Levels.{dec}
 use Rattle.core_parser.proofs.CursorSteps.{answers_dec}
 use Rattle.core_parser.proofs.parsing.dec_here.Goals as goal
 

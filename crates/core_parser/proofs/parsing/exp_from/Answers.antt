@@ -1,4 +1,4 @@
-use Rattle.core_parser.specs.Levels.{exp}
+use Rattle.core_expressions.specs.Levels.{exp}
 use Rattle.core_parser.proofs.CursorSteps.{moved}
 use Rattle.core_parser.proofs.parsing.exp_from.Goals as goal
 

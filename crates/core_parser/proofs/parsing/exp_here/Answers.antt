@@ -1,6 +1,6 @@
 use Rattle.std.proofs.Common.{◌-◌, drop}
 use Rattle.core_parser.specs.Cursors.{state}
-use Rattle.core_parser.specs.Levels.{exp}
+use Rattle.core_expressions.specs.Levels.{exp}
 use Rattle.core_parser.proofs.CursorSteps.{answers, settles_as}
 use Rattle.core_parser.proofs.parsing.exp_here.Goals as goal
 

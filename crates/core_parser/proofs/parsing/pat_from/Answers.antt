@@ -1,4 +1,4 @@
-use Rattle.core_phrases.specs.Patterns.{pat}
+use Rattle.core_patterns.specs.Patterns.{pat}
 use Rattle.core_parser.proofs.CursorSteps.{moved}
 use Rattle.core_parser.proofs.parsing.pat_from.Goals as goal
 

@@ -1,6 +1,6 @@
 use Rattle.std.proofs.Common.{◌-◌, drop}
 use Rattle.core_parser.specs.Cursors.{state}
-use Rattle.core_phrases.specs.Patterns.{pat}
+use Rattle.core_patterns.specs.Patterns.{pat}
 use Rattle.core_parser.proofs.CursorSteps.{answers}
 use Rattle.core_parser.proofs.parsing.pat_here.Goals as goal
 

@@ -1,4 +1,4 @@
-use Rattle.core_phrases.specs.Types.{ty}
+use Rattle.core_types.specs.Types.{ty}
 use Rattle.core_parser.proofs.CursorSteps.{moved}
 use Rattle.core_parser.proofs.parsing.ty_from.Goals as goal
 

@@ -1,6 +1,6 @@
 use Rattle.std.proofs.Common.{◌-◌, drop}
 use Rattle.core_parser.specs.Cursors.{state}
-use Rattle.core_phrases.specs.Types.{ty}
+use Rattle.core_types.specs.Types.{ty}
 use Rattle.core_parser.proofs.CursorSteps.{answers}
 use Rattle.core_parser.proofs.parsing.ty_here.Goals as goal
 

@@ -1,9 +1,9 @@
 use Rattle.std.proofs.Common.{◌≡◌}
 use Rattle.grammars.specs.Reading.{read}
 use Rattle.module_parser.specs.Functors.{fun_bind}
-use Rattle.module_parser.specs.Joined.{bindings_from}
-use Rattle.module_parser.proofs.BoundSteps.{binding_kept, binding_stops}
-use Rattle.module_parser.proofs.SigSteps.{as_result}
+use Rattle.signature_parser.specs.Joined.{bindings_from}
+use Rattle.signature_parser.proofs.BoundSteps.{binding_kept, binding_stops}
+use Rattle.signature_parser.proofs.SigSteps.{as_result}
 use Rattle.module_parser.proofs.functors.fun_binds_from.Goals as goal
 
 pub returns-in_err-next : goal.returns-in_err-next

@@ -1,7 +1,7 @@
 use Rattle.std.proofs.Common.{◌≡◌, length}
 use Rattle.grammars.specs.Reading.{read}
 use Rattle.module_parser.specs.Functors.{fun_bind}
-use Rattle.module_parser.specs.Joined.{bindings_from}
+use Rattle.signature_parser.specs.Joined.{bindings_from}
 use Rattle.module_parser.proofs.functors.fun_binds_from.Given as goal
 
 -- what is left to read goes on from what was found so far

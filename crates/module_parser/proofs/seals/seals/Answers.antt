@@ -1,8 +1,8 @@
 use Rattle.std.proofs.Common.{◌≡◌, ◌-◌, sym}
 use Rattle.grammars.specs.Reading.{read}
-use Rattle.module_parser.specs.SigLevels.{sig_level}
+use Rattle.signature_parser.specs.SigLevels.{sig_level}
 use Rattle.module_parser.specs.Structures.{seals}
-use Rattle.module_parser.proofs.SigSteps.{as_result}
+use Rattle.signature_parser.proofs.SigSteps.{as_result}
 use Rattle.module_parser.proofs.StrSteps.{seals_kept, seals_stops}
 use Rattle.module_parser.proofs.seals.seals.Goals as goal
 

@@ -1,6 +1,6 @@
 use Rattle.std.proofs.Common.{◌≡◌, ◌-◌, length}
 use Rattle.grammars.specs.Reading.{read}
-use Rattle.module_parser.specs.SigLevels.{sig_level}
+use Rattle.signature_parser.specs.SigLevels.{sig_level}
 use Rattle.module_parser.specs.Structures.{seals}
 use Rattle.module_parser.proofs.seals.seals.Given as goal
 

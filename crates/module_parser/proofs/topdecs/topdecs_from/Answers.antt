@@ -1,7 +1,7 @@
 use Rattle.std.proofs.Common.{◌≡◌, sym}
 use Rattle.grammars.specs.Reading.{read}
 use Rattle.module_parser.specs.Units.{topdecs_from}
-use Rattle.module_parser.proofs.SigSteps.{as_result}
+use Rattle.signature_parser.proofs.SigSteps.{as_result}
 use Rattle.module_parser.proofs.TopSteps.{topdecs_kept, topdecs_stops}
 use Rattle.module_parser.proofs.topdecs.topdecs_from.Goals as goal
 

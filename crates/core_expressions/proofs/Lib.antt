@@ -1,0 +1,3 @@
+pub mod DecSteps
+pub mod ExpSteps
+pub mod ValSteps

@@ -1,0 +1,15 @@
+use Rattle.std.proofs.Common.{◌≡◌, ◌≤◌, length}
+use Rattle.grammars.specs.Reading.{read}
+use Rattle.core_types.specs.Types.{applied}
+use Rattle.core_types.proofs.constructors.applied.Given as goal
+
+-- What is left to read goes on from what was applied so far, which fits the limit.
+abbrev pub invariant-loop-alloc : goal.invariant-loop-alloc
+invariant-loop-alloc l = record {
+  reads : read (applied l.levels l.place l.left) l.lexemes.rest.now
+      ≡ read (applied l.levels l.place l.fn.first) l.fn.lexemes.rest.now;
+  low : l.left.height ≤ l.levels;
+}
+
+abbrev pub decreases-loop-alloc : goal.decreases-loop-alloc
+decreases-loop-alloc l = length l.lexemes.rest.now

@@ -1,0 +1,2 @@
+pub mod ExpNodes
+pub mod ExpStarts

@@ -1,0 +1,4 @@
+pub mod FixitySteps
+pub mod FixityTables
+pub mod Kept
+pub mod OperatorLaws

@@ -1,0 +1,3 @@
+pub mod Fixities
+pub mod FixityTables
+pub mod Operators

@@ -1,0 +1,15 @@
+use Rattle.std.proofs.Common.{◌≡◌, length}
+use Rattle.grammars.specs.Reading.{read}
+use Rattle.phrase_reading.specs.Names.{taken_from}
+use Rattle.phrase_reading.specs.Words.{named}
+use Rattle.signature_parser.specs.Joined.{module_name_of}
+use Rattle.signature_parser.proofs.names.module_names_from.Given as goal
+
+-- what is left to read goes on from what was found so far
+abbrev pub invariant-loop-lexemes : goal.invariant-loop-lexemes
+invariant-loop-lexemes l =
+    read (taken_from module_name_of named l.found) l.lexemes.rest.now
+    ≡ read (taken_from module_name_of named l.fn.found) l.fn.lexemes.rest.now
+
+abbrev pub decreases-loop-lexemes : goal.decreases-loop-lexemes
+decreases-loop-lexemes l = length l.lexemes.rest.now
