@@ -1,38 +1,36 @@
-//! Expressions, declarations and structure expressions.
+//! Expressions and declarations of the core.
 
 ghost use Rattle.std.specs.Prelude.{◌≡◌, IfOk, map};
-ghost use Rattle.derived_forms.specs.Expressions as spec;
-ghost use Rattle.derived_forms.specs.Nodes as nodes;
-ghost use Rattle.derived_forms.specs.Nodes.{applied_exp, joined_exp, missing_exp};
-ghost use Rattle.derived_forms.specs.Runs.{run_of};
-ghost use Rattle.derived_forms.specs.Types.{bare_ty};
-ghost use Rattle.sml_syntax.specs.declared.exp.Exp.TheVariants as bare;
+ghost use Rattle.bare_forms.specs.Expressions as spec;
+ghost use Rattle.bare_forms.specs.Nodes as nodes;
+ghost use Rattle.bare_forms.specs.Nodes.{applied_exp, joined_exp, missing_exp};
+ghost use Rattle.bare_forms.specs.Runs.{run_of};
+ghost use Rattle.bare_forms.specs.Types.{bare_ty};
+ghost use Rattle.sml_trees.specs.declared.exp.Exp.TheVariants as bare;
 
-use crate::fun::fun_rule;
-use crate::held::{appended, both, pushed, with};
-use crate::name::{copy_long, copy_name};
-use crate::node::{
-    BareClause, CountedRule, PlacedExp, PlacedStr, and_also, case_exp, constant_exp, continued,
-    handle_exp, if_exp, let_exp, list_exp, named_exp, operand, or_else, raise_exp, run_exp,
-    sequence_exp, tuple_exp, typed_exp, unit_exp, while_exp,
-};
-use crate::part::{
-    clause_of, datatypes_dec, exceptions_dec, first_dec, fun_dec, functor_str, local_dec,
-    opaque_str, open_dec, place_of_exp, place_of_str, replication_dec, str_bind_of, struct_of,
-    structures_dec, transparent_str, types_dec, val_dec, within_str,
-};
-use crate::pat::to_pat;
-use crate::run::operator_of;
+use crate::part::{clause_of, datatypes_dec, exceptions_dec, place_of_exp, types_dec};
+use bare_forms::held::{appended, both, pushed, with};
+use bare_forms::name::copy_name;
+use bare_forms::placed::{BareClause, CountedRule, PlacedExp};
+use bare_forms::run::operator_of;
 use cm_base::{List, NoMemory};
-use sml_syntax::{
+use expression_nodes::fun::fun_rule;
+use expression_nodes::node::{
+    and_also, case_exp, constant_exp, continued, handle_exp, if_exp, let_exp, list_exp, named_exp,
+    operand, or_else, raise_exp, run_exp, sequence_exp, tuple_exp, typed_exp, unit_exp, while_exp,
+};
+use expression_nodes::part::{fun_dec, local_dec, open_dec, replication_dec, val_dec};
+use phrase_forms::pat::to_pat;
+use phrase_forms::ty::to_ty;
+use sml_trees::{
     At, Dec, Exp, ExpField, FullClause, FullDec, FullExp, FullExpField, FullExpItem, FullFunBind,
-    FullRule, FullStrBind, FullStrExp, FullTy, FullValBind, Rule, StrBind, StrExp,
+    FullRule, FullTy, FullValBind, Rule,
 };
 use std::alloc::Global;
 
 /// An expression without derived forms.
 #[cycle(to_exp)]
-#[tactic(auto, using(crate::proofs::ExpLevels::exp_forms))]
+#[tactic(auto, using(bare_forms::proofs::ExpLevels::exp_forms))]
 fn to_exp(alloc: Global, exp: &FullExp) -> Result<Exp, NoMemory>
     ensures { IfOk result (λ made. made ≡ (spec.bare_exp exp.now).exp) }
 {
@@ -72,7 +70,7 @@ fn to_exp(alloc: Global, exp: &FullExp) -> Result<Exp, NoMemory>
 
 /// An expression with its place.
 #[cycle(to_exp)]
-#[tactic(auto, using(crate::proofs::ExpLevels::exp_whole))]
+#[tactic(auto, using(bare_forms::proofs::ExpLevels::exp_whole))]
 fn to_placed(alloc: Global, exp: &FullExp) -> Result<PlacedExp, NoMemory>
     ensures { IfOk result (λ made. made ≡ spec.bare_exp exp.now) }
 {
@@ -132,7 +130,8 @@ fn to_let(alloc: Global, at: At, exps: &[FullExp], dec: Dec) -> Result<Exp, NoMe
 fn to_typed(alloc: Global, at: At, inner: &FullExp, ty: &FullTy) -> Result<Exp, NoMemory>
     ensures { IfOk result (λ made. made ≡ bare.Typed (spec.bare_exp inner.now).exp (bare_ty ty.now) at) }
 {
-    typed_exp(alloc, at, to_exp(alloc, inner)?, ty)
+    let (inner, ty) = both(to_exp(alloc, inner)?, to_ty(alloc, ty))?;
+    typed_exp(alloc, at, inner, ty)
 }
 
 /// `first andalso second`, of which the second is still as it is written; and so below.
@@ -212,7 +211,7 @@ fn to_record(alloc: Global, at: At, fields: &[FullExpField]) -> Result<Exp, NoMe
 
 /// A field of a record.
 #[cycle(to_exp)]
-#[tactic(auto, using(crate::proofs::ExpLevels::field_form))]
+#[tactic(auto, using(bare_forms::proofs::ExpLevels::field_form))]
 fn to_field(alloc: Global, field: &FullExpField) -> Result<ExpField, NoMemory>
     ensures { IfOk result (λ made. made ≡ spec.bare_field field.now) }
 {
@@ -268,7 +267,7 @@ fn to_rules(alloc: Global, rules: &[FullRule]) -> Result<List<Rule>, NoMemory>
 }
 
 #[cycle(to_exp)]
-#[tactic(auto, using(crate::proofs::ExpLevels::rule_form))]
+#[tactic(auto, using(bare_forms::proofs::ExpLevels::rule_form))]
 fn to_rule(alloc: Global, rule: &FullRule) -> Result<Rule, NoMemory>
     ensures { IfOk result (λ made. made ≡ spec.bare_rule rule.now) }
 {
@@ -291,7 +290,7 @@ fn to_clauses(alloc: Global, clauses: &[FullClause]) -> Result<Vec<BareClause>, 
 }
 
 #[cycle(to_exp)]
-#[tactic(auto, using(crate::proofs::ExpLevels::clause_form))]
+#[tactic(auto, using(bare_forms::proofs::ExpLevels::clause_form))]
 fn to_clause(alloc: Global, clause: &FullClause) -> Result<BareClause, NoMemory>
     ensures { IfOk result (λ made. made ≡ spec.bare_clause clause.now) }
 {
@@ -314,7 +313,7 @@ fn to_fun_binds(alloc: Global, binds: &[FullFunBind]) -> Result<List<Rule>, NoMe
 
 /// A function of a `fun`.
 #[cycle(to_exp)]
-#[tactic(auto, using(crate::proofs::ExpLevels::fun_bind_form))]
+#[tactic(auto, using(bare_forms::proofs::ExpLevels::fun_bind_form))]
 fn to_fun_bind(alloc: Global, bind: &FullFunBind) -> Result<Rule, NoMemory>
     ensures { IfOk result (λ made. made ≡ spec.bare_fun_bind bind.now) }
 {
@@ -337,7 +336,7 @@ fn to_val_binds(alloc: Global, binds: &[FullValBind]) -> Result<Vec<CountedRule>
 
 /// A binding of a `val`.
 #[cycle(to_exp)]
-#[tactic(auto, using(crate::proofs::ExpLevels::val_bind_form))]
+#[tactic(auto, using(bare_forms::proofs::ExpLevels::val_bind_form))]
 fn to_val_bind(alloc: Global, bind: &FullValBind) -> Result<CountedRule, NoMemory>
     ensures { IfOk result (λ made. made ≡ spec.bare_val_bind bind.now) }
 {
@@ -352,7 +351,7 @@ fn to_val_bind(alloc: Global, bind: &FullValBind) -> Result<CountedRule, NoMemor
 
 /// Declarations one after another.
 #[cycle(to_exp)]
-pub fn to_sequence(alloc: Global, at: At, decs: &[FullDec]) -> Result<Dec, NoMemory>
+fn to_sequence(alloc: Global, at: At, decs: &[FullDec]) -> Result<Dec, NoMemory>
     ensures { IfOk result (λ made. made ≡ spec.sequence_dec at (map spec.bare_dec decs.now)) }
 {
     let mut made = Vec::new(alloc);
@@ -365,8 +364,8 @@ pub fn to_sequence(alloc: Global, at: At, decs: &[FullDec]) -> Result<Dec, NoMem
 
 /// What a declaration becomes, none or one.
 #[cycle(to_exp)]
-#[tactic(auto, using(crate::proofs::ExpLevels::dec_forms))]
-fn to_dec(alloc: Global, dec: &FullDec) -> Result<List<Dec>, NoMemory>
+#[tactic(auto, using(bare_forms::proofs::ExpLevels::dec_forms))]
+pub fn to_dec(alloc: Global, dec: &FullDec) -> Result<List<Dec>, NoMemory>
     ensures { IfOk result (λ made. made ≡ (spec.bare_dec dec.now).decs) }
 {
     match dec {
@@ -399,63 +398,5 @@ fn to_dec(alloc: Global, dec: &FullDec) -> Result<List<Dec>, NoMemory>
         FullDec::Infix(_, _, _) => Ok(List::new(alloc)),
         FullDec::Infixr(_, _, _) => Ok(List::new(alloc)),
         FullDec::Nonfix(_, _) => Ok(List::new(alloc)),
-        FullDec::Structures(binds, at) => {
-            structures_dec(alloc, *at, to_str_binds(alloc, binds.as_slice())?)
-        }
     }
-}
-
-/// A structure expression without derived forms.
-#[cycle(to_exp)]
-#[tactic(auto, using(crate::proofs::ExpLevels::str_forms))]
-pub fn to_str(alloc: Global, str: &FullStrExp) -> Result<StrExp, NoMemory>
-    ensures { IfOk result (λ made. made ≡ (spec.bare_str str.now).str) }
-{
-    match str {
-        FullStrExp::Struct(decs, at) => {
-            struct_of(alloc, *at, to_sequence(alloc, *at, decs.as_slice())?)
-        }
-        FullStrExp::Named(long, at) => Ok(StrExp::Named(copy_long(alloc, long)?, *at)),
-        FullStrExp::Transparent(inner, sig, at) => {
-            transparent_str(alloc, *at, to_str(alloc, inner.get())?, sig)
-        }
-        FullStrExp::Opaque(inner, sig, at) => {
-            opaque_str(alloc, *at, to_str(alloc, inner.get())?, sig)
-        }
-        FullStrExp::Functor(name, arg, at) => {
-            functor_str(alloc, *at, name, to_str(alloc, arg.get())?)
-        }
-        FullStrExp::FunctorOfDecs(name, decs, at) => {
-            let begin = first_dec(*at, decs.as_slice());
-            let arg = struct_of(alloc, begin, to_sequence(alloc, begin, decs.as_slice())?)?;
-            functor_str(alloc, *at, name, arg)
-        }
-        FullStrExp::Within(decs, inner, at) => {
-            let dec = to_sequence(alloc, *at, decs.as_slice())?;
-            let (dec, body) = both(dec, to_str(alloc, inner.get()))?;
-            within_str(alloc, *at, dec, body)
-        }
-    }
-}
-
-#[cycle(to_exp)]
-pub fn to_str_binds(alloc: Global, binds: &[FullStrBind]) -> Result<List<StrBind>, NoMemory>
-    ensures { IfOk result (λ made. made ≡ map spec.bare_str_bind binds.now) }
-{
-    let mut made = List::new(alloc);
-    for bind in binds {
-        let (before, bind) = both(made, to_str_bind(alloc, bind))?;
-        made = with(before, bind)?;
-    }
-    Ok(made)
-}
-
-#[cycle(to_exp)]
-#[tactic(auto, using(crate::proofs::ExpLevels::str_bind_form))]
-fn to_str_bind(alloc: Global, bind: &FullStrBind) -> Result<StrBind, NoMemory>
-    ensures { IfOk result (λ made. made ≡ spec.bare_str_bind bind.now) }
-{
-    let str = to_str(alloc, &bind.body)?;
-    let at = place_of_str(&bind.body);
-    str_bind_of(alloc, &bind.name, &bind.seal, PlacedStr { at, str })
 }

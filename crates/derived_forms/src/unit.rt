@@ -1,21 +1,20 @@
 //! Whole units.
 
-ghost use Rattle.std.specs.Prelude.{◌≡◌, ◌∷◌, [], IfOk};
-ghost use Rattle.derived_forms.specs.Expressions.{sealed, bare_str};
-ghost use Rattle.derived_forms.specs.Patterns.{long_at};
-ghost use Rattle.derived_forms.specs.Units as spec;
-ghost use Rattle.sml_syntax.specs.declared.exp.Dec.TheVariants as dec;
-ghost use Rattle.sml_syntax.specs.declared.full_unit.FullParam.TheVariants as full;
+ghost use Rattle.std.specs.Prelude.{◌≡◌, ◌∷◌, [], IfOk, map};
+ghost use Rattle.bare_forms.specs.Patterns.{long_at};
+ghost use Rattle.bare_forms.specs.Structures as strs;
+ghost use Rattle.bare_forms.specs.Units as spec;
+ghost use Rattle.sml_trees.specs.declared.exp.Dec.TheVariants as dec;
+ghost use Rattle.sml_trees.specs.declared.full_unit.FullParam.TheVariants as full;
 
-use crate::bare::{Full, to_list};
-use crate::exp::{to_str, to_str_binds};
-use crate::held::{both, one};
-use crate::name::{copy_name, long_of_text};
-use crate::node::PlacedStr;
-use crate::part::{place_of_str, sealed, within_str};
-use crate::sig::{sig_of, to_sig, to_sig_binds, to_specs};
-use cm_base::{NoMemory, Text};
-use sml_syntax::{
+use crate::str_exp::{place_of_str, sealed, to_str, to_str_binds};
+use bare_forms::held::{both, one, with};
+use bare_forms::name::{copy_name, long_of_text};
+use bare_forms::placed::PlacedStr;
+use cm_base::{List, NoMemory, Text};
+use expression_nodes::part::within_str;
+use phrase_forms::sig::{sig_of, to_sig, to_sig_binds, to_specs};
+use sml_trees::{
     At, BareUnit, Dec, FullFunctorBind, FullFunsigBind, FullParam, FullSigExp, FullSpec,
     FullTopDec, FullUnit, FunBind, FunsigBind, Name, SigExp, StrExp, TopDec,
 };
@@ -32,7 +31,7 @@ fn open_param(alloc: Global, at: At) -> Result<Dec, NoMemory>
 
 /// The body of a functor with the signature that it is given.
 fn body_of(alloc: Global, bind: &FullFunctorBind) -> Result<StrExp, NoMemory>
-    ensures { IfOk result (λ made. made ≡ sealed bind.now.seal (bare_str bind.now.body)) }
+    ensures { IfOk result (λ made. made ≡ strs.sealed bind.now.seal (strs.bare_str bind.now.body)) }
 {
     let at = place_of_str(&bind.body);
     let str = to_str(alloc, &bind.body)?;
@@ -42,7 +41,7 @@ fn body_of(alloc: Global, bind: &FullFunctorBind) -> Result<StrExp, NoMemory>
 /// `let open %S in body end`
 fn opened_body(alloc: Global, bind: &FullFunctorBind) -> Result<StrExp, NoMemory>
     ensures { IfOk result (λ made. made ≡
-        spec.opening (bare_str bind.now.body).at (sealed bind.now.seal (bare_str bind.now.body))) }
+        spec.opening (strs.bare_str bind.now.body).at (strs.sealed bind.now.seal (strs.bare_str bind.now.body))) }
 {
     let at = place_of_str(&bind.body);
     let (open, body) = both(open_param(alloc, at)?, body_of(alloc, bind))?;
@@ -100,69 +99,90 @@ fn specified(
     })
 }
 
-impl Full for FullFunctorBind {
-    type Bare = FunBind;
+/// A functor without derived forms.
+fn to_functor(alloc: Global, bind: &FullFunctorBind) -> Result<FunBind, NoMemory>
+    ensures { IfOk result (λ made. made ≡ spec.bare_functor bind.now) }
+{
+    match &bind.param {
+        FullParam::Named(name, sig) => named(alloc, bind, name, sig),
+        FullParam::Spec(specs, at) => specified(alloc, bind, specs.as_slice(), *at),
+    }
+}
 
-    ghost use Rattle.derived_forms.specs.Units.{bare_functor};
+fn to_functors(alloc: Global, binds: &[FullFunctorBind]) -> Result<List<FunBind>, NoMemory>
+    ensures { IfOk result (λ made. made ≡ map spec.bare_functor binds.now) }
+{
+    let mut made = List::new(alloc);
+    for bind in binds {
+        let (before, bind) = both(made, to_functor(alloc, bind))?;
+        made = with(before, bind)?;
+    }
+    Ok(made)
+}
 
-    ghost bare = { bare_functor };
+/// A signature of a functor without derived forms.
+fn to_funsig(alloc: Global, bind: &FullFunsigBind) -> Result<FunsigBind, NoMemory>
+    ensures { IfOk result (λ made. made ≡ spec.bare_funsig bind.now) }
+{
+    let name = copy_name(&bind.name)?;
+    let param = copy_name(&bind.param)?;
+    let param_sig = to_sig(alloc, &bind.param_sig)?;
+    let (param_sig, result_sig) = both(param_sig, to_sig(alloc, &bind.result_sig))?;
+    Ok(FunsigBind {
+        name,
+        param,
+        param_sig,
+        result_sig,
+    })
+}
 
-    fn to_bare(&self, alloc: Global) -> Result<FunBind, NoMemory> {
-        match &self.param {
-            FullParam::Named(name, sig) => named(alloc, self, name, sig),
-            FullParam::Spec(specs, at) => specified(alloc, self, specs.as_slice(), *at),
+fn to_funsigs(alloc: Global, binds: &[FullFunsigBind]) -> Result<List<FunsigBind>, NoMemory>
+    ensures { IfOk result (λ made. made ≡ map spec.bare_funsig binds.now) }
+{
+    let mut made = List::new(alloc);
+    for bind in binds {
+        let (before, bind) = both(made, to_funsig(alloc, bind))?;
+        made = with(before, bind)?;
+    }
+    Ok(made)
+}
+
+/// A declaration of the top level without derived forms.
+fn to_topdec(alloc: Global, topdec: &FullTopDec) -> Result<TopDec, NoMemory>
+    ensures { IfOk result (λ made. made ≡ spec.bare_topdec topdec.now) }
+{
+    match topdec {
+        FullTopDec::Structures(binds, at) => {
+            Ok(TopDec::Structures(to_str_binds(alloc, binds.as_slice())?, *at))
+        }
+        FullTopDec::Signatures(binds, at) => {
+            Ok(TopDec::Signatures(to_sig_binds(alloc, binds.as_slice())?, *at))
+        }
+        FullTopDec::Functors(binds, at) => {
+            Ok(TopDec::Functors(to_functors(alloc, binds.as_slice())?, *at))
+        }
+        FullTopDec::Funsigs(binds, at) => {
+            Ok(TopDec::Funsigs(to_funsigs(alloc, binds.as_slice())?, *at))
         }
     }
 }
 
-impl Full for FullFunsigBind {
-    type Bare = FunsigBind;
-
-    ghost use Rattle.derived_forms.specs.Units.{bare_funsig};
-
-    ghost bare = { bare_funsig };
-
-    fn to_bare(&self, alloc: Global) -> Result<FunsigBind, NoMemory> {
-        let name = copy_name(&self.name)?;
-        let param = copy_name(&self.param)?;
-        let param_sig = to_sig(alloc, &self.param_sig)?;
-        let (param_sig, result_sig) = both(param_sig, to_sig(alloc, &self.result_sig))?;
-        Ok(FunsigBind {
-            name,
-            param,
-            param_sig,
-            result_sig,
-        })
+fn to_topdecs(alloc: Global, topdecs: &[FullTopDec]) -> Result<List<TopDec>, NoMemory>
+    ensures { IfOk result (λ made. made ≡ map spec.bare_topdec topdecs.now) }
+{
+    let mut made = List::new(alloc);
+    for topdec in topdecs {
+        let (before, topdec) = both(made, to_topdec(alloc, topdec))?;
+        made = with(before, topdec)?;
     }
-}
-
-impl Full for FullTopDec {
-    type Bare = TopDec;
-
-    ghost use Rattle.derived_forms.specs.Units.{bare_topdec};
-
-    ghost bare = { bare_topdec };
-
-    fn to_bare(&self, alloc: Global) -> Result<TopDec, NoMemory> {
-        match self {
-            FullTopDec::Structures(binds, at) => {
-                Ok(TopDec::Structures(to_str_binds(alloc, binds.as_slice())?, *at))
-            }
-            FullTopDec::Signatures(binds, at) => {
-                Ok(TopDec::Signatures(to_sig_binds(alloc, binds.as_slice())?, *at))
-            }
-            FullTopDec::Functors(binds, at) => Ok(TopDec::Functors(to_list(alloc, binds)?, *at)),
-            FullTopDec::Funsigs(binds, at) => Ok(TopDec::Funsigs(to_list(alloc, binds)?, *at)),
-        }
-    }
+    Ok(made)
 }
 
 /// A unit without derived forms.
 pub fn to_unit(alloc: Global, unit: &FullUnit) -> Result<BareUnit, NoMemory>
     ensures { IfOk result (λ made. made ≡ spec.bare_of unit.now) }
 {
-    Ok(BareUnit {
-        file: unit.file.copy()?,
-        topdecs: to_list(alloc, &unit.topdecs)?,
-    })
+    let topdecs = to_topdecs(alloc, unit.topdecs.as_slice())?;
+    let (topdecs, file) = both(topdecs, unit.file.copy())?;
+    Ok(BareUnit { file, topdecs })
 }

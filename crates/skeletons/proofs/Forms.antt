@@ -1,14 +1,14 @@
 -- What the forms of declarations and structure expressions with several parts use and bring.
 use Rattle.std.proofs.Common.{◌≡◌, ◌∙◌, sym, ap}
 use Rattle.cm_base.specs.declared.record.Namespace.TheVariants as space
-use Rattle.sml_syntax.specs.declared.name.At.{At}
-use Rattle.sml_syntax.specs.declared.name.Name.{Name}
-use Rattle.sml_syntax.specs.declared.exp.Dec.{Dec}
-use Rattle.sml_syntax.specs.declared.exp.Dec.TheOpen.{Dec-F, StrExp-F}
-use Rattle.sml_syntax.specs.declared.exp.Dec.TheFolds.{fold-roll-Dec, fold-roll-StrExp}
-use Rattle.sml_syntax.specs.declared.exp.Dec.TheVariants as dec
-use Rattle.sml_syntax.specs.declared.exp.StrExp.{StrExp}
-use Rattle.sml_syntax.specs.declared.exp.StrExp.TheVariants as str
+use Rattle.sml_trees.specs.declared.name.At.{At}
+use Rattle.sml_trees.specs.declared.name.Name.{Name}
+use Rattle.sml_trees.specs.declared.exp.Dec.{Dec}
+use Rattle.sml_trees.specs.declared.exp.Dec.TheOpen.{Dec-F, StrExp-F}
+use Rattle.sml_trees.specs.declared.exp.Dec.TheFolds.{fold-roll-Dec, fold-roll-StrExp}
+use Rattle.sml_trees.specs.declared.exp.Dec.TheVariants as dec
+use Rattle.sml_trees.specs.declared.exp.StrExp.{StrExp}
+use Rattle.sml_trees.specs.declared.exp.StrExp.TheVariants as str
 use Rattle.skeletons.specs.Scopes.{hiding, within, both, name_use}
 use Rattle.skeletons.specs.Uses.{dec_brings, str_uses, dec_level, exp_level, str_level, exp_field_level, rule_level, str_bind_level}
 

@@ -7,8 +7,8 @@ use Rattle.cm_base.specs.declared.record.Namespace.TheVariants as space
 use Rattle.cm_base.specs.declared.record.ModName.{ModName}
 use Rattle.cm_base.specs.declared.record.Need.{Need}
 use Rattle.cm_base.specs.contracts.record.ModNamePartialEq.TheImpl as equality
-use Rattle.sml_syntax.specs.declared.name.Name.{Name}
-use Rattle.sml_syntax.specs.declared.name.LongName.{LongName}
+use Rattle.sml_trees.specs.declared.name.Name.{Name}
+use Rattle.sml_trees.specs.declared.name.LongName.{LongName}
 
 -- two module names of one name space and one text
 abbrev pub same_name : ModName → ModName → Bool

@@ -10,13 +10,13 @@ use Rattle.cm_base.specs.declared.record.ModName.{ModName}
 use Rattle.cm_base.specs.declared.record.Spot.{Spot}
 use Rattle.cm_base.specs.declared.record.Need.{Need}
 use Rattle.cm_base.specs.declared.record.Skeleton.{Skeleton}
-use Rattle.sml_syntax.specs.declared.name.Name.{Name}
-use Rattle.sml_syntax.specs.declared.sig_exp.SigBind.{SigBind}
-use Rattle.sml_syntax.specs.declared.unit.TopDec.{TopDec}
-use Rattle.sml_syntax.specs.declared.unit.TopDec.TheVariants as top
-use Rattle.sml_syntax.specs.declared.unit.FunBind.{FunBind}
-use Rattle.sml_syntax.specs.declared.unit.FunsigBind.{FunsigBind}
-use Rattle.sml_syntax.specs.declared.unit.BareUnit.{BareUnit}
+use Rattle.sml_trees.specs.declared.name.Name.{Name}
+use Rattle.sml_trees.specs.declared.sig_exp.SigBind.{SigBind}
+use Rattle.sml_trees.specs.declared.unit.TopDec.{TopDec}
+use Rattle.sml_trees.specs.declared.unit.TopDec.TheVariants as top
+use Rattle.sml_trees.specs.declared.unit.FunBind.{FunBind}
+use Rattle.sml_trees.specs.declared.unit.FunsigBind.{FunsigBind}
+use Rattle.sml_trees.specs.declared.unit.BareUnit.{BareUnit}
 use Rattle.skeletons.specs.declared.places.Position.{Position}
 use Rattle.skeletons.specs.Scopes.{same_name, both, under, Brings, sequence_uses, Binding, joined, module_name, no_scope}
 use Rattle.skeletons.specs.Uses.{sig_uses, str_uses, str_binding}

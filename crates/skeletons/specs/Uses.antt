@@ -2,34 +2,34 @@
 -- (The Definition of Standard ML (Revised), figures 5 to 8 for the forms.)
 use Rattle.std.specs.Prelude.{Option, Some, None, map}
 use Rattle.cm_base.specs.declared.record.Namespace.TheVariants as space
-use Rattle.sml_syntax.specs.declared.ty.Ty.{Ty}
-use Rattle.sml_syntax.specs.declared.ty.Ty.TheOpen.{Ty-F, TyField-F}
-use Rattle.sml_syntax.specs.declared.ty.Ty.TheFolds.{fold-Ty, fold-TyField}
-use Rattle.sml_syntax.specs.declared.ty.TyField.{TyField}
-use Rattle.sml_syntax.specs.declared.ty.TypBind.{TypBind}
-use Rattle.sml_syntax.specs.declared.ty.ConBind.{ConBind}
-use Rattle.sml_syntax.specs.declared.ty.DatBind.{DatBind}
-use Rattle.sml_syntax.specs.declared.ty.ExBind.{ExBind}
-use Rattle.sml_syntax.specs.declared.ty.ExBody.{ExBody}
-use Rattle.sml_syntax.specs.declared.ty.ExBody.TheVariants as exn
-use Rattle.sml_syntax.specs.declared.ty.ValDesc.{ValDesc}
-use Rattle.sml_syntax.specs.declared.pat.Pat.{Pat}
-use Rattle.sml_syntax.specs.declared.pat.Pat.TheOpen.{Pat-F, PatField-F}
-use Rattle.sml_syntax.specs.declared.pat.Pat.TheFolds.{fold-Pat, fold-PatField}
-use Rattle.sml_syntax.specs.declared.pat.PatField.{PatField}
-use Rattle.sml_syntax.specs.declared.sig_exp.SigExp.{SigExp}
-use Rattle.sml_syntax.specs.declared.sig_exp.SigExp.TheOpen.{SigExp-F, Spec-F, SigBind-F}
-use Rattle.sml_syntax.specs.declared.sig_exp.SigExp.TheFolds.{fold-SigExp, fold-Spec, fold-SigBind}
-use Rattle.sml_syntax.specs.declared.sig_exp.Spec.{Spec}
-use Rattle.sml_syntax.specs.declared.sig_exp.SigBind.{SigBind}
-use Rattle.sml_syntax.specs.declared.exp.Dec.{Dec}
-use Rattle.sml_syntax.specs.declared.exp.Dec.TheOpen.{Dec-F, Exp-F, StrExp-F, ExpField-F, Rule-F, StrBind-F}
-use Rattle.sml_syntax.specs.declared.exp.Dec.TheFolds.{fold-Dec, fold-Exp, fold-StrExp, fold-ExpField, fold-Rule, fold-StrBind}
-use Rattle.sml_syntax.specs.declared.exp.Exp.{Exp}
-use Rattle.sml_syntax.specs.declared.exp.StrExp.{StrExp}
-use Rattle.sml_syntax.specs.declared.exp.ExpField.{ExpField}
-use Rattle.sml_syntax.specs.declared.exp.Rule.{Rule}
-use Rattle.sml_syntax.specs.declared.exp.StrBind.{StrBind}
+use Rattle.sml_trees.specs.declared.ty.Ty.{Ty}
+use Rattle.sml_trees.specs.declared.ty.Ty.TheOpen.{Ty-F, TyField-F}
+use Rattle.sml_trees.specs.declared.ty.Ty.TheFolds.{fold-Ty, fold-TyField}
+use Rattle.sml_trees.specs.declared.ty.TyField.{TyField}
+use Rattle.sml_trees.specs.declared.ty.TypBind.{TypBind}
+use Rattle.sml_trees.specs.declared.ty.ConBind.{ConBind}
+use Rattle.sml_trees.specs.declared.ty.DatBind.{DatBind}
+use Rattle.sml_trees.specs.declared.ty.ExBind.{ExBind}
+use Rattle.sml_trees.specs.declared.ty.ExBody.{ExBody}
+use Rattle.sml_trees.specs.declared.ty.ExBody.TheVariants as exn
+use Rattle.sml_trees.specs.declared.ty.ValDesc.{ValDesc}
+use Rattle.sml_trees.specs.declared.pat.Pat.{Pat}
+use Rattle.sml_trees.specs.declared.pat.Pat.TheOpen.{Pat-F, PatField-F}
+use Rattle.sml_trees.specs.declared.pat.Pat.TheFolds.{fold-Pat, fold-PatField}
+use Rattle.sml_trees.specs.declared.pat.PatField.{PatField}
+use Rattle.sml_trees.specs.declared.sig_exp.SigExp.{SigExp}
+use Rattle.sml_trees.specs.declared.sig_exp.SigExp.TheOpen.{SigExp-F, Spec-F, SigBind-F}
+use Rattle.sml_trees.specs.declared.sig_exp.SigExp.TheFolds.{fold-SigExp, fold-Spec, fold-SigBind}
+use Rattle.sml_trees.specs.declared.sig_exp.Spec.{Spec}
+use Rattle.sml_trees.specs.declared.sig_exp.SigBind.{SigBind}
+use Rattle.sml_trees.specs.declared.exp.Dec.{Dec}
+use Rattle.sml_trees.specs.declared.exp.Dec.TheOpen.{Dec-F, Exp-F, StrExp-F, ExpField-F, Rule-F, StrBind-F}
+use Rattle.sml_trees.specs.declared.exp.Dec.TheFolds.{fold-Dec, fold-Exp, fold-StrExp, fold-ExpField, fold-Rule, fold-StrBind}
+use Rattle.sml_trees.specs.declared.exp.Exp.{Exp}
+use Rattle.sml_trees.specs.declared.exp.StrExp.{StrExp}
+use Rattle.sml_trees.specs.declared.exp.ExpField.{ExpField}
+use Rattle.sml_trees.specs.declared.exp.Rule.{Rule}
+use Rattle.sml_trees.specs.declared.exp.StrBind.{StrBind}
 use Rattle.skeletons.specs.Scopes.{Uses, no_use, structure_use, qualifier_use, name_use, both, all_uses, Brings, plain, opening, within, hiding, sequence, Binding, joined, module_name}
 
 -- ---- types

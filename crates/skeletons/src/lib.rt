@@ -15,6 +15,3 @@ mod walk_ty;
 mod walk_unit;
 
 pub use unit_skeleton::skeleton;
-
-#[cfg(test)]
-mod tests;

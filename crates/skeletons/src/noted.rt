@@ -6,7 +6,7 @@ ghost use Rattle.skeletons.specs.Walks.{noted};
 
 use crate::walk::Walk;
 use cm_base::{List, NoMemory};
-use sml_syntax::LongName;
+use sml_trees::LongName;
 
 /// A part whose uses a walk notes, and which binds nothing.
 pub(crate) trait Noted {

@@ -11,7 +11,7 @@ use crate::walk::{Walk, module_name};
 use crate::walk_unit::walk_topdecs;
 use cm_base::{List, ModName, Namespace, Need, NoMemory, Skeleton, Spot};
 use indexmap::IndexSet;
-use sml_syntax::{BareUnit, FunBind, FunsigBind, Name, SigBind, StrBind, TopDec};
+use sml_trees::{BareUnit, FunBind, FunsigBind, Name, SigBind, StrBind, TopDec};
 use std::alloc::Global;
 
 /// Adds a name of a name space at its place.
@@ -27,7 +27,7 @@ fn add_spot(found: &mut List<Spot>, space: Namespace, name: &Name) -> Result<(),
 
 /// What is bound under a name at the top level.
 trait Bound {
-    ghost use Rattle.sml_syntax.specs.declared.name.Name.{Name};
+    ghost use Rattle.sml_trees.specs.declared.name.Name.{Name};
 
     ghost bound: { Self → Name };
 

@@ -7,7 +7,7 @@ ghost use Rattle.skeletons.specs.Walks.{noted, declared, closed, bound, shut};
 use crate::names::Names;
 use crate::noted::note_all;
 use cm_base::{List, ModName, Namespace, Need, NoMemory, Spot, Text};
-use sml_syntax::{LongName, Name};
+use sml_trees::{LongName, Name};
 use std::alloc::Global;
 
 /// A walk: the names that are bound, whether an `open` or an `include` is in scope, and the free uses so far.

@@ -11,7 +11,7 @@ use crate::walk_pat::walk_pat;
 use crate::walk_sig::walk_sig;
 use crate::walk_ty::walk_ty;
 use cm_base::{Namespace, NoMemory};
-use sml_syntax::{Dec, Exp, ExpField, Rule, StrBind, StrExp};
+use sml_trees::{Dec, Exp, ExpField, Rule, StrBind, StrExp};
 
 #[cycle(walk_exp)]
 #[tactic(auto, using(crate::proofs::Chains::chains))]

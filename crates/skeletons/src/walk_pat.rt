@@ -8,7 +8,7 @@ ghost use Rattle.skeletons.specs.Walks.{noted};
 use crate::walk::Walk;
 use crate::walk_ty::{walk_option, walk_ty};
 use cm_base::NoMemory;
-use sml_syntax::{Pat, PatField};
+use sml_trees::{Pat, PatField};
 
 #[cycle(walk_pat)]
 #[tactic(auto, using(crate::proofs::Chains::chains))]

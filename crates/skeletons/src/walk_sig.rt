@@ -9,7 +9,7 @@ use crate::noted::note_all;
 use crate::walk::Walk;
 use crate::walk_ty::walk_ty;
 use cm_base::{Namespace, NoMemory};
-use sml_syntax::{SigBind, SigExp, Spec};
+use sml_trees::{SigBind, SigExp, Spec};
 
 #[cycle(walk_sig)]
 #[tactic(auto, using(crate::proofs::Chains::chains))]

@@ -8,7 +8,7 @@ ghost use Rattle.skeletons.specs.Walks.{noted};
 use crate::noted::{Noted, note_all};
 use crate::walk::Walk;
 use cm_base::NoMemory;
-use sml_syntax::{ConBind, DatBind, ExBind, ExBody, Ty, TyField, TypBind, ValDesc};
+use sml_trees::{ConBind, DatBind, ExBind, ExBody, Ty, TyField, TypBind, ValDesc};
 
 #[cycle(walk_ty)]
 #[tactic(auto, using(crate::proofs::Chains::chains))]

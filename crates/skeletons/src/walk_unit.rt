@@ -9,7 +9,7 @@ use crate::walk::Walk;
 use crate::walk_exp::{walk_str, walk_str_binds};
 use crate::walk_sig::walk_sig;
 use cm_base::{Namespace, NoMemory};
-use sml_syntax::{FunBind, FunsigBind, SigBind, TopDec};
+use sml_trees::{FunBind, FunsigBind, SigBind, TopDec};
 
 fn walk_sigs(walk: &mut Walk, binds: &[SigBind]) -> Result<(), NoMemory>
     ensures { OnOk result (walk.new ≡ noted walk.old ((joined (map sig_bound binds.now)).uses)) }

@@ -3,8 +3,8 @@ use Rattle.std.proofs.Common.{ℕ, List, Result, Ok, Err, ap, ◌∙◌}
 use Rattle.cm_base.specs.Calls.{Gives}
 use Rattle.cm_base.specs.declared.fault.Fault.{Fault}
 use Rattle.cm_base.specs.declared.fault.Fault.TheVariants as fault
-use Rattle.sml_syntax.specs.declared.full_unit.FullUnit.{FullUnit}
-use Rattle.sml_syntax.specs.declared.unit.BareUnit.{BareUnit}
+use Rattle.sml_trees.specs.declared.full_unit.FullUnit.{FullUnit}
+use Rattle.sml_trees.specs.declared.unit.BareUnit.{BareUnit}
 use Rattle.module_parser.specs.Answers.{AnswersUnit}
 use Rattle.module_parser.proofs.UnitLaws.{parses}
 use Rattle.derived_forms.specs.Bare.{bare_unit, Answers}

@@ -3,7 +3,7 @@ use Rattle.std.proofs.Common.{◌≡◌, ℕ, ◌+◌, ◌-◌, ◌*◌, ◌^◌
 use Rattle.std.proofs.Math.Seq.{drop-cons}
 use Rattle.std.proofs.Math.Nat.{pow-le-pow_right}
 use Rattle.std.proofs.lemmas.Grind.{pow_more}
-use Rattle.cm_base.specs.Derived.{is_digit}
+use Rattle.cm_base.specs.ByteClasses.{is_digit}
 use Rattle.sml_compiler.specs.FirstForm.{number_from}
 
 -- the rest of a text is its next byte and what is after that

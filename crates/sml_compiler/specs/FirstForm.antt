@@ -3,7 +3,7 @@
 use Rattle.std.specs.Prelude.{ℕ, ◌+◌, ◌-◌, ◌*◌, ◌≤◌, nat_le, ◌==◌, ◌&&◌, Bool, false, List, [], ◌∷◌, length, Option, Some, None, slice_get, if◌then◌else◌, codes}
 use Rattle.std.specs.List.{before_first, after_first}
 use Rattle.plain_words.specs.declared.PlacedWord.{PlacedWord}
-use Rattle.cm_base.specs.Derived.{is_digit}
+use Rattle.cm_base.specs.ByteClasses.{is_digit}
 use Rattle.sml_compiler.specs.Identifiers.{is_same, is_structure_name, is_value_name}
 use Rattle.sml_compiler.specs.declared.binding.LongName.{LongName}
 use Rattle.sml_compiler.specs.declared.binding.Bound.{Bound}

@@ -3,8 +3,8 @@
 use Rattle.std.specs.Prelude.{ℕ, List, Result, Ok, Err}
 use Rattle.cm_base.specs.declared.diag.Diag.{Diag}
 use Rattle.cm_base.specs.declared.record.Skeleton.{Skeleton}
-use Rattle.sml_syntax.specs.declared.full_unit.FullUnit.{FullUnit}
-use Rattle.sml_syntax.specs.declared.unit.BareUnit.{BareUnit}
+use Rattle.sml_trees.specs.declared.full_unit.FullUnit.{FullUnit}
+use Rattle.sml_trees.specs.declared.unit.BareUnit.{BareUnit}
 use Rattle.module_parser.specs.Parsing.{parsed_unit}
 use Rattle.derived_forms.specs.Bare.{bare_unit}
 use Rattle.skeletons.specs.Skeletons.{skeleton_of}

@@ -3,7 +3,7 @@
 use Rattle.std.specs.Prelude.{ℕ, nat_le, nat_eq, ◌==◌, ◌&&◌, ◌||◌, Bool, false, not, List, [], ◌∷◌, length, codes}
 use Rattle.std.specs.List.{list_all, list_any}
 use lib.Pointwise.{pointwise}
-use Rattle.cm_base.specs.Derived.{is_letter, is_digit}
+use Rattle.cm_base.specs.ByteClasses.{is_letter, is_digit}
 
 -- whether two texts have the same bytes
 abbrev pub is_same : List ℕ → List ℕ → Bool

@@ -58,9 +58,7 @@ impl Compiler for SmlCompiler {
     ghost use Rattle.sml_compiler.specs.Compiled.{compiled_of};
     ghost use Rattle.sml_compiler.specs.Front.{skeleton_definition};
 
-    ghost skel = { skeleton_definition };
-
-    ghost compiled = { compiled_of };
+    ghost defines = { record { skel = skeleton_definition; compiled = compiled_of } };
 
     ghost asked = { λ compiler. compiler.asked_units };
 

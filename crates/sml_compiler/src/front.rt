@@ -8,7 +8,7 @@ ghost use Rattle.sml_compiler.specs.Front.{bare_definition, skeleton_definition}
 use cm_base::{CompileFault, Fault, List, Need, NoMemory, Skeleton, Spot, Text};
 use derived_forms::to_bare;
 use module_parser::parse_unit;
-use sml_syntax::BareUnit;
+use sml_trees::BareUnit;
 use std::alloc::Global;
 
 /// The greatest number of names in a list of a skeleton.

@@ -2,7 +2,7 @@
 
 ghost use Rattle.std.specs.Prelude.{◌≡◌, ◌≤◌, IsTrue};
 ghost use Rattle.std.specs.List.{list_any, list_all};
-ghost use Rattle.cm_base.specs.Derived.{is_letter, is_digit};
+ghost use Rattle.cm_base.specs.ByteClasses.{is_letter, is_digit};
 ghost use Rattle.sml_compiler.specs.Identifiers.{is_same, is_part, is_alphanumeric, is_one_of, is_structure_name, is_value_name, reserved_words, basis_words};
 
 fn is_letter(byte: u8) -> bool

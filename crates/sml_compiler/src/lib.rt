@@ -13,6 +13,3 @@ pub mod laws;
 
 pub use binding::{Binding, Bound, LongName};
 pub use compiler::SmlCompiler;
-
-#[cfg(test)]
-mod tests;

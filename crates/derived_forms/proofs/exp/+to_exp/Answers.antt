@@ -1,11 +1,11 @@
 use Rattle.std.proofs.Common.{◌≡◌, IfOk, refl, subst, ◌∙◌, arith}
 use Rattle.std.proofs.lemmas.Grind.{common_steps}
-use Rattle.derived_forms.specs.declared.node.PlacedExp.{PlacedExp}
-use Rattle.derived_forms.specs.Nodes.{joined_exp, applied_exp, missing_exp}
-use Rattle.derived_forms.specs.Expressions.{bare_item}
-use Rattle.derived_forms.proofs.Bound.{atom_step, operator_step, run_end}
-use Rattle.derived_forms.proofs.Pairs.{pair_first, pair_second, pushed_is}
-use Rattle.derived_forms.proofs.ExpLevels.{bare_item-Atom, bare_item-Operator}
+use Rattle.bare_forms.specs.declared.placed.PlacedExp.{PlacedExp}
+use Rattle.bare_forms.specs.Nodes.{joined_exp, applied_exp, missing_exp}
+use Rattle.bare_forms.specs.Expressions.{bare_item}
+use Rattle.bare_forms.proofs.Bound.{atom_step, operator_step, run_end}
+use Rattle.bare_forms.proofs.Pairs.{pair_first, pair_second, pushed_is}
+use Rattle.bare_forms.proofs.ExpLevels.{bare_item-Atom, bare_item-Operator}
 use Rattle.derived_forms.proofs.exp.+to_exp.Goals as goal
 use Rattle.derived_forms.proofs.exp.+to_exp.Goals.{to_run-in-Atom+in_ok-run-in-Atom+in_ok-run-in-Atom-2, to_run-in-Operator+in_ok-run-in-Operator+in_ok-before-in-Operator}
 

@@ -1,7 +1,7 @@
 use Rattle.std.proofs.Common.{◌≡◌, ◌++◌, drop, map, flat_map}
-use Rattle.derived_forms.specs.Nodes.{joined_exp, applied_exp, missing_exp}
-use Rattle.derived_forms.specs.Expressions.{decs_of, bare_dec, bare_exp, bare_item, bare_clause, bare_field, bare_fun_bind, bare_rule, bare_str_bind, bare_val_bind}
-use Rattle.derived_forms.specs.Runs.{run_from, run_of}
+use Rattle.bare_forms.specs.Nodes.{joined_exp, applied_exp, missing_exp}
+use Rattle.bare_forms.specs.Expressions.{decs_of, bare_dec, bare_exp, bare_item, bare_clause, bare_field, bare_fun_bind, bare_rule, bare_val_bind}
+use Rattle.bare_forms.specs.Runs.{run_from, run_of}
 use Rattle.derived_forms.proofs.exp.+to_exp.Given as goal
 
 -- in each loop: what is made, and the items that are left
@@ -24,9 +24,6 @@ invariant-to_fun_binds-loop-bind l = l.made ++ map bare_fun_bind (drop l.bind-in
 abbrev pub invariant-to_val_binds-loop-bind : goal.invariant-to_val_binds-loop-bind
 invariant-to_val_binds-loop-bind l =
     l.made.items ++ map bare_val_bind (drop l.bind-index l.binds) ≡ map bare_val_bind l.binds
-
-abbrev pub invariant-to_str_binds-loop-bind : goal.invariant-to_str_binds-loop-bind
-invariant-to_str_binds-loop-bind l = l.made ++ map bare_str_bind (drop l.bind-index l.binds) ≡ map bare_str_bind l.binds
 
 abbrev pub invariant-to_sequence-loop-dec : goal.invariant-to_sequence-loop-dec
 invariant-to_sequence-loop-dec l =

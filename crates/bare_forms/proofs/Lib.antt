@@ -1,0 +1,9 @@
+pub mod Bound
+pub mod ExpLevels
+pub mod Levels
+pub mod Pairs
+pub mod PatLevels
+pub mod RunFusion
+pub mod RunLaws
+pub mod SigLevels
+pub mod StrLevels

@@ -1,0 +1,10 @@
+pub mod Expressions
+pub mod Nodes
+pub mod Patterns
+pub mod RunTrees
+pub mod RunValues
+pub mod Runs
+pub mod Signatures
+pub mod Structures
+pub mod Types
+pub mod Units

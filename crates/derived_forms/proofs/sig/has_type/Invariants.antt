@@ -1,7 +1,0 @@
-use Rattle.std.proofs.Common.{◌≡◌, drop}
-use Rattle.derived_forms.specs.Signatures.{has_type}
-use Rattle.derived_forms.proofs.sig.has_type.Given as goal
-
--- none so far
-abbrev pub invariant-loop-desc : goal.invariant-loop-desc
-invariant-loop-desc l = has_type (drop l.desc-index l.descs) ≡ has_type l.descs

@@ -1,8 +1,0 @@
-use Rattle.std.proofs.Common.{◌≡◌, ◌++◌, drop, map}
-use Rattle.derived_forms.specs.Signatures.{other_include}
-use Rattle.derived_forms.proofs.sig.includes.Given as goal
-
--- what is made, and the names that are left
-abbrev pub invariant-loop-name : goal.invariant-loop-name
-invariant-loop-name l =
-    l.made ++ map other_include (drop l.name-index l.others) ≡ l.initial.made ++ map other_include l.others

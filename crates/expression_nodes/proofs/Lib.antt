@@ -1,0 +1,3 @@
+pub mod Args
+pub mod Lists
+pub mod Split

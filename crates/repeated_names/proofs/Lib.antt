@@ -1,0 +1,5 @@
+pub mod Earliest
+pub mod Found
+pub mod FoundDecs
+pub mod FoundSigs
+pub mod FoundStrs

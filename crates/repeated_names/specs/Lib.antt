@@ -1,0 +1,5 @@
+pub mod Finding
+pub mod RepeatedDecs
+pub mod RepeatedTypes
+pub mod RepeatedUnits
+pub mod Repeats

@@ -1,0 +1,9 @@
+pub mod ExpHeights
+pub mod HeightLists
+pub mod Highest
+pub mod NodeForms
+pub mod PatHeights
+pub mod SigHeights
+pub mod StrHeights
+pub mod TyHeights
+pub mod UnitHeights
