@@ -1,1 +1,4 @@
+mod Earlier
+mod Exact
+mod Programs
 pub mod Spelled

@@ -1,91 +1,45 @@
 -- A linked program is read again from its bytes, whatever follows, so no file is a front of another; and the
 -- linked program of short units can be spelled.
-use Rattle.std.proofs.Common.{◌≡◌, ℕ, ◌+◌, ◌^◌, ◌<◌, List, [], ◌∷◌, ◌++◌, length, map, All, Option, Some, None, Bool, true, false, cond, refl, append_assoc, arith, nat_eq}
+use Rattle.std.proofs.Common.{◌≡◌, ℕ, ◌+◌, ◌^◌, ◌<◌, List, [], ◌∷◌, ◌++◌, length, map, All, Option, Some, None, Bool, true, false, cond, arith, nat_eq}
 use Rattle.std.specs.Option.{option_or, unwrap_or}
 use lib.Pointwise.{pointwise}
 use Rattle.std.proofs.lemmas.List.{length-map}
 use Rattle.std.proofs.lemmas.List.Elements.{All-nil, All-cons, All-head, All-tail}
 use Rattle.cm_base.specs.declared.record.Import.{Import}
 use Rattle.cm_base.specs.declared.record.BuiltUnit.{BuiltUnit}
-use Rattle.cm_base.specs.declared.record.Namespace.{Namespace}
-use Rattle.cm_base.specs.declared.record.Namespace.TheVariants as space
-use Rattle.cm_bytes.specs.Fields.{space_byte, IsReadAgain, u32_of, text_of, list_of}
+use Rattle.cm_bytes.specs.Fields.{IsReadAgain}
 use Rattle.cm_bytes.proofs.Fields as fields
 use Rattle.linker.specs.declared.program.LinkedImport.{LinkedImport}
 use Rattle.linker.specs.declared.program.LinkedUnit.{LinkedUnit}
 use Rattle.linker.specs.declared.program.Linked.{Linked}
-use Rattle.linker.specs.Linked.{link_of, place_from, import_at, unit_at, IsShortBuilt}
-use Rattle.linker.specs.Reading.{space_of, space_at, linked_import_at, linked_unit_at, linked_at}
-use Rattle.linker.specs.Spelling.{linked_import_of, linked_unit_of, linked_file, IsShortImport, IsShortUnit, HasSmallPlaces, CanBeSpelled}
+use Rattle.linker.specs.Linked.{link_of, place_from, import_at, with_places, IsShortBuilt}
+use Rattle.linker.specs.Reading.{linked_at}
+use Rattle.linker.proofs.Exact.{FitsImport, FitsLinkedUnit, linked_exact}
+use Rattle.linker.specs.Spelling.{linked_file, IsShortImport, IsShortUnit, HasSmallPlaces, CanBeSpelled}
 
--- the byte of a name space is read as it
-space_of_byte : (s : Namespace) → space_of (space_byte s) ≡ Some s
-space_of_byte space.Structure = refl
-space_of_byte space.Signature = refl
-space_of_byte space.Functor = refl
-space_of_byte space.Funsig = refl
+-- ---- what can be spelled fits
 
--- a name space is read again
-space_again : (s : Namespace) (rest : List ℕ) → space_at (space_byte s ∷ rest) ≡ Some (s, rest)
-unfolding space_at
-space_again s rest = rw (fields.byte_again (space_byte s) rest, space_of_byte s) refl
+-- short imports with small places fit
+pub imports_fit : (imports : List LinkedImport) → All IsShortImport imports → All (λ i. i.from < 2 ^ 32) imports
+    → All FitsImport imports
+imports_fit [] short small = All-nil FitsImport
+imports_fit (i ∷ is) short small =
+    All-cons FitsImport i is
+    (tt, ((All-head IsShortImport i is short).name, All-head (λ (j : LinkedImport). j.from < 2 ^ 32) i is small))
+    (imports_fit is (All-tail IsShortImport i is short) (All-tail (λ (j : LinkedImport). j.from < 2 ^ 32) i is small))
 
--- an import is read again
-import_again : (i : LinkedImport) → IsShortImport i → i.from < 2 ^ 32 → IsReadAgain linked_import_of linked_import_at i
-unfolding linked_import_of linked_import_at
-import_again i short small = record {
-  again = λ rest.
-      let name = fields.text_again i.name.name (u32_of i.from ++ rest) short.name in
-      let from = fields.u32_again i.from rest small in
-      rw (space_again i.name.space _, append_assoc (text_of i.name.name) (u32_of i.from) rest, name, from) refl;
-}
-
--- short imports with small places are read again
-imports_again : (imports : List LinkedImport) → All IsShortImport imports → All (λ i. i.from < 2 ^ 32) imports
-    → All (IsReadAgain linked_import_of linked_import_at) imports
-imports_again [] short small = All-nil (IsReadAgain linked_import_of linked_import_at)
-imports_again (i ∷ is) short small =
-    All-cons (IsReadAgain linked_import_of linked_import_at) i is
-    (import_again i (All-head IsShortImport i is short) (All-head (λ j. j.from < 2 ^ 32) i is small))
-    (imports_again is (All-tail IsShortImport i is short) (All-tail (λ j. j.from < 2 ^ 32) i is small))
-
--- a unit is read again
-unit_again : (u : LinkedUnit) → IsShortUnit u → HasSmallPlaces u → IsReadAgain linked_unit_of linked_unit_at u
-unfolding linked_unit_of linked_unit_at
-unit_again u short small = record {
-  again = λ rest.
-      let each = imports_again u.imports short.each small.each in
-      let name = text_of u.unit in
-      let imports = list_of linked_import_of u.imports in
-      let code = text_of u.code in
-      let name_is = fields.text_again u.unit (imports ++ (code ++ rest)) short.name in
-      let imports_are =
-      fields.list_again linked_import_of linked_import_at u.imports (code ++ rest) each short.imports in
-      let code_is = fields.text_again u.code rest short.code in
-      rw (append_assoc name (imports ++ code) rest, append_assoc imports code rest) (
-      rw (name_is, imports_are, code_is) refl);
-}
-
--- short units with small places are read again
-units_again : (units : List LinkedUnit) → All IsShortUnit units → All HasSmallPlaces units
-    → All (IsReadAgain linked_unit_of linked_unit_at) units
-units_again [] short small = All-nil (IsReadAgain linked_unit_of linked_unit_at)
-units_again (u ∷ us) short small =
-    All-cons (IsReadAgain linked_unit_of linked_unit_at) u us
-    (unit_again u (All-head IsShortUnit u us short) (All-head HasSmallPlaces u us small))
-    (units_again us (All-tail IsShortUnit u us short) (All-tail HasSmallPlaces u us small))
+-- short units with small places fit
+units_fit : (units : List LinkedUnit) → All IsShortUnit units → All HasSmallPlaces units → All FitsLinkedUnit units
+units_fit [] short small = All-nil FitsLinkedUnit
+units_fit (u ∷ us) short small =
+    let h = All-head IsShortUnit u us short in
+    let k = All-head HasSmallPlaces u us small in
+    All-cons FitsLinkedUnit u us (h.name, ((h.imports, imports_fit u.imports h.each k.each), h.code))
+    (units_fit us (All-tail IsShortUnit u us short) (All-tail HasSmallPlaces u us small))
 
 -- a linked program is read again
 pub linked_again : (l : Linked) → CanBeSpelled l → IsReadAgain linked_file linked_at l
-unfolding linked_file linked_at
-linked_again l can = record {
-  again = λ rest.
-      let each = units_again l.units can.short.each can.places in
-      let units = list_of linked_unit_of l.units in
-      let mark = fields.raw_again (67 ∷ 77 ∷ 76 ∷ 49 ∷ []) (units ++ rest) in
-      let units_are = fields.list_again linked_unit_of linked_unit_at l.units rest each can.short.units in
-      rw (mark, units_are) refl;
-}
+linked_again l can = linked_exact.again l (can.short.units, units_fit l.units can.short.each can.places)
 
 -- no file of a linked program is a front of another, and no two programs have one file
 pub no_front : (a b : Linked) (more : List ℕ) → CanBeSpelled a → CanBeSpelled b
@@ -131,7 +85,7 @@ imports_small place (i ∷ is) h =
     (h i.provider) (imports_small place is h)
 
 -- a short unit, linked
-unit_short : (place : List ℕ → Option ℕ) (u : BuiltUnit) → IsShortBuilt u → IsShortUnit (unit_at place u)
+unit_short : (place : List ℕ → Option ℕ) (u : BuiltUnit) → IsShortBuilt u → IsShortUnit (with_places place u)
 unit_short place u h = record {
   name = h.name;
   imports = omega (arith, h.imports, length-map u.imports (import_at place));
@@ -141,19 +95,19 @@ unit_short place u h = record {
 
 -- short units, linked
 units_short : (place : List ℕ → Option ℕ) (units : List BuiltUnit) → All IsShortBuilt units
-    → All IsShortUnit (map (unit_at place) units)
+    → All IsShortUnit (map (with_places place) units)
 units_short place [] h = All-nil IsShortUnit
 units_short place (u ∷ us) h =
-    All-cons IsShortUnit (unit_at place u) (map (unit_at place) us)
+    All-cons IsShortUnit (with_places place u) (map (with_places place) us)
     (unit_short place u (All-head IsShortBuilt u us h))
     (units_short place us (All-tail IsShortBuilt u us h))
 
 -- units have small places where all places are small
 units_small : (place : List ℕ → Option ℕ) (units : List BuiltUnit) → ((q : List ℕ) → unwrap_or (place q) 0 < 2 ^ 32)
-    → All HasSmallPlaces (map (unit_at place) units)
+    → All HasSmallPlaces (map (with_places place) units)
 units_small place [] h = All-nil HasSmallPlaces
 units_small place (u ∷ us) h =
-    All-cons HasSmallPlaces (unit_at place u) (map (unit_at place) us)
+    All-cons HasSmallPlaces (with_places place u) (map (with_places place) us)
     (record { each = imports_small place u.imports h }) (units_small place us h)
 
 -- the linked program of short units can be spelled
@@ -162,7 +116,7 @@ pub links_spelled : (units : List BuiltUnit) → length units < 2 ^ 32 → All I
 unfolding link_of
 links_spelled units lt h = record {
   short = record {
-    units = omega (arith, lt, length-map units (unit_at (place_from 0 units)));
+    units = omega (arith, lt, length-map units (with_places (place_from 0 units)));
     each = units_short (place_from 0 units) units h;
   };
   places = units_small (place_from 0 units) units (λ q. place_below 0 units q (2 ^ 32) (omega (arith, lt)));

@@ -21,12 +21,12 @@ abbrev pub import_at : (List ℕ → Option ℕ) → Import → LinkedImport
 import_at place import = record { name = import.name; from = unwrap_or (place import.provider) 0 }
 
 -- a unit with the places of the units that it imports from
-abbrev pub unit_at : (List ℕ → Option ℕ) → BuiltUnit → LinkedUnit
-unit_at place unit = record { unit = unit.unit; imports = map (import_at place) unit.imports; code = unit.code }
+abbrev pub with_places : (List ℕ → Option ℕ) → BuiltUnit → LinkedUnit
+with_places place unit = record { unit = unit.unit; imports = map (import_at place) unit.imports; code = unit.code }
 
 -- the units, linked
 unfoldable pub link_of : List BuiltUnit → Linked
-link_of units = record { units = map (unit_at (place_from 0 units)) units }
+link_of units = record { units = map (with_places (place_from 0 units)) units }
 
 -- the bytes of the linked program
 abbrev pub linked_program : List BuiltUnit → List ℕ

@@ -2,7 +2,7 @@
 
 ghost use Rattle.std.specs.Prelude.{◌≡◌, ◌<◌, ◌^◌, IfOk, length, map, nat_eq};
 ghost use Rattle.indexmap.specs.IndexMap.{get};
-ghost use Rattle.linker.specs.Linked.{link_of, import_at, unit_at, place_from, IsPlaces};
+ghost use Rattle.linker.specs.Linked.{link_of, import_at, with_places, place_from, IsPlaces};
 ghost use lib.Pointwise.{pointwise};
 
 use crate::program::{Linked, LinkedImport, LinkedUnit};
@@ -55,7 +55,7 @@ fn link_unit(
     table: &IndexMap<Text, u32>,
     unit: &BuiltUnit,
 ) -> Result<LinkedUnit, NoMemory>
-    ensures { IfOk result (λ linked. linked ≡ unit_at (get (pointwise nat_eq) table.now) unit.now) }
+    ensures { IfOk result (λ linked. linked ≡ with_places (get (pointwise nat_eq) table.now) unit.now) }
 {
     Ok(LinkedUnit {
         unit: unit.unit.copy()?,
@@ -70,7 +70,7 @@ fn link_units(
     table: &IndexMap<Text, u32>,
     units: &[BuiltUnit],
 ) -> Result<List<LinkedUnit>, NoMemory>
-    ensures { IfOk result (λ linked. linked ≡ map (unit_at (get (pointwise nat_eq) table.now)) units.now) }
+    ensures { IfOk result (λ linked. linked ≡ map (with_places (get (pointwise nat_eq) table.now)) units.now) }
 {
     let mut linked = Vec::new(alloc);
     for unit in units {
