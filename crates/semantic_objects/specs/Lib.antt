@@ -1,0 +1,10 @@
+pub mod Symbols
+pub mod Trees
+pub mod Codes
+pub mod Nodes
+pub mod Adding
+pub mod Parts
+pub mod Fields
+pub mod Tables
+pub mod Environments
+pub mod Promises
