@@ -1,6 +1,6 @@
 -- The tables beside the list of the anchors: what stands in them, so that a path's place among the anchors'
 -- directories is found by its fronts.
-use Rattle.std.specs.Prelude.{ℕ, ◌≡◌, ◌==◌, ◌&&◌, ◌||◌, Bool, nat_eq, List, slice_index, take}
+use Rattle.std.specs.Prelude.{ℕ, ◌≡◌, ◌==◌, ◌&&◌, ◌||◌, Bool, true, nat_eq, List, length, slice_index, take}
 use Rattle.std.specs.List.{list_any}
 use Rattle.path_anchors.specs.Names.{Bindings, parts_of, begins_with}
 use lib.Pointwise.{pointwise}
@@ -8,6 +8,10 @@ use lib.Pointwise.{pointwise}
 -- whether a path is in a table
 abbrev pub holds : List (List ℕ) → List ℕ → Bool
 holds table path = list_any (pointwise nat_eq path) table
+
+-- each path in a table has one of these lengths
+abbrev pub HasLengths : List (List ℕ) → List ℕ → Type 0
+HasLengths table lengths = (path : List ℕ) → holds table path ≡ true → list_any (nat_eq (length path)) lengths ≡ true
 
 -- a table has one path more
 abbrev pub Adds : List (List ℕ) → List (List ℕ) → List ℕ → Type 0

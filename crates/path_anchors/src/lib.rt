@@ -19,6 +19,3 @@ pub use line::BoundLine;
 pub use naming::{folder_path, resolve};
 pub use pathconfig::read_pathconfig;
 pub use route::Route;
-
-#[cfg(test)]
-mod tests;

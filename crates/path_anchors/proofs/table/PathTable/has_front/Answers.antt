@@ -13,4 +13,4 @@ loop-at-preserved c =
     c.has_before.ensures c.loop-at.invariant
 
 pub returns : goal.returns
-returns c = c.has.ensures ∙ seeking-end c.args.self.now c.args.path.now c.loop-at.at (omega arith) c.loop-at.invariant
+returns c = c.has_quickly.ensures ∙ seeking-end c.args.self.now c.args.path.now c.loop-at.at (omega arith) c.loop-at.invariant

@@ -88,6 +88,17 @@ fn read_front<F: Read>(alloc: Global, file: &mut F, most: usize) -> Result<Vec<u
     Err(FolderFault::Failed)
 }
 
+/// Whether a file stands at a path, by what a link there leads to. A directory, a pipe and whatever else is no file
+/// are a failure, so that no pipe is waited for.
+fn is_file<R: Files>(rt: &R, path: &str) -> Result<bool, FolderFault> {
+    match fs::metadata(rt, path) {
+        Ok(data) if data.is_file() => Ok(true),
+        Ok(_) => Err(FolderFault::Failed),
+        Err(error) if is_missing(&error) => Ok(false),
+        Err(error) => Err(fault_of(&error)),
+    }
+}
+
 /// The first bytes of the file at a path, up to so many; none where nothing stands there.
 fn read_path<R: Files>(
     rt: &R,
@@ -97,6 +108,9 @@ fn read_path<R: Files>(
 ) -> Result<Option<Vec<u8>>, FolderFault>
     ensures { IfOk result (λ found. IfSome found (λ bytes. length bytes.items ≤ most)) }
 {
+    if !is_file(rt, path)? {
+        return Ok(None);
+    }
     match fs::open(rt, path) {
         Ok(mut file) => Ok(Some(read_front(alloc, &mut file, most)?)),
         Err(error) if is_missing(&error) => Ok(None),
@@ -104,8 +118,8 @@ fn read_path<R: Files>(
     }
 }
 
-/// Replaces the file at a path, below directories that are made where they are missing.
-fn write_path<R: Files>(rt: &R, path: &str, bytes: &[u8]) -> io::Result<()> {
+/// Writes all bytes to a new file at a path, below directories that are made where they are missing.
+fn create_path<R: Files>(rt: &R, path: &str, bytes: &[u8]) -> io::Result<()> {
     if let Some((parent, _)) = path.rsplit_once('/') {
         fs::create_dir_all(rt, parent)?;
     }
@@ -114,8 +128,22 @@ fn write_path<R: Files>(rt: &R, path: &str, bytes: &[u8]) -> io::Result<()> {
     file.flush()
 }
 
+/// Replaces the file at a path. Any failure may come after the work was begun, so it is never want of memory.
+fn write_path<R: Files>(rt: &R, path: &str, bytes: &[u8]) -> Result<(), FolderFault> {
+    if is_file(rt, path).is_err() {
+        return Err(FolderFault::Failed);
+    }
+    match create_path(rt, path, bytes) {
+        Ok(()) => Ok(()),
+        Err(_) => Err(FolderFault::Failed),
+    }
+}
+
 /// Takes the file at a path away, if there is one.
 fn remove_path<R: Files>(rt: &R, path: &str) -> Result<(), FolderFault> {
+    if is_file(rt, path).is_err() {
+        return Err(FolderFault::Failed);
+    }
     match fs::remove_file(rt, path) {
         Ok(()) => Ok(()),
         Err(error) if is_missing(&error) => Ok(()),
@@ -152,10 +180,7 @@ impl<R: Files + AllocGlobal + Clone + Drop> RealFolder<R> {
     /// Replaces a file.
     fn put(&self, alloc: Global, path: &Text, bytes: &[u8]) -> Result<(), FolderFault> {
         let whole = path_below(alloc, &self.top, path)?;
-        match write_path(&self.rt, whole.as_str(), bytes) {
-            Ok(()) => Ok(()),
-            Err(_) => Err(FolderFault::Failed),
-        }
+        write_path(&self.rt, whole.as_str(), bytes)
     }
 
     /// Takes a file away, if it is there.
