@@ -4,7 +4,7 @@ use Rattle.std.specs.List.{prefix_len, list_all, flat_map}
 use Rattle.std.specs.Fmt.{signed_decimal}
 use Rattle.std.specs.Cmp.Lexicographic.{same_text}
 use Rattle.std.proofs.lemmas.Grind.{flat_map-append}
-use Rattle.cm_base.specs.Derived.{is_letter, is_digit, is_identifier_byte}
+use Rattle.cm_base.specs.ByteClasses.{is_letter, is_digit, is_identifier_byte}
 use Rattle.cm_base.specs.declared.record.ModName.{ModName}
 use Rattle.cm_base.specs.declared.record.Namespace.{Namespace}
 use Rattle.cm_base.specs.declared.record.Namespace.TheVariants as space

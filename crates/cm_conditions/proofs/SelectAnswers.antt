@@ -9,7 +9,8 @@ use Rattle.cm_base.specs.declared.fault.Fault.{Fault}
 use Rattle.cm_base.specs.declared.fault.Fault.TheVariants as fault
 use Rattle.cm_base.specs.declared.record.Def.{Def}
 use Rattle.cm_base.specs.declared.record.ModName.{ModName}
-use Rattle.cm_conditions.specs.Chosen.{◌>>=◌, selected, Selects}
+use Rattle.cm_base.specs.Diags.{◌>>=◌}
+use Rattle.cm_conditions.specs.Chosen.{selected, Selects}
 use Rattle.cm_conditions.specs.Nesting.{Part, Branches, IsNested, line, lines_of, branch_lines}
 use Rattle.cm_conditions.specs.Splitting.{Tail, tail_lines, closers_of, closers_before, Split, split, with_line, split_of, prepend, ended}
 use Rattle.cm_conditions.specs.Tables.{AreOf, table_def, table_module, by_tables}

@@ -2,7 +2,8 @@
 -- any lines behind it.
 use Rattle.std.proofs.Common.{◌≡◌, ℕ, Bool, true, false, not, ◌&&◌, List, [], ◌∷◌, ◌++◌, Option, Some, None, Result, Ok, Err, refl, ap, sym, ◌∙◌, append_assoc, append-nil, ℤ}
 use Rattle.cm_base.specs.declared.diag.Diag.{Diag}
-use Rattle.cm_conditions.specs.Chosen.{◌>>=◌, is_taken, chosen, branches_chosen}
+use Rattle.cm_base.specs.Diags.{◌>>=◌}
+use Rattle.cm_conditions.specs.Chosen.{is_taken, chosen, branches_chosen}
 use Rattle.cm_conditions.specs.Nesting.{Part, Branches, lines_of, branch_lines}
 use Rattle.cm_conditions.specs.Taking.{branch, state, last_before, popped, closed_by, after_all}
 use Rattle.cm_conditions.specs.declared.cond.Cond.{Cond}

@@ -6,7 +6,7 @@ use Rattle.std.proofs.lemmas.List.Folds.{list_all-append}
 use Rattle.std.proofs.lemmas.Bool.Decides.{nat_tests}
 use Rattle.std.proofs.lemmas.Fmt.{decimal_by_steps}
 use Rattle.std.proofs.Math.Seq.{take-append_seam, drop-append_seam}
-use Rattle.cm_base.specs.Derived.{is_letter, is_digit, is_identifier_byte}
+use Rattle.cm_base.specs.ByteClasses.{is_letter, is_digit, is_identifier_byte}
 use Rattle.cm_base.specs.declared.record.Namespace.{Namespace}
 use Rattle.cm_base.specs.declared.record.Namespace.TheVariants as space
 use Rattle.cm_conditions.specs.Lexemes.{is_space, number_from, number_lexeme, more_of, lexeme_at, lexemes_of}

@@ -3,7 +3,8 @@
 use Rattle.std.proofs.Common.{◌≡◌, ℕ, ◌+◌, Bool, true, false, List, [], ◌∷◌, ◌++◌, Result, Ok, Err, refl, ap, ap₂, sym, subst, ◌∙◌, append_assoc, append-nil, length, length-append, take, drop, ℤ, Option, arith}
 use Rattle.cm_base.specs.declared.diag.Diag.{Diag}
 use Rattle.cm_base.specs.declared.diag.Place.{Place}
-use Rattle.cm_conditions.specs.Chosen.{◌>>=◌, chosen, selected}
+use Rattle.cm_base.specs.Diags.{◌>>=◌}
+use Rattle.cm_conditions.specs.Chosen.{chosen, selected}
 use Rattle.cm_conditions.specs.Nesting.{Part, Branches, line, lines_of, branch_lines, IsClosed, Ends, IsNested}
 use Rattle.cm_conditions.specs.Splitting.{Tail, tail_lines, Split, split, prepend, turned_by, opened_by, with_line, split_of, ended}
 use Rattle.cm_conditions.specs.Taking.{branch, state, start, after_all, items_of}

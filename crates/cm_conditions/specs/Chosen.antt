@@ -1,6 +1,7 @@
 -- The items that the conditions of a list choose, or its first refusal, by recursion on the tree of its directives.
 use Rattle.std.specs.Prelude.{ℕ, Bool, true, false, not, ◌&&◌, Option, None, Some, Result, Ok, Err, List, [], ◌∷◌, ◌++◌, if◌then◌else◌, ℤ}
 use Rattle.cm_base.specs.Calls.{Gives}
+use Rattle.cm_base.specs.Diags.{◌>>=◌}
 use Rattle.cm_base.specs.declared.diag.Diag.{Diag}
 use Rattle.cm_base.specs.declared.diag.Place.{Place}
 use Rattle.cm_base.specs.declared.fault.Fault.{Fault}
@@ -10,12 +11,6 @@ use Rattle.cm_conditions.specs.Nesting.{Part, Branches, IsNested}
 use Rattle.cm_conditions.specs.Values.{condition_value, holds, bad_condition}
 use Rattle.cm_conditions.specs.declared.cond.Cond.{Cond}
 use Rattle.cm_conditions.specs.declared.line.Line.{Line}
-
-infixl 10 ◌>>=◌
--- goes on with a value, and else keeps the refusal
-abbrev pub ◌>>=◌ : {A B : Type 0} → Result A Diag → (A → Result B Diag) → Result B Diag
-Err diag >>= f = Err diag
-Ok x >>= f = f x
 
 -- the refusal of an `#error`
 abbrev pub error_line : Place → List ℕ → Diag

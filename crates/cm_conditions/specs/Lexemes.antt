@@ -1,7 +1,7 @@
 -- The lexemes of a condition's text, which spaces and tabs separate. Each is as long as can be.
 use Rattle.std.specs.Prelude.{ℕ, zero, suc, ◌+◌, ◌*◌, ◌-◌, ◌^◌, ◌==◌, ◌&&◌, ◌||◌, Bool, Option, None, Some, List, [], ◌∷◌, take, drop, length, if◌then◌else◌, nat_lt, pos}
 use Rattle.std.specs.List.{prefix_len}
-use Rattle.cm_base.specs.Derived.{is_letter, is_digit, is_identifier_byte}
+use Rattle.cm_base.specs.ByteClasses.{is_letter, is_digit, is_identifier_byte}
 use Rattle.cm_conditions.specs.declared.lexeme.Mark.{Mark}
 use Rattle.cm_conditions.specs.declared.lexeme.Mark.TheVariants as m
 use Rattle.cm_conditions.specs.declared.lexeme.Lexeme.{Lexeme}

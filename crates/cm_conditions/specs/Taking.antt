@@ -5,7 +5,8 @@ use Rattle.cm_base.specs.declared.diag.Diag.{Diag}
 use Rattle.cm_base.specs.declared.diag.Place.{Place}
 use Rattle.cm_base.specs.declared.fault.Fault.{Fault}
 use Rattle.cm_base.specs.declared.fault.Fault.TheVariants as fault
-use Rattle.cm_conditions.specs.Chosen.{◌>>=◌, is_taken, error_line}
+use Rattle.cm_base.specs.Diags.{◌>>=◌}
+use Rattle.cm_conditions.specs.Chosen.{is_taken, error_line}
 use Rattle.cm_conditions.specs.Values.{bad_condition}
 use Rattle.cm_conditions.specs.declared.cond.Cond.{Cond}
 use Rattle.cm_conditions.specs.declared.line.Line.{Line}

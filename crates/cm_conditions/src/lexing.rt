@@ -2,11 +2,11 @@
 
 ghost use Rattle.std.specs.Prelude.{◌≡◌, ◌+◌, ◌≤◌, ◌^◌, ◌∷◌, IfOk, MatchOption, length};
 ghost use Rattle.std.specs.List.{prefix_len};
-ghost use Rattle.cm_base.specs.Derived.{is_letter, is_digit, is_identifier_byte};
+ghost use Rattle.cm_base.specs.ByteClasses.{is_digit, is_identifier_byte};
 ghost use Rattle.cm_conditions.specs.Lexemes.{is_space, number_from, number_lexeme, next_of, two_bytes, one_byte, mark_lexeme, more_of, lexeme_at, lexemes_of};
 
 use crate::lexeme::{Lexeme, Mark};
-use cm_base::{List, NoMemory, Text};
+use cm_base::{List, NoMemory, Text, is_digit, is_identifier_byte, is_letter};
 use std::alloc::Global;
 
 /// Whether a byte separates lexemes: a space or a tab.
@@ -14,33 +14,6 @@ fn is_space(byte: u8) -> bool
     ensures { result ≡ is_space byte }
 {
     byte == b' ' || byte == b'\t'
-}
-
-/// Whether a byte is a letter.
-fn is_letter(byte: u8) -> bool
-    ensures { result ≡ is_letter byte }
-{
-    match byte {
-        b'A'..=b'Z' | b'a'..=b'z' => true,
-        _ => false,
-    }
-}
-
-/// Whether a byte is a digit.
-fn is_digit(byte: u8) -> bool
-    ensures { result ≡ is_digit byte }
-{
-    match byte {
-        b'0'..=b'9' => true,
-        _ => false,
-    }
-}
-
-/// Whether a byte may stand behind the letter of a word: a letter, a digit, `_` or the prime.
-fn is_identifier_byte(byte: u8) -> bool
-    ensures { result ≡ is_identifier_byte byte }
-{
-    is_letter(byte) || is_digit(byte) || byte == b'_' || byte == b'\''
 }
 
 /// The number of digits at the front.

@@ -25,12 +25,3 @@ pub use lexeme::{Lexeme, Mark, Operator, Strength};
 pub use line::{Line, LineBody};
 pub use printing::{print_condition, space_word};
 pub use read::read_condition;
-
-#[cfg(test)]
-mod print_tests;
-#[cfg(test)]
-mod read_tests;
-#[cfg(test)]
-mod select_tests;
-#[cfg(test)]
-mod tests;

@@ -3,7 +3,7 @@ use Rattle.std.proofs.Common.{◌≡◌, ℕ, ◌-◌, ◌≤◌, ◌||◌, ◌&
 use Rattle.std.specs.List.{list_all}
 use Rattle.std.proofs.lemmas.Bool.Decides.{nat_tests}
 use Rattle.std.proofs.Math.Seq.{take-append_seam}
-use Rattle.cm_base.specs.Derived.{is_letter}
+use Rattle.cm_base.specs.ByteClasses.{is_letter}
 use Rattle.cm_base.specs.declared.diag.Place.{Place}
 use Rattle.cm_base.specs.declared.record.Namespace.{Namespace}
 use Rattle.cm_lexer.specs.Bytes.{is_word_byte, is_quotable, is_in_line}

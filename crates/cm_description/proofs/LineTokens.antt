@@ -2,7 +2,7 @@
 use Rattle.std.proofs.Common.{◌≡◌, ℕ, ◌==◌, ◌&&◌, Bool, true, false, if◌then◌else◌, Option, None, Some, is_some, option_map, List, [], ◌∷◌, ◌++◌, refl, ap, ap₂, sym, ◌∙◌, subst, drop, append_assoc, append-nil, arith}
 use Rattle.std.specs.List.{prefix_len, list_all, flat_map}
 use Rattle.std.proofs.lemmas.Bool.Decides.{nat_tests}
-use Rattle.cm_base.specs.Derived.{is_letter}
+use Rattle.cm_base.specs.ByteClasses.{is_letter}
 use Rattle.grammars.specs.Grammar.{End, Phrase, head_or}
 use Rattle.grammars.specs.Reading.{Out, chain, read}
 use Rattle.cm_lexer.specs.Bytes.{is_word_byte, is_in_line}

@@ -4,7 +4,7 @@ use Rattle.std.specs.List.{prefix_len, list_all}
 use Rattle.std.proofs.lemmas.Bool.Decides.{nat_tests}
 use Rattle.std.proofs.lemmas.Grind.{flat_map-append}
 use Rattle.std.proofs.lemmas.List.{map-append, length-map}
-use Rattle.cm_base.specs.Derived.{is_letter, is_identifier_byte}
+use Rattle.cm_base.specs.ByteClasses.{is_letter, is_identifier_byte}
 use Rattle.cm_base.specs.declared.diag.Place.{Place}
 use Rattle.cm_base.specs.declared.record.Namespace.{Namespace}
 use Rattle.cm_base.specs.declared.record.Namespace.TheVariants as space_is

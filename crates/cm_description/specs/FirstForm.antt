@@ -1,7 +1,7 @@
 -- The first form of a description: the words `group` and `is`, and then the names of differing sources.
 use Rattle.std.specs.Prelude.{ℕ, ◌==◌, ◌&&◌, ◌||◌, Bool, true, not, nat_eq, List, [], ◌∷◌, ◌++◌, Option, Some, None, codes, if◌then◌else◌}
 use Rattle.std.specs.List.{list_all, list_any, ends_with}
-use Rattle.cm_base.specs.Derived.{is_letter, is_digit}
+use Rattle.cm_base.specs.ByteClasses.{is_letter, is_digit}
 use Rattle.plain_words.specs.Words.{words_of}
 use Rattle.plain_words.specs.declared.PlacedWord.{PlacedWord}
 use lib.Pointwise.{pointwise}

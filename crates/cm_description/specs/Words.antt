@@ -2,7 +2,7 @@
 use Rattle.std.specs.Prelude.{ℕ, ◌-◌, ◌==◌, ◌||◌, ◌&&◌, Bool, true, false, Option, Some, None, is_some, List, [], ◌∷◌, nat_eq, codes, if◌then◌else◌, length, take, drop}
 use Rattle.std.specs.Prelude.{reverse}
 use Rattle.std.specs.List.{prefix_len, list_all}
-use Rattle.cm_base.specs.Derived.{is_letter, is_identifier_byte}
+use Rattle.cm_base.specs.ByteClasses.{is_letter, is_identifier_byte}
 use Rattle.cm_base.specs.declared.diag.Place.{Place}
 use Rattle.cm_base.specs.declared.record.Namespace.{Namespace}
 use Rattle.cm_lexer.specs.Spelling.{slice_of}

@@ -30,10 +30,3 @@ pub use print::print_description;
 pub use project::{Project, Unit};
 pub use read::read_description;
 pub use word::WordKind;
-
-#[cfg(test)]
-mod print_tests;
-#[cfg(test)]
-mod read_tests;
-#[cfg(test)]
-mod tests;

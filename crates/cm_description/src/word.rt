@@ -2,13 +2,13 @@
 
 ghost use Rattle.std.specs.Prelude.{◌≡◌};
 ghost use Rattle.std.specs.List.{list_all};
-ghost use Rattle.cm_base.specs.Derived.{is_letter, is_identifier_byte};
+ghost use Rattle.cm_base.specs.ByteClasses.{is_letter, is_identifier_byte};
 ghost use Rattle.cm_conditions.specs.Grammar.{space_of};
 ghost use Rattle.cm_description.specs.Words.{is_library_word, is_identifier, allows, directive_of};
 
 use crate::directive::Directive;
 use crate::first_form::{is_group_word, is_is_word};
-use cm_base::Namespace;
+use cm_base::{Namespace, is_identifier_byte, is_letter};
 
 /// What is wanted of a word.
 #[derive(Clone, Copy, Debug, PartialEq, Eq)]
@@ -21,20 +21,6 @@ pub enum WordKind {
     Identifier,
     /// A word of letters.
     Letters,
-}
-
-/// Whether a byte is a letter.
-fn is_letter(byte: u8) -> bool
-    ensures { result ≡ is_letter byte }
-{
-    matches!(byte, b'A'..=b'Z' | b'a'..=b'z')
-}
-
-/// Whether a byte may stand in an identifier: a letter, a digit, `_` or a prime.
-fn is_identifier_byte(byte: u8) -> bool
-    ensures { result ≡ is_identifier_byte byte }
-{
-    matches!(byte, b'A'..=b'Z' | b'a'..=b'z' | b'0'..=b'9' | b'_' | b'\'')
 }
 
 /// Whether each byte may stand in an identifier.

@@ -1,6 +1,6 @@
 -- Which bytes stand where in a description.
 use Rattle.std.specs.Prelude.{ℕ, Bool, not, ◌==◌, ◌&&◌, ◌||◌, nat_le}
-use Rattle.cm_base.specs.Derived.{is_letter, is_digit}
+use Rattle.cm_base.specs.ByteClasses.{is_letter, is_digit}
 
 -- what separates tokens: space, tab and line feed
 abbrev pub is_blank : ℕ → Bool

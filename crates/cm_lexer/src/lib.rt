@@ -58,6 +58,3 @@ pub fn tokens(alloc: Global, file: &Text, text: &Text) -> Result<List<Token>, Fa
         None => Ok(tokens),
     }
 }
-
-#[cfg(test)]
-mod tests;

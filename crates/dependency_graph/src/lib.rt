@@ -9,6 +9,3 @@ mod ranks;
 mod unit_order;
 
 pub use unit_order::{OrderFault, UnitOrder, at, order, rank};
-
-#[cfg(test)]
-mod tests;

@@ -99,6 +99,3 @@ pub fn read_words(alloc: Global, text: &[u8]) -> Result<List<PlacedWord>, NoMemo
     }
     Ok(words)
 }
-
-#[cfg(test)]
-mod tests;

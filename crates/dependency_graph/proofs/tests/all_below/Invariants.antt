@@ -1,6 +1,0 @@
-use Rattle.std.proofs.Common.{◌<◌, take}
-use Rattle.std.specs.Prelude.{All}
-use Rattle.dependency_graph.proofs.tests.all_below.Given as goal
-
-abbrev pub invariant-loop-unit : goal.invariant-loop-unit
-invariant-loop-unit l = All (λ unit. unit < l.count) (take l.unit-index l.list)
