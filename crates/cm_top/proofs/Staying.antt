@@ -15,9 +15,9 @@ use Rattle.cm_base.specs.Definitions.{Definitions}
 use Rattle.bin_store.specs.GoodStore.{StoreIsGood}
 use Rattle.bin_store.proofs.GoodAfter.{store_same, store_more, store_after_linked}
 use Rattle.cm_base.specs.declared.record.PlannedUnit.{PlannedUnit}
-use Rattle.cutoff_builder.specs.Kept.{interfaces_of, paths_of, KeepsGood}
-use Rattle.cutoff_builder.specs.PlainBuild.{Build}
-use Rattle.cutoff_builder.specs.Stored.{with_units}
+use Rattle.plain_builder.specs.Kept.{interfaces_of, paths_of, KeepsGood}
+use Rattle.plain_builder.specs.PlainBuild.{Build}
+use Rattle.plain_builder.specs.Stored.{with_units}
 use Rattle.cm_top.specs.declared.status.Status.{Status}
 use Rattle.cm_top.specs.declared.status.Status.TheVariants as status
 use Rattle.cm_top.specs.declared.work.Report.{Report}

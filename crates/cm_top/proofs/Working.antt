@@ -6,8 +6,8 @@ use Rattle.cm_base.specs.declared.diag.Diag.{Diag}
 use Rattle.cm_base.specs.declared.record.BuiltUnit.{BuiltUnit}
 use Rattle.cm_base.specs.Definitions.{Definitions}
 use Rattle.cm_base.specs.declared.record.PlannedUnit.{PlannedUnit}
-use Rattle.cutoff_builder.specs.PlainBuild.{Build}
-use Rattle.cutoff_builder.specs.Stored.{put_units}
+use Rattle.plain_builder.specs.PlainBuild.{Build}
+use Rattle.plain_builder.specs.Stored.{put_units}
 use Rattle.cm_top.specs.declared.work.Report.{Report}
 use Rattle.cm_top.specs.declared.work.WorkFault.{WorkFault}
 use Rattle.cm_top.specs.Answers.{Works, EndsSo}

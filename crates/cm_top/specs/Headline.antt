@@ -7,7 +7,7 @@ use Rattle.cm_base.specs.Keeping.{Keeps}
 use Rattle.cm_bytes.specs.Hashes.{HashesApart}
 use Rattle.cm_base.specs.Definitions.{Definitions}
 use Rattle.bin_store.specs.GoodStore.{StoreIsGood}
-use Rattle.cutoff_builder.specs.Kept.{KeepsGood}
+use Rattle.plain_builder.specs.Kept.{KeepsGood}
 use Rattle.cm_top.specs.Meaning.{Meaning}
 use Rattle.cm_top.specs.declared.status.Status.{Status}
 use Rattle.cm_top.specs.declared.status.Status.TheVariants as status

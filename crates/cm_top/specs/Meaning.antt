@@ -11,9 +11,9 @@ use Rattle.cm_base.specs.Definitions.{Definitions}
 use Rattle.bin_store.specs.Paths.{linked_path}
 use Rattle.linker.specs.Linked.{linked_program}
 use Rattle.cm_base.specs.declared.record.PlannedUnit.{PlannedUnit}
-use Rattle.cutoff_builder.specs.PlainBuild.{Build}
-use Rattle.cutoff_builder.specs.Kept.{interfaces_of, paths_of}
-use Rattle.cutoff_builder.specs.Stored.{put_units, with_units}
+use Rattle.plain_builder.specs.PlainBuild.{Build}
+use Rattle.plain_builder.specs.Kept.{interfaces_of, paths_of}
+use Rattle.plain_builder.specs.Stored.{put_units, with_units}
 use Rattle.group_loader.specs.Loading.{project_of}
 use Rattle.cm_top.specs.declared.status.Status.{Status}
 use Rattle.cm_top.specs.declared.status.Status.TheVariants as status

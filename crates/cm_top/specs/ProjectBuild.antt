@@ -6,7 +6,7 @@ use Rattle.cm_base.specs.declared.diag.Diag.{Diag}
 use Rattle.cm_description.specs.declared.project.Project.{Project}
 use Rattle.cm_base.specs.Definitions.{Definitions}
 use Rattle.cm_base.specs.declared.record.PlannedUnit.{PlannedUnit}
-use Rattle.cutoff_builder.specs.PlainBuild.{Build, plain_build}
+use Rattle.plain_builder.specs.PlainBuild.{Build, plain_build}
 use Rattle.skeleton_asking.specs.Skeletons.{Skeletons, skeletons_of}
 use Rattle.unit_order.specs.Planning.{plan_of}
 

@@ -4,8 +4,8 @@ ghost use Rattle.std.specs.Prelude.{◌≡◌, ◌<◌, ◌^◌, [], Err, IfOk, 
 ghost use Rattle.cm_base.specs.Causes.{HasCause};
 ghost use Rattle.cm_base.specs.Diags.{whole_file};
 ghost use Rattle.cm_base.specs.Files.{Told};
-ghost use Rattle.cutoff_builder.specs.Kept.{HaveSkeletons};
-ghost use Rattle.cutoff_builder.specs.PlainBuild.{plain_build};
+ghost use Rattle.plain_builder.specs.Kept.{HaveSkeletons};
+ghost use Rattle.plain_builder.specs.PlainBuild.{plain_build};
 ghost use Rattle.group_loader.specs.Loading.{project_of};
 ghost use Rattle.skeleton_asking.specs.Skeletons.{skeletons_of};
 ghost use Rattle.unit_order.specs.Planning.{plan_of};
@@ -22,8 +22,8 @@ use cm_base::{
     Built, Compiler, Diag, Fault, Folder, FolderFault, List, NoMemory, PlannedUnit, Skeleton, Text,
 };
 use cm_description::Project;
-use cutoff_builder::{BuildFault, build};
 use group_loader::{LoadFault, load};
+use plain_builder::{BuildFault, build};
 use skeleton_asking::ask_skeletons;
 use std::alloc::Global;
 use unit_order::plan;

@@ -5,7 +5,7 @@ use Rattle.std.proofs.lemmas.List.Sums.{sum_by_push}
 use Rattle.std.specs.Option.{option_or}
 use lib.Pointwise.{pointwise}
 use Rattle.cm_base.specs.declared.record.BuiltUnit.{BuiltUnit}
-use Rattle.cutoff_builder.specs.PlainBuild.{done_unit, interface_bytes}
+use Rattle.build_laws.specs.Inputs.{done_unit, interface_bytes}
 use Rattle.cm_base.specs.Places.{item_at}
 use Rattle.cutoff_builder.specs.Answers.{IsIndexed}
 

@@ -1,8 +1,9 @@
-pub mod BuildLemmas
 pub mod DoneLemmas
-pub mod Fronts
-pub mod Kept
-pub mod Made
-pub mod Putting
+pub mod Keys
+pub mod Giving
 pub mod StoreLemmas
-pub mod UnitLemmas
+pub mod Turning
+pub mod Stepping
+pub mod Going
+pub mod Building
+pub mod Smallness

@@ -10,7 +10,7 @@ use Rattle.bin_formats.specs.Format.{binfile}
 use Rattle.bin_store.specs.Paths.{bin_path}
 use Rattle.bin_store.specs.Stored.{with_interface}
 use Rattle.cm_base.specs.declared.record.PlannedUnit.{PlannedUnit}
-use Rattle.cutoff_builder.specs.Stored.{bin_of_unit, put_unit}
+use Rattle.build_laws.specs.Storing.{bin_of_unit, put_unit}
 
 -- one change of what is told after another
 pub told_told : {A : Type 0} (f g : A → A) (o : Option A) → told f (told g o) ≡ told (λ x. f (g x)) o

@@ -4,7 +4,7 @@ use Rattle.indexmap.specs.IndexMap.{get}
 use lib.Pointwise.{pointwise}
 use Rattle.cutoff_builder.specs.declared.done.Done.{Done}
 use Rattle.cutoff_builder.specs.Answers.{IsIndexed}
-use Rattle.cutoff_builder.specs.PlainBuild.{interface_bytes}
+use Rattle.build_laws.specs.Inputs.{interface_bytes}
 
 -- the table finds each unit, and the sum is that of the interfaces
 pub record IsDone (done : Done) : Type 0 where

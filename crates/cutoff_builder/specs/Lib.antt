@@ -1,5 +1,5 @@
 pub mod Answers
 pub mod Doing
-pub mod Kept
-pub mod PlainBuild
-pub mod Stored
+pub mod Planning
+pub mod Theorem
+pub mod Small

@@ -1,20 +1,26 @@
-//! The build of a project: its units in order, each compiled and stored.
+//! The build of a project over its store: the units in their order, one turn each.
 
-ghost use Rattle.std.specs.Prelude.{◌≡◌, ◌≤◌, Err, OnOk};
+ghost use Rattle.std.specs.Prelude.{◌≡◌, ◌<◌, ◌≤◌, ◌^◌, All, Err, OnOk, length};
+ghost use Rattle.std.specs.List.{AllByRecursion};
 ghost use Rattle.cm_base.specs.Causes.{HasCause};
-ghost use Rattle.cm_base.specs.Keeping.{Keeps};
-ghost use Rattle.cutoff_builder.specs.Answers.{GivesUnit, UnitStored, UnitAsked, GivesBuild, BuildStored, BuildAsked};
+ghost use Rattle.cm_base.specs.Files.{Told};
+ghost use Rattle.build_laws.specs.CutBuild.{cut_after, cut_build};
+ghost use Rattle.build_laws.specs.Left.{KeepsProject};
+ghost use Rattle.build_laws.specs.Storing.{IsSmallPlanned};
+ghost use Rattle.cutoff_builder.specs.Answers.{Cuts, Steps};
 ghost use Rattle.cutoff_builder.specs.Doing.{IsDone};
-ghost use Rattle.cutoff_builder.specs.Kept.{interfaces_of, paths_of, HaveSkeletons, KeepsGood, PutsPlain};
-ghost use Rattle.cutoff_builder.specs.PlainBuild.{unit_after, asked_for, givens_of, plain_build};
+ghost use Rattle.cutoff_builder.specs.Planning.{as_list, planned_of};
+ghost use Rattle.cutoff_builder.specs.Theorem.{Builds};
 
 use crate::done::Done;
-use crate::limits::ALL_INTERFACES;
-use crate::short::is_short;
-use crate::store::store_unit;
-use crate::unit::compile_unit;
-use bin_store::StoreFault;
-use cm_base::{Built, Compiler, Diag, Fault, Folder, NoMemory, PlannedUnit};
+use crate::planned::source_unit;
+use crate::small::all_small;
+use crate::turn::{UnitFault, take_turn};
+use crate::unit::SourceUnit;
+use build_laws::ALL_INTERFACES;
+use cm_base::{Built, Compiler, Diag, Folder, List, NoMemory, Skeleton};
+use cm_description::loaded::{Project, Wanted};
+use dependency_graph::{UnitOrder, at};
 use std::alloc::Global;
 
 /// Why a build stopped: a diagnostic, with the units done before it; a failing folder; or want of memory.
@@ -25,69 +31,59 @@ pub enum BuildFault {
     NoMemory,
 }
 
-/// Why a unit wasn't done.
-#[derive(Debug, Drop)]
-pub enum UnitFault {
-    Diag(Diag),
-    Folder,
-    NoMemory,
-}
-
-/// Builds one unit after those that are done: it is compiled and then stored.
-fn build_unit<F: Folder, C: Compiler>(
+/// Takes the turn of the unit of a number, after those that are done.
+fn build_number<F: Folder, C: Compiler>(
     alloc: Global,
     folder: &mut F,
     compiler: &mut C,
-    planned: &PlannedUnit,
+    found: Option<SourceUnit<'_>>,
     done: &mut Done,
 ) -> Result<(), UnitFault>
     requires done { IsDone done.old }
     requires few { done.old.interface_bytes ≤ ALL_INTERFACES }
+    requires small { AllByRecursion IsSmallPlanned (as_list found) }
     ensures cause { HasCause (F.faults folder.old) (F.faults folder.new) (result ≡ Err UnitFault.Folder) }
-    ensures gives { GivesUnit result (unit_after C.defines.compiled done.old.units planned.now) done.old.units done.new.units }
-    ensures stored { UnitStored result (unit_after C.defines.compiled done.old.units planned.now)
-        (F.holds folder.old) (F.holds folder.new) planned.now }
-    ensures asked { UnitAsked result (C.asked compiler.old) (C.asked compiler.new)
-        (asked_for planned.now (givens_of done.old.units planned.now.wanted)) }
+    ensures steps { Told (F.holds folder.old) (λ files. Steps result C.defines.compiled files (as_list found.entry)
+        done.old.units done.new.units (cut_after C.defines.compiled files done.old.units (as_list found.entry))
+        (F.holds folder.new) (C.asked compiler.old) (C.asked compiler.new)) }
     ensures same { C.asked_skeletons compiler.new ≡ C.asked_skeletons compiler.old }
     ensures done { OnOk result (IsDone done.new) }
     ensures few { OnOk result (done.new.interface_bytes ≤ ALL_INTERFACES) }
 {
-    if !is_short(planned) {
-        return Err(UnitFault::NoMemory);
-    }
-    let unit = match compile_unit(alloc, compiler, planned, done) {
-        Ok(unit) => unit,
-        Err(Fault::Diag(diag)) => return Err(UnitFault::Diag(diag)),
-        Err(Fault::NoMemory) => return Err(UnitFault::NoMemory),
+    let Some(planned) = found else {
+        return Ok(());
     };
-    match store_unit(alloc, folder, planned, &unit) {
-        Ok(()) => {}
-        Err(StoreFault::Folder) => return Err(UnitFault::Folder),
-        Err(StoreFault::NoMemory) => return Err(UnitFault::NoMemory),
-    }
-    match done.add(unit) {
-        Ok(()) => Ok(()),
-        Err(NoMemory) => Err(UnitFault::NoMemory),
-    }
+    let unit = take_turn(alloc, folder, compiler, &planned, done)?;
+    done.add(unit)?;
+    Ok(())
 }
 
-/// Builds the units one after the other.
+/// Takes the turns of all units in their order.
 fn build_each<F: Folder, C: Compiler>(
     alloc: Global,
     folder: &mut F,
     compiler: &mut C,
-    units: &[PlannedUnit],
+    project: &Project,
+    skeletons: &List<Skeleton>,
+    wanted: &List<List<Wanted>>,
+    order: &UnitOrder,
 ) -> Result<Built, BuildFault>
+    requires counted { length order.now ≡ length project.now.units }
+    requires few { length project.now.units < 2 ^ 32 }
+    requires providers { All (λ list. All (λ w. w.provider < length project.now.units) list) wanted.now }
+    requires small { AllByRecursion IsSmallPlanned (planned_of project.now skeletons.now wanted.now order.now) }
     ensures cause { HasCause (F.faults folder.old) (F.faults folder.new) (result ≡ Err BuildFault.Folder) }
-    ensures gives { GivesBuild result (plain_build C.defines.compiled units.now) }
-    ensures stored { BuildStored result (F.holds folder.old) (F.holds folder.new) units.now (plain_build C.defines.compiled units.now) }
-    ensures asked { BuildAsked result (C.asked compiler.old) (C.asked compiler.new) (plain_build C.defines.compiled units.now).asked }
+    ensures cuts { Told (F.holds folder.old) (λ files. Cuts result C.defines.compiled files
+        (planned_of project.now skeletons.now wanted.now order.now)
+        (cut_build C.defines.compiled files (planned_of project.now skeletons.now wanted.now order.now))
+        (F.holds folder.new) (C.asked compiler.old) (C.asked compiler.new)) }
     ensures same { C.asked_skeletons compiler.new ≡ C.asked_skeletons compiler.old }
 {
     let mut done = Done::none(alloc);
-    for planned in units {
-        match build_unit(alloc, folder, compiler, planned, &mut done) {
+    let count = project.units.len() as u32;
+    for place in 0..count {
+        let found = source_unit(project, skeletons, wanted, at(order, place));
+        match build_number(alloc, folder, compiler, found, &mut done) {
             Ok(()) => {}
             Err(UnitFault::Diag(diag)) => {
                 return Err(BuildFault::Stop {
@@ -102,25 +98,40 @@ fn build_each<F: Folder, C: Compiler>(
     Ok(Built { units: done.units })
 }
 
-/// Builds the units in their order, as the plain build defines it, and leaves them in the store. It stops at the
-/// first diagnostic, where the folder fails, or for want of memory, for which a text or a list of 2^32 bytes or
-/// items, which no format can hold, counts too.
+/// Builds the units of a project in their order over its store. `skeletons` and `wanted` have a skeleton and the wanted
+/// names of each unit, by its number. It stops at the first diagnostic, where the folder fails, or for want of memory, for
+/// which a text or a list of 2^32 bytes or items, which no format can hold, counts too.
+///
+/// From a good store it is the plain build of the project: the same units, the same diagnostic, the same files; and the
+/// compiler is asked for what is stale in the store and for nothing else. Over any other store it does what `cut_build`
+/// says, and leaves the project as it was.
 pub fn build<F: Folder, C: Compiler>(
     alloc: Global,
     folder: &mut F,
     compiler: &mut C,
-    units: &[PlannedUnit],
+    project: &Project,
+    skeletons: &List<Skeleton>,
+    wanted: &List<List<Wanted>>,
+    order: &UnitOrder,
 ) -> Result<Built, BuildFault>
+    requires counted { length order.now ≡ length project.now.units }
+    requires few { length project.now.units < 2 ^ 32 }
+    requires skeletons { length skeletons.now ≡ length project.now.units }
+    requires wanted { length wanted.now ≡ length project.now.units }
+    requires providers { All (λ list. All (λ w. w.provider < length project.now.units) list) wanted.now }
     ensures cause { HasCause (F.faults folder.old) (F.faults folder.new) (result ≡ Err BuildFault.Folder) }
-    ensures gives { GivesBuild result (plain_build C.defines.compiled units.now) }
-    ensures stored { BuildStored result (F.holds folder.old) (F.holds folder.new) units.now (plain_build C.defines.compiled units.now) }
-    ensures frame { Keeps (F.holds folder.old) (F.holds folder.new) (paths_of (plain_build C.defines.compiled units.now).units) }
-    ensures good { HaveSkeletons C.defines.skel units.now → KeepsGood C.defines
-        (interfaces_of (plain_build C.defines.compiled units.now).units) (F.holds folder.old) (F.holds folder.new) }
-    ensures plain { HaveSkeletons C.defines.skel units.now → PutsPlain C.defines result
-        (F.holds folder.old) (F.holds folder.new) units.now (plain_build C.defines.compiled units.now).units }
-    ensures asked { BuildAsked result (C.asked compiler.old) (C.asked compiler.new) (plain_build C.defines.compiled units.now).asked }
+    ensures cuts { Told (F.holds folder.old) (λ files. Cuts result C.defines.compiled files
+        (planned_of project.now skeletons.now wanted.now order.now)
+        (cut_build C.defines.compiled files (planned_of project.now skeletons.now wanted.now order.now))
+        (F.holds folder.new) (C.asked compiler.old) (C.asked compiler.new)) }
+    ensures builds { Told (F.holds folder.old) (λ files. Builds C.defines files
+        (planned_of project.now skeletons.now wanted.now order.now) result (F.holds folder.new)
+        (C.asked compiler.old) (C.asked compiler.new)) }
+    ensures project { Told (F.holds folder.old) (λ files. KeepsProject files (F.holds folder.new)) }
     ensures same { C.asked_skeletons compiler.new ≡ C.asked_skeletons compiler.old }
 {
-    build_each(alloc, folder, compiler, units)
+    if !all_small(project, skeletons, wanted, order) {
+        return Err(BuildFault::NoMemory);
+    }
+    build_each(alloc, folder, compiler, project, skeletons, wanted, order)
 }

@@ -4,7 +4,7 @@ ghost use Rattle.std.specs.Prelude.{◌≡◌, ◌<◌, ◌≤◌, ◌+◌, ◌^
 ghost use Rattle.std.specs.Option.{option_copied};
 ghost use Rattle.indexmap.specs.IndexMap.{get};
 ghost use Rattle.cutoff_builder.specs.Answers.{IsIndexed};
-ghost use Rattle.cutoff_builder.specs.PlainBuild.{done_unit, interface_bytes};
+ghost use Rattle.build_laws.specs.Inputs.{done_unit, interface_bytes};
 ghost use lib.Pointwise.{pointwise};
 
 use cm_base::{BuiltUnit, List, NoMemory, Text};

@@ -1,13 +1,16 @@
-//! The builder: it compiles the units of a project in their order and leaves their interfaces and binfiles in
-//! the store, exactly as the plain build of the project defines.
+//! The builder: a project's units in their order, each loaded from the store where it isn't stale, and else compiled and
+//! stored. From a good store it is the plain build of the project, and the compiler is asked for the stale units alone.
 #![tactic(auto)]
 
 mod builder;
 mod done;
-mod limits;
-mod short;
+mod fresh;
+mod planned;
+mod small;
 mod store;
+mod turn;
 mod unit;
 
+pub use build_laws::{ALL_INTERFACES, CODE, INTERFACE};
 pub use builder::{BuildFault, build};
-pub use limits::{ALL_INTERFACES, CODE, INTERFACE};
+pub use fresh::is_stale;

@@ -1,13 +1,13 @@
-//! A unit that is done is stored: its interface, and then its binfile.
+//! A unit that was compiled is stored: its interface, and then its binfile.
 
-ghost use Rattle.std.specs.Prelude.{◌≡◌, ◌<◌, ◌^◌, Err, IfOk, OnOk, length};
+ghost use Rattle.std.specs.Prelude.{◌≡◌, Err, IfOk, OnOk};
 ghost use Rattle.cm_base.specs.Causes.{HasCause};
 ghost use Rattle.cm_base.specs.Files.{told};
-ghost use Rattle.bin_formats.specs.Format.{IsBin};
-ghost use Rattle.cutoff_builder.specs.Stored.{bin_of_unit, put_unit, IsStorable, StoresUnit};
+ghost use Rattle.build_laws.specs.Storing.{bin_of_unit, put_unit, IsStorable, StoresUnit};
 
+use crate::unit::SourceUnit;
 use bin_store::{Bin, StoreFault, put_bin, put_interface};
-use cm_base::{BuiltUnit, Folder, Import, List, NoMemory, PlannedUnit, Skeleton};
+use cm_base::{BuiltUnit, Folder, Import, List, NoMemory, Skeleton};
 use std::alloc::Global;
 
 /// A copy of a skeleton.
@@ -25,14 +25,14 @@ fn copied_imports(imports: &List<Import>) -> Result<List<Import>, NoMemory>
 }
 
 /// The binfile's value of a unit that is done.
-fn bin_of(planned: &PlannedUnit, unit: &BuiltUnit) -> Result<Bin, NoMemory>
+fn bin_of(planned: &SourceUnit<'_>, unit: &BuiltUnit) -> Result<Bin, NoMemory>
     ensures { IfOk result (λ bin. bin ≡ bin_of_unit planned.now unit.now) }
 {
     Ok(Bin {
-        unit: planned.unit.copy()?,
+        unit: planned.name.copy()?,
         options: planned.options,
         source: planned.source.copy()?,
-        skeleton: copied_skeleton(&planned.skeleton)?,
+        skeleton: copied_skeleton(planned.skeleton)?,
         imports: copied_imports(&unit.imports)?,
         interface: unit.hash,
         code: unit.code.copy()?,
@@ -40,17 +40,15 @@ fn bin_of(planned: &PlannedUnit, unit: &BuiltUnit) -> Result<Bin, NoMemory>
 }
 
 /// Stores a unit: its interface, where none stands whole under its hash, and then its binfile.
-#[tactic(auto, unfolding(crate::specs::Stored::put_unit))]
 pub fn store_unit<F: Folder>(
     alloc: Global,
     folder: &mut F,
-    planned: &PlannedUnit,
+    planned: &SourceUnit<'_>,
     unit: &BuiltUnit,
 ) -> Result<(), StoreFault>
     requires { IsStorable planned.now unit.now }
     ensures cause { HasCause (F.faults folder.old) (F.faults folder.new) (result ≡ Err StoreFault.Folder) }
     ensures done { OnOk result (F.holds folder.new ≡ told (λ files. put_unit files planned.now unit.now) (F.holds folder.old)) }
-    ensures fits { OnOk result (IsBin (bin_of_unit planned.now unit.now)) }
     ensures leaves { StoresUnit (F.holds folder.old) (F.holds folder.new) planned.now unit.now }
 {
     let bin = bin_of(planned, unit)?;

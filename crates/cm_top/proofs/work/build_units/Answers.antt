@@ -1,8 +1,8 @@
 use Rattle.std.proofs.Common.{◌∙◌, ap, Some, None}
 use Rattle.cm_base.specs.Definitions.{Definitions}
 use Rattle.cm_base.specs.Files.{Files, told}
-use Rattle.cutoff_builder.specs.PlainBuild.{plain_build}
-use Rattle.cutoff_builder.specs.Stored.{put_units}
+use Rattle.plain_builder.specs.PlainBuild.{plain_build}
+use Rattle.plain_builder.specs.Stored.{put_units}
 use Rattle.cm_top.specs.declared.work.WorkFault.TheVariants as fault
 use Rattle.cm_top.proofs.Staying.{stays_ended, stays_cut}
 use Rattle.cm_top.proofs.Working.{stop_works}

@@ -1,6 +1,6 @@
 use Rattle.std.proofs.Common.{◌∙◌, sym, subst, []}
 use Rattle.cm_base.specs.Definitions.{Definitions}
-use Rattle.cutoff_builder.specs.Kept.{HaveSkeletons}
+use Rattle.plain_builder.specs.Kept.{HaveSkeletons}
 use Rattle.unit_order.specs.Planning.{plan_of}
 use Rattle.unit_order.proofs.Planned.{each_has_its_skeleton}
 use Rattle.cm_top.specs.Meaning.{of_plain}

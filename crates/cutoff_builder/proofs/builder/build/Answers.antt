@@ -1,16 +1,26 @@
-use Rattle.cutoff_builder.proofs.Made.{keeps_built, good_built, plain_built}
+use Rattle.std.proofs.Common.{refl}
+use Rattle.cutoff_builder.specs.Planning.{planned_of}
+use Rattle.cutoff_builder.proofs.Building.{builds_plain, builds_nothing, cuts_nothing, keeps_project}
 use Rattle.cutoff_builder.proofs.builder.build.Goals as goal
 
-pub returns-clause-frame : goal.returns-clause-frame
-returns-clause-frame g c = keeps_built g.C.Compiler.defines.compiled c.args.units.now c.build_each.result
-    (g.F.Folder.holds c.args.folder.now) (g.F.Folder.holds c.build_each.new.folder) c.build_each.ensures.stored
+pub returns-clause-builds : goal.returns-clause-builds
+returns-clause-builds g c = λ files told. builds_plain g.C.Compiler.defines files
+    (planned_of c.args.project.now c.args.skeletons.now c.args.wanted.now c.args.order.now) c.build_each.result
+    (g.F.Folder.holds c.build_each.new.folder) (g.C.Compiler.asked c.args.compiler.now)
+    (g.C.Compiler.asked c.build_each.new.compiler) (c.if-not-all_small.ensures refl) (c.build_each.ensures.cuts files told)
 
-pub returns-clause-good : goal.returns-clause-good
-returns-clause-good g c = good_built g.C.Compiler.defines c.args.units.now
-    c.build_each.result (g.F.Folder.holds c.args.folder.now) (g.F.Folder.holds c.build_each.new.folder)
-    c.build_each.ensures.stored
+pub returns-clause-project : goal.returns-clause-project
+returns-clause-project g c = λ files told. keeps_project g.C.Compiler.defines.compiled files
+    (planned_of c.args.project.now c.args.skeletons.now c.args.wanted.now c.args.order.now) c.build_each.result
+    (g.F.Folder.holds c.build_each.new.folder) (g.C.Compiler.asked c.args.compiler.now)
+    (g.C.Compiler.asked c.build_each.new.compiler) (c.build_each.ensures.cuts files told)
 
-pub returns-clause-plain : goal.returns-clause-plain
-returns-clause-plain g c = plain_built g.C.Compiler.defines c.args.units.now
-    c.build_each.result (g.F.Folder.holds c.args.folder.now) (g.F.Folder.holds c.build_each.new.folder)
-    c.build_each.ensures.stored
+pub returns-then-not-all_small-clause-cuts : goal.returns-then-not-all_small-clause-cuts
+returns-then-not-all_small-clause-cuts g c = λ files told. cuts_nothing g.C.Compiler.defines.compiled files
+    (planned_of c.args.project.now c.args.skeletons.now c.args.wanted.now c.args.order.now)
+    (g.F.Folder.holds c.args.folder.now) (g.C.Compiler.asked c.args.compiler.now) told
+
+pub returns-then-not-all_small-clause-builds : goal.returns-then-not-all_small-clause-builds
+returns-then-not-all_small-clause-builds g c = λ files told. builds_nothing g.C.Compiler.defines files
+    (planned_of c.args.project.now c.args.skeletons.now c.args.wanted.now c.args.order.now)
+    (g.F.Folder.holds c.args.folder.now) (g.C.Compiler.asked c.args.compiler.now) told

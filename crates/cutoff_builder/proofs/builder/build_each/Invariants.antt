@@ -1,14 +1,17 @@
-use Rattle.std.proofs.Common.{◌≡◌, ◌≤◌}
+use Rattle.std.proofs.Common.{◌≡◌, ◌≤◌, map, take}
+use Rattle.cm_base.specs.Files.{Told}
+use Rattle.build_laws.specs.declared.limits.TheConstants.{ALL_INTERFACES}
 use Rattle.cutoff_builder.specs.Doing.{IsDone}
-use Rattle.cutoff_builder.specs.declared.limits.TheConstants.{ALL_INTERFACES}
-use Rattle.cutoff_builder.proofs.BuildLemmas.{Going}
+use Rattle.cutoff_builder.specs.Planning.{planned_in}
+use Rattle.cutoff_builder.proofs.Going.{Going}
 use Rattle.cutoff_builder.proofs.builder.build_each.Given as goal
 
--- what is done and the plain build of the rest is the plain build of all, and so in the store and in what was asked
-abbrev pub invariant-loop-planned : goal.invariant-loop-planned
-invariant-loop-planned g l = record {
-  going : Going g.C.Compiler.defines.compiled l.units l.planned-index l.done.units
-      (g.C.Compiler.asked l.fn.compiler) (g.C.Compiler.asked l.compiler) (g.F.Folder.holds l.fn.folder) (g.F.Folder.holds l.folder);
+-- what is done and the files are what the build of the units of the first numbers gives and leaves
+abbrev pub invariant-loop-place : goal.invariant-loop-place
+invariant-loop-place g l = record {
+  going : Told (g.F.Folder.holds l.fn.folder) (λ files. Going g.C.Compiler.defines.compiled files
+      (planned_in l.project l.skeletons l.wanted (take l.place (map (λ placed. placed.unit) l.order))) l.done.units
+      (g.C.Compiler.asked l.fn.compiler) (g.C.Compiler.asked l.compiler) (g.F.Folder.holds l.folder));
   done : IsDone l.done;
   few : l.done.interface_bytes ≤ ALL_INTERFACES;
   later : g.F.Folder.faults l.fn.folder ≤ g.F.Folder.faults l.folder;

@@ -2,7 +2,7 @@ use Rattle.std.proofs.Common.{◌≡◌, ◌∙◌, sym, ap, ap₂, subst, ◌+�
 use Rattle.indexmap.specs.IndexMap.{get}
 use lib.Pointwise.{pointwise}
 use Rattle.cutoff_builder.specs.Answers.{IsIndexed}
-use Rattle.cutoff_builder.specs.PlainBuild.{interface_bytes}
+use Rattle.build_laws.specs.Inputs.{interface_bytes}
 use Rattle.cutoff_builder.proofs.DoneLemmas.{indexed_more, interface_bytes-add}
 use Rattle.cutoff_builder.proofs.done.Done.add.Goals as goal
 

@@ -1,0 +1,5 @@
+pub mod Answers
+pub mod Doing
+pub mod Kept
+pub mod PlainBuild
+pub mod Stored
