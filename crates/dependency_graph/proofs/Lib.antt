@@ -9,3 +9,8 @@ pub mod Groups
 pub mod Searching
 pub mod Finishing
 pub mod Stepping
+pub mod RankValues
+pub mod Counting
+pub mod OrderValue
+pub mod CycleValue
+pub mod OneAnswer

@@ -5,3 +5,5 @@ pub mod OnCycles
 pub mod Components
 pub mod Search
 pub mod Ranked
+pub mod Ordered
+pub mod OrderLaws

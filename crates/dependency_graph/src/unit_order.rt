@@ -3,6 +3,7 @@
 ghost use Rattle.std.specs.Prelude.{◌≡◌, ◌+◌, ◌^◌, ◌<◌, Some, List, length, map, slice_get, All, IfOk};
 ghost use Rattle.dependency_graph.specs.Order.{AllAreUnits, AllDiffer, placed_units};
 ghost use Rattle.dependency_graph.specs.Cycle.{Answers, HasCycle, IsNearestCycle};
+ghost use Rattle.dependency_graph.specs.Ordered.{GivesOrder, ordered};
 ghost use Rattle.dependency_graph.specs.Ranked.{IsPlacing};
 
 use crate::cycle::nearest_cycle;
@@ -50,6 +51,7 @@ impl Model for UnitOrder {
 }
 
 /// The order of the units by rank and then by name. `Err` is `Cycle` exactly where the edges have a cycle.
+#[tactic(auto, using(crate::proofs::CycleValue::gives_order))]
 pub fn order(
     alloc: Global,
     names: &List<Text>,
@@ -59,7 +61,8 @@ pub fn order(
     requires few { length names.now < 2 ^ 32 }
     requires units { AllAreUnits edges.now }
     requires apart { AllDiffer names.now }
-    ensures { Answers names.now edges.now result }
+    ensures relations { Answers names.now edges.now result }
+    ensures gives { GivesOrder result (ordered names.now edges.now) }
 {
     match ranks_of(alloc, edges.as_slice())? {
         Some(ranks) => Ok(in_order(alloc, names.as_slice(), ranks)?),

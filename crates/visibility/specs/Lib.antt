@@ -1,0 +1,10 @@
+pub mod Projects
+pub mod Providers
+pub mod BuiltIn
+pub mod Imports
+pub mod Choosing
+pub mod Exports
+pub mod Naming
+pub mod Laws
+pub mod ShownOnce
+pub mod Tables
