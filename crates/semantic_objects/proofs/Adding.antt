@@ -1,4 +1,4 @@
--- adding trees to nodes, and taking them out again
+-- Trees that are added to nodes, and what the last node says.
 use Rattle.std.proofs.Common.{◌≡◌, ℕ, zero, suc, ◌+◌, ◌-◌, ◌<◌, ◌≤◌, refl, sym, ap, ap₂, ◌∙◌, subst, arith, Some, List, [], ◌∷◌, ◌++◌, length, map, take, drop, get_or}
 use Rattle.std.specs.Prelude.{slice_get}
 use Rattle.std.proofs.lemmas.List.{append_assoc, length-append, length-map, map-append, get_or-append-add, take-append-drop, length-take-le, drop_more}
@@ -10,228 +10,238 @@ use Rattle.semantic_objects.specs.Symbols.{part_count, HasRisingLabels}
 use Rattle.semantic_objects.specs.Trees.{Tree, trees_of}
 use Rattle.semantic_objects.specs.Nodes.{nowhere, trees_at, node_tree, unfolded, tree_at, root, AreBelow, IsNodeAt, IsOver, AreNodes, AreTree}
 use Rattle.semantic_objects.specs.Adding.{moved, Appended, Placed, PlacedSoFar}
-use Rattle.semantic_objects.proofs.Unfolding.{length-unfolded, at_front, root_push, noted, unfolded_both, read_same}
+use Rattle.semantic_objects.proofs.Unfolding.{trees_of_nodes, at_front, root_push, noted, unfolded_both, read_same}
 
-below_moved : (by n : ℕ) (ps : List ℕ) → AreBelow n ps → AreBelow (by + n) (map (λ p. by + p) ps)
-below_moved by n [] h = tt
-below_moved by n (p ∷ ps) h = (let k = h.0 in omega (arith, k), below_moved by n ps h.1)
+-- ---- places
 
-pub below_more : (n m : ℕ) (ps : List ℕ) → n ≤ m → AreBelow n ps → AreBelow m ps
-below_more n m [] h k = tt
-below_more n m (p ∷ ps) h k = (let l = k.0 in omega (arith, l, h), below_more n m ps h k.1)
+-- places that a map brings from below one number to below another one
+below_mapped : (f : ℕ → ℕ) (n m : ℕ) → ((p : ℕ) → p < n → f p < m) → (ps : List ℕ) → AreBelow n ps
+    → AreBelow m (map f ps)
+below_mapped f n m h [] below = tt
+below_mapped f n m h (p ∷ ps) below = (h p below.0, below_mapped f n m h ps below.1)
 
-below_push : (n p : ℕ) (ps : List ℕ) → AreBelow n ps → p < n → AreBelow n (ps ++ p ∷ [])
-below_push n p [] h k = (k, tt)
-below_push n p (q ∷ ps) h k = (h.0, below_push n p ps h.1 k)
+below_wider : (n m : ℕ) (ps : List ℕ) → n ≤ m → AreBelow n ps → AreBelow m ps
+below_wider n m [] h below = tt
+below_wider n m (p ∷ ps) h below = (let k = below.0 in omega (arith, h, k), below_wider n m ps h below.1)
+
+below_joined : (n : ℕ) (ps qs : List ℕ) → AreBelow n ps → AreBelow n qs → AreBelow n (ps ++ qs)
+below_joined n [] qs h k = k
+below_joined n (p ∷ ps) qs h k = (h.0, below_joined n ps qs h.1 k)
 
 pub below_at : (n i : ℕ) (ps : List ℕ) → AreBelow n ps → i < length ps → get_or ps i 0 < n
 below_at n i [] h k = absurd (omega (arith, k))
 below_at n zero (p ∷ ps) h k = h.0
 below_at n (suc i) (p ∷ ps) h k = below_at n i ps h.1 (omega (arith, k))
 
-is_node_moved : (by k : ℕ) (x : TypeNode) → IsNodeAt k x → IsNodeAt (by + k) (moved by x)
-is_node_moved by k (node.Bound i) h = tt
-is_node_moved by k (node.Free v) h = tt
-is_node_moved by k (node.Made c ps) h =
-    let o : IsOver k ps (part_count c) = h.0 in
-    let counted : length ps ≡ part_count c = o.counted in
-    let longer : length (map (λ p. by + p) ps) ≡ length ps = length-map ps (λ p. by + p) in
-    (record { below = below_moved by k ps o.below; counted = longer ∙ counted }, h.1)
+-- ---- items of lists that were put together
 
 some_is : {A : Type 0} (x y : A) → Some x ≡ Some y → x ≡ y
 some_is x y h = cc
 
--- each item from a place on names earlier ones
-abbrev From : ℕ → List TypeNode → Type 0
-From n xs = (i : ℕ) (x : TypeNode) → slice_get xs i ≡ Some x → IsNodeAt (n + i) x
+-- an item of two lists is one of the first, or one of the second
+item_of_both : {A P : Type 0} (xs ys : List A) (i : ℕ) (x : A) → slice_get (xs ++ ys) i ≡ Some x
+    → (slice_get xs i ≡ Some x → P) → ((j : ℕ) → length xs + j ≡ i → slice_get ys j ≡ Some x → P) → P
+item_of_both [] ys i x e first second = second i (omega arith) e
+item_of_both (z ∷ zs) ys zero x e first second = first e
+item_of_both (z ∷ zs) ys (suc i) x e first second =
+    item_of_both zs ys i x e first (λ j h f. second j (omega (arith, h)) f)
 
-from_moved : (by n : ℕ) (xs : List TypeNode) → From n xs → From (by + n) (map (moved by) xs)
-from_moved by n [] h i x e = absurd (cc)
-from_moved by n (y ∷ ys) h zero x e =
-    let k : moved by y ≡ x = some_is (moved by y) x e in
-    let l : n + 0 ≡ n = omega arith in
-    let m : by + n ≡ by + n + 0 = omega arith in
-    subst (λ z. IsNodeAt z x) m (subst (IsNodeAt (by + n)) k
-    (is_node_moved by n y (subst (λ z. IsNodeAt z y) l (h 0 y refl))))
-from_moved by n (y ∷ ys) h (suc i) x e =
-    let k : by + (n + 1) + i ≡ by + n + suc i = omega arith in
-    subst (λ z. IsNodeAt z x) k (from_moved by (n + 1) ys (λ j z f. let l : n + suc j ≡ n + 1 + j = omega arith in
-    subst (λ w. IsNodeAt w z) l (h (suc j) z f)) i x e)
+item_of_map : {A B P : Type 0} (f : A → B) (xs : List A) (i : ℕ) (y : B) → slice_get (map f xs) i ≡ Some y
+    → ((x : A) → slice_get xs i ≡ Some x → f x ≡ y → P) → P
+item_of_map f [] i y e found = absurd (cc)
+item_of_map f (x ∷ xs) zero y e found = found x refl (some_is (f x) y e)
+item_of_map f (x ∷ xs) (suc i) y e found = item_of_map f xs i y e found
 
-from_both : (n : ℕ) (xs ys : List TypeNode) → From n xs → From (n + length xs) ys → From n (xs ++ ys)
-from_both n [] ys h k i x e = let l : n + 0 + i ≡ n + i = omega arith in subst (λ z. IsNodeAt z x) l (k i x e)
-from_both n (y ∷ xs) ys h k zero x e = h 0 x e
-from_both n (y ∷ xs) ys h k (suc i) x e =
-    let l : n + 1 + i ≡ n + suc i = omega arith in
-    let m : n + length (y ∷ xs) ≡ n + 1 + length xs = omega arith in
-    subst (λ z. IsNodeAt z x) l (from_both (n + 1) xs ys
-    (λ j z f. let o : n + suc j ≡ n + 1 + j = omega arith in subst (λ w. IsNodeAt w z) o (h (suc j) z f))
-    (λ j z f. subst (λ w. IsNodeAt (w + j) z) m (k j z f)) i x e)
+item_of_one : {A : Type 0} (P : ℕ → A → Type 0) (n : ℕ) (x : A) → P n x → (i : ℕ) (y : A)
+    → slice_get (x ∷ []) i ≡ Some y → P (n + i) y
+item_of_one P n x h zero y e =
+    let k : n ≡ n + 0 = omega arith in subst (λ z. P z y) k (subst (P n) (some_is x y e) h)
+item_of_one P n x h (suc i) y e = absurd (cc)
 
-from_one : (n : ℕ) (x : TypeNode) → IsNodeAt n x → From n (x ∷ [])
-from_one n x h zero y e = let k : x ≡ y = some_is x y e in let l : n ≡ n + 0 = omega arith in
-    subst (λ z. IsNodeAt z y) l (subst (IsNodeAt n) k h)
-from_one n x h (suc i) y e = absurd (cc)
+-- nodes with further ones behind them
+nodes_joined : (xs ys : List TypeNode) → AreNodes xs
+    → ((j : ℕ) (x : TypeNode) → slice_get ys j ≡ Some x → IsNodeAt (length xs + j) x) → AreNodes (xs ++ ys)
+nodes_joined xs ys h k = record {
+  each = λ i x e. item_of_both xs ys i x e (h.each i x) (λ j same f. subst (λ z. IsNodeAt z x) same (k j x f));
+}
 
-nodes_both : (xs ys : List TypeNode) (by : ℕ) → by ≡ length xs → AreNodes xs → AreNodes ys
+node_moved : (by k : ℕ) (x : TypeNode) → IsNodeAt k x → IsNodeAt (by + k) (moved by x)
+node_moved by k (node.Bound i) h = tt
+node_moved by k (node.Free v) h = tt
+node_moved by k (node.Made c ps) h =
+    let over : IsOver k ps (part_count c) = h.0 in (
+      record {
+        below = below_mapped (λ p. by + p) k (by + k) (λ p l. omega (arith, l)) ps over.below;
+        counted = length-map ps (λ p. by + p) ∙ over.counted;
+      },
+      h.1,
+    )
+
+nodes_moved : (xs ys : List TypeNode) (by : ℕ) → by ≡ length xs → AreNodes xs → AreNodes ys
     → AreNodes (xs ++ map (moved by) ys)
-nodes_both xs ys by e h k =
-    let zero_plus : (n : ℕ) → 0 + n ≡ n = λ n. omega arith in
-    let from_y : From 0 ys = λ i x f. subst (λ z. IsNodeAt z x) (sym (zero_plus i)) (k.each i x f) in
-    let from_x : From 0 xs = λ i x f. subst (λ z. IsNodeAt z x) (sym (zero_plus i)) (h.each i x f) in
-    let at : by + 0 ≡ 0 + length xs = omega (arith, e) in
-    record {
-      each = λ i x f. subst (λ z. IsNodeAt z x) (zero_plus i) (from_both 0 xs (map (moved by) ys) from_x
-          (subst (λ z. From z (map (moved by) ys)) at (from_moved by 0 ys from_y)) i x f);
-    }
+nodes_moved xs ys by size h k = nodes_joined xs (map (moved by) ys) h
+    (λ j x e. item_of_map (moved by) ys j x e
+    (λ y there same. subst (λ n. IsNodeAt (n + j) x) size
+    (subst (IsNodeAt (by + j)) same (node_moved by j y (k.each j y there)))))
 
-pub appended_as : (old ms : List TypeNode) (by len : ℕ) (t : Tree) → by ≡ length old
-    → len ≡ length (old ++ map (moved by) ms) → AreTree ms → root ms ≡ t
-    → Appended old (old ++ map (moved by) ms) (len - 1) t
-appended_as old ms by len t e f h r =
-    let more : List TypeNode = map (moved by) ms in
-    let size : length (old ++ more) ≡ length old + length ms = length-append old more
-    ∙ ap (λ z. length old + z) (length-map ms (moved by)) in
-    let some : 0 < length ms = h.some in
-    let made : length (unfolded old) ≡ length old = length-unfolded [] old
-    ∙ (let l : 0 + length old ≡ length old = omega arith in l) in
-    let at : len - 1 ≡ length (unfolded old) + (length ms - 1) = omega (arith, size, some, made, f) in
+nodes_push : (xs : List TypeNode) (x : TypeNode) → AreNodes xs → IsNodeAt (length xs) x → AreNodes (xs ++ x ∷ [])
+nodes_push xs x h k = nodes_joined xs (x ∷ []) h (item_of_one IsNodeAt (length xs) x k)
+
+-- ---- a tree behind other nodes
+
+-- the place of a tree's last node behind others
+last_place : (old own : List TypeNode) (by : ℕ) → by ≡ length old → 0 < length own
+    → length (old ++ map (moved by) own) - 1 ≡ length (unfolded old) + (length own - 1)
+last_place old own by size some =
+    let all : length (old ++ map (moved by) own) ≡ length old + length (map (moved by) own) =
+    length-append old (map (moved by) own) in
+    let more : length (map (moved by) own) ≡ length own = length-map own (moved by) in
+    let trees : length (unfolded old) ≡ length old = trees_of_nodes old in
+    omega (arith, all, more, trees, some)
+
+appended : (old own : List TypeNode) (by : ℕ) → by ≡ length old → AreTree own
+    → Appended old (old ++ map (moved by) own) (length (old ++ map (moved by) own) - 1) (root own)
+appended old own by size h =
+    let more : List TypeNode = map (moved by) own in
+    let some : 0 < length own = h.some in
+    let all : length (old ++ more) ≡ length old + length more = length-append old more in
+    let as_many : length more ≡ length own = length-map own (moved by) in
     record {
       front = λ p k. at_front old more p k;
-      longer = omega (arith, size);
-      there = ap (λ z. get_or z (len - 1) nowhere) (unfolded_both old ms by (sym e))
-          ∙ ap (λ n. get_or (unfolded old ++ unfolded ms) n nowhere) at
-          ∙ get_or-append-add (unfolded old) (unfolded ms) (length ms - 1) nowhere ∙ r;
-      within = omega (arith, size, some, f);
-      nodes = λ k. nodes_both old ms by e k h.nodes;
+      longer = omega (arith, all);
+      there = ap (tree_at (old ++ more)) (last_place old own by size some)
+          ∙ ap (λ z. get_or z (length (unfolded old) + (length own - 1)) nowhere) (unfolded_both old own by (sym size))
+          ∙ get_or-append-add (unfolded old) (unfolded own) (length own - 1) nowhere;
+      within = omega (arith, all, as_many, some);
+      nodes = λ k. nodes_moved old own by size k h.nodes;
     }
 
 pub appended_at : (old new ms : List TypeNode) (by len : ℕ) (t : Tree) → new ≡ old ++ map (moved by) ms
     → by ≡ length old → len ≡ length new → AreTree ms → root ms ≡ t → Appended old new (len - 1) t
-appended_at old new ms by len t d e f h r = subst (λ z. Appended old z (len - 1) t) (sym d)
-    (appended_as old ms by len t e (f ∙ ap length d) h r)
+appended_at old new ms by len t is size longer h whole =
+    subst (Appended old new (len - 1)) whole
+    (subst (λ n. Appended old new (n - 1) (root ms)) (sym longer)
+    (subst (λ z. Appended old z (length z - 1) (root ms)) (sym is) (appended old ms by size h)))
 
--- one tree more
+-- ---- some trees behind other nodes
+
 placed_push : (old mid new : List TypeNode) (ps : List ℕ) (at : ℕ) (t : Tree) (rest all : List Tree)
     → PlacedSoFar old mid ps (t ∷ rest) all → Appended mid new at t → PlacedSoFar old new (ps ++ at ∷ []) rest all
-placed_push old mid new ps at t rest all h k = record {
-  read = ap (λ z. z ++ rest) (map-append (λ p. get_or (unfolded new) p nowhere) ps (at ∷ [])
-      ∙ ap₂ (λ a b. a ++ b ∷ []) (read_same (unfolded new) (unfolded mid) (length mid) ps k.front h.below) k.there)
-      ∙ append_assoc (trees_at (unfolded mid) ps) (t ∷ []) rest ∙ h.read;
-  below = below_push (length new) at ps (below_more (length mid) (length new) ps k.longer h.below) k.within;
-  front = λ p i. k.front p (let l : length old ≤ length mid = h.longer in omega (arith, i, l)) ∙ h.front p i;
-  longer = (let l : length old ≤ length mid = h.longer in let m : length mid ≤ length new = k.longer in
-      omega (arith, l, m));
-  nodes = λ n. k.nodes (h.nodes n);
-}
+placed_push old mid new ps at t rest all before one =
+    let longer : length old ≤ length mid = before.longer in
+    let longer_too : length mid ≤ length new = one.longer in
+    let same : trees_at (unfolded new) ps ≡ trees_at (unfolded mid) ps =
+    read_same (unfolded new) (unfolded mid) (length mid) ps one.front before.below in
+    let read : trees_at (unfolded new) (ps ++ at ∷ []) ≡ trees_at (unfolded mid) ps ++ t ∷ [] =
+    map-append (λ p. tree_at new p) ps (at ∷ []) ∙ ap₂ (λ ts u. ts ++ u ∷ []) same one.there in
+    record {
+      read = ap (λ z. z ++ rest) read ∙ append_assoc (trees_at (unfolded mid) ps) (t ∷ []) rest ∙ before.read;
+      below = below_joined (length new) ps (at ∷ []) (below_wider (length mid) (length new) ps longer_too before.below)
+          (one.within, tt);
+      front = λ p k. one.front p (omega (arith, k, longer)) ∙ before.front p k;
+      longer = omega (arith, longer, longer_too);
+      nodes = λ k. one.nodes (before.nodes k);
+    }
 
 pub placed_step : (old mid new : List TypeNode) (ps qs : List ℕ) (at i : ℕ) (t : Tree) (ts us all : List Tree)
     → us ≡ ts → i < length us → t ≡ get_or us i t → PlacedSoFar old mid ps (drop i ts) all → Appended mid new at t
     → qs ≡ ps ++ at ∷ []
     → PlacedSoFar old new qs (drop (i + 1) ts) all
-placed_step old mid new ps qs at i t ts us all s l e h k q =
-    let d : drop i us ≡ t ∷ drop (i + 1) us = drop_more us i t l ∙ ap (λ z. z ∷ drop (i + 1) us) (sym e) in
-    subst (λ z. PlacedSoFar old new z (drop (i + 1) ts) all) (sym q)
-    (subst (λ z. PlacedSoFar old new (ps ++ at ∷ []) (drop (i + 1) z) all) s
-    (placed_push old mid new ps at t (drop (i + 1) us) all
-    (subst (λ z. PlacedSoFar old mid ps z all) (ap (drop i) (sym s) ∙ d) h) k))
+placed_step old mid new ps qs at i t ts us all slice below item before one places =
+    let next : drop i ts ≡ t ∷ drop (i + 1) ts =
+    ap (drop i) (sym slice) ∙ drop_more us i t below
+    ∙ ap₂ (λ u vs. u ∷ drop (i + 1) vs) (sym item) slice in
+    subst (λ z. PlacedSoFar old new z (drop (i + 1) ts) all) (sym places)
+    (placed_push old mid new ps at t (drop (i + 1) ts) all
+    (subst (λ z. PlacedSoFar old mid ps z all) next before) one)
 
-pub over_root : (nodes new : List TypeNode) (c : Symbol) (ps : List ℕ) (ts : List Tree)
-    → new ≡ nodes ++ node.Made c ps ∷ [] → trees_at (unfolded nodes) ps ≡ ts → root new ≡ Tree.Made c (trees_of ts)
-over_root nodes new c ps ts e h = ap root e ∙ root_push nodes (node.Made c ps) ∙ ap (λ z. Tree.Made c (trees_of z)) h
+-- ---- a symbol over trees
 
 -- the last tree's own nodes are kept, and the others are added to them
 pub over_kept : (own nodes new : List TypeNode) (c : Symbol) (ps qs : List ℕ) (at : ℕ) (t : Tree)
     (ts all : List Tree) → AreTree own → at + 1 ≡ length own → root own ≡ t → Placed own nodes ps ts
     → qs ≡ ps ++ at ∷ [] → new ≡ nodes ++ node.Made c qs ∷ [] → all ≡ ts ++ t ∷ []
     → root new ≡ Tree.Made c (trees_of all)
-over_kept own nodes new c ps qs at t ts all h e r k q n a =
-    let within : at < length own = omega (arith, e) in
-    let last : at ≡ length own - 1 = omega (arith, e) in
-    over_root nodes new c qs all n (ap (trees_at (unfolded nodes)) q
-    ∙ map-append (λ p. get_or (unfolded nodes) p nowhere) ps (at ∷ [])
-    ∙ ap₂ (λ x y. x ++ y ∷ []) k.read (k.front at within ∙ ap (tree_at own) last ∙ r) ∙ sym a)
-
-nodes_push : (xs : List TypeNode) (x : TypeNode) → AreNodes xs → IsNodeAt (length xs) x → AreNodes (xs ++ x ∷ [])
-nodes_push xs x h k =
-    let zero_plus : (n : ℕ) → 0 + n ≡ n = λ n. omega arith in
-    record {
-      each = λ i y f. subst (λ z. IsNodeAt z y) (zero_plus i)
-          (from_both 0 xs (x ∷ []) (λ j z g. subst (λ w. IsNodeAt w z) (sym (zero_plus j)) (h.each j z g))
-          (from_one (0 + length xs) x (subst (λ z. IsNodeAt z x) (sym (zero_plus (length xs))) k)) i y f);
-    }
+over_kept own nodes new c ps qs at t ts all h last whole placed places is trees =
+    let there : tree_at nodes at ≡ t =
+    placed.front at (omega (arith, last))
+    ∙ ap (tree_at own) (let k : at ≡ length own - 1 = omega (arith, last) in k) ∙ whole in
+    let read : trees_at (unfolded nodes) qs ≡ all =
+    ap (trees_at (unfolded nodes)) places ∙ map-append (λ p. tree_at nodes p) ps (at ∷ [])
+    ∙ ap₂ (λ us u. us ++ u ∷ []) placed.read there ∙ sym trees in
+    ap root is ∙ root_push nodes (node.Made c qs) ∙ ap (λ us. Tree.Made c (trees_of us)) read
 
 pub over_nodes : (own nodes new : List TypeNode) (c : Symbol) (ps qs : List ℕ) (at : ℕ) (ts : List Tree)
     → length ts + 1 ≡ part_count c → HasRisingLabels c → AreTree own → at + 1 ≡ length own → Placed own nodes ps ts
     → qs ≡ ps ++ at ∷ [] → new ≡ nodes ++ node.Made c qs ∷ [] → AreTree new
-over_nodes own nodes new c ps qs at ts counted rising h e k q n =
-    let longer : length own ≤ length nodes = k.longer in
+over_nodes own nodes new c ps qs at ts parts rising h last placed places is =
+    let longer : length own ≤ length nodes = placed.longer in
+    let as_many : length ps ≡ length ts =
+    sym (length-map ps (λ p. tree_at nodes p)) ∙ ap length placed.read in
+    let one_more : length (ps ++ at ∷ []) ≡ length ps + 1 = length-append ps (at ∷ []) in
+    let over : IsOver (length nodes) (ps ++ at ∷ []) (part_count c) = record {
+      below = below_joined (length nodes) ps (at ∷ []) placed.below (omega (arith, last, longer), tt);
+      counted = omega (arith, as_many, one_more, parts);
+    } in
     let size : length (nodes ++ node.Made c qs ∷ []) ≡ length nodes + 1 = length-append nodes (node.Made c qs ∷ []) in
-    let places : length ts ≡ length ps =
-    ap length (sym k.read) ∙ length-map ps (λ p. get_or (unfolded nodes) p nowhere) in
-    let all : length (ps ++ at ∷ []) ≡ length ps + 1 = length-append ps (at ∷ []) in
-    let below : AreBelow (length nodes) (ps ++ at ∷ []) =
-    below_push (length nodes) at ps k.below (omega (arith, e, longer)) in
-    subst AreTree (sym n) (record {
-      nodes = nodes_push nodes (node.Made c qs) (k.nodes h.nodes) (
-        subst (λ z. IsOver (length nodes) z (part_count c)) (sym q)
-            (record { below = below; counted = omega (arith, counted, places, all) }),
-        rising,
-      );
+    subst AreTree (sym is) (record {
+      nodes = nodes_push nodes (node.Made c qs) (placed.nodes h.nodes)
+          (subst (λ z. IsOver (length nodes) z (part_count c)) (sym places) over, rising);
       some = omega (arith, size);
     })
 
+-- ---- a front of nodes
+
 pub front_root : (ns copy : List TypeNode) (at : ℕ) → copy ≡ take (at + 1) ns → at < length ns
     → root copy ≡ tree_at ns at
-front_root ns copy at e h =
-    let k : length (take (at + 1) ns) ≡ at + 1 = length-take-le (at + 1) ns (omega (arith, h)) in
-    let l : length (take (at + 1) ns) - 1 ≡ at = omega (arith, k) in
-    ap root e ∙ ap (tree_at (take (at + 1) ns)) l ∙ sym
-    (at_front (take (at + 1) ns) (drop (at + 1) ns) at (omega (arith, k)))
-    ∙ ap (λ z. tree_at z at) (take-append-drop (at + 1) ns)
+front_root ns copy at is within =
+    let size : length (take (at + 1) ns) ≡ at + 1 = length-take-le (at + 1) ns (omega (arith, within)) in
+    let last : length (take (at + 1) ns) - 1 ≡ at = omega (arith, size) in
+    ap root is ∙ ap (tree_at (take (at + 1) ns)) last
+    ∙ sym (ap (λ z. tree_at z at) (sym (take-append-drop (at + 1) ns))
+    ∙ at_front (take (at + 1) ns) (drop (at + 1) ns) at (omega (arith, size)))
 
--- what the last node says
-last_node : (ns : List TypeNode) (n : ℕ) (x y : TypeNode) → AreTree ns → n ≡ length ns → y ≡ get_or ns (n - 1) y
-    → y ≡ x → slice_get ns (length ns - 1) ≡ Some x
-last_node ns n x y h e f g =
+-- ---- the last node
+
+-- the last node as it is read from a slice of the nodes
+last_read : (ns us : List TypeNode) (n : ℕ) (x y : TypeNode) → AreTree ns → us ≡ ns → n ≡ length ns
+    → y ≡ get_or us (n - 1) y → y ≡ x → slice_get ns (length ns - 1) ≡ Some x
+last_read ns us n x y h slice size item is =
     let some : 0 < length ns = h.some in
     slice_get-get_or ns (length ns - 1) y (omega (arith, some))
-    ∙ ap Some (ap (λ z. get_or ns (z - 1) y) (sym e) ∙ sym f ∙ g)
+    ∙ ap Some (sym (ap₂ (λ z k. get_or z (k - 1) y) slice size) ∙ sym item ∙ is)
 
--- the last node as the code reads it: `us` is the slice of the nodes
-read_in : (ns us : List TypeNode) (n : ℕ) (y : TypeNode) → us ≡ ns → y ≡ get_or us (n - 1) y → y ≡ get_or ns (n - 1) y
-read_in ns us n y e f = f ∙ ap (λ z. get_or z (n - 1) y) e
-
-last_is_node : (ns us : List TypeNode) (n : ℕ) (c : Symbol) (ps : List ℕ) (y : TypeNode) → AreTree ns → us ≡ ns
+last_over : (ns us : List TypeNode) (n : ℕ) (c : Symbol) (ps : List ℕ) (y : TypeNode) → AreTree ns → us ≡ ns
     → n ≡ length ns → y ≡ get_or us (n - 1) y → y ≡ node.Made c ps → IsNodeAt (length ns - 1) (node.Made c ps)
-last_is_node ns us n c ps y h u e f g =
-    h.nodes.each (length ns - 1) (node.Made c ps) (last_node ns n (node.Made c ps) y h e (read_in ns us n y u f) g)
+last_over ns us n c ps y h slice size item is =
+    h.nodes.each (length ns - 1) (node.Made c ps) (last_read ns us n (node.Made c ps) y h slice size item is)
 
 pub last_below : (ns us : List TypeNode) (n : ℕ) (c : Symbol) (ps : List ℕ) (y : TypeNode) → AreTree ns → us ≡ ns
     → n ≡ length ns → y ≡ get_or us (n - 1) y → y ≡ node.Made c ps → AreBelow (length ns) ps
-last_below ns us n c ps y h u e f g =
-    below_more (length ns - 1) (length ns) ps (omega arith) (last_is_node ns us n c ps y h u e f g).0.below
+last_below ns us n c ps y h slice size item is =
+    below_wider (length ns - 1) (length ns) ps (omega arith) (last_over ns us n c ps y h slice size item is).0.below
 
 -- how many parts the last node has, and that its labels rise
 pub last_counted : (ns us ws : List TypeNode) (n : ℕ) (c : Symbol) (ps : List ℕ) (y : TypeNode) (ts : List Tree)
     → AreTree ns → us ≡ ns → n ≡ length ns → y ≡ get_or us (n - 1) y → y ≡ node.Made c ps
     → ts ≡ trees_at (unfolded ws) ps → length ts ≡ part_count c
-last_counted ns us ws n c ps y ts h u e f g r =
-    ap length r ∙ length-map ps (λ p. get_or (unfolded ws) p nowhere)
-    ∙ (last_is_node ns us n c ps y h u e f g).0.counted
+last_counted ns us ws n c ps y ts h slice size item is read =
+    ap length read ∙ length-map ps (λ p. tree_at ws p)
+    ∙ (last_over ns us n c ps y h slice size item is).0.counted
 
 pub last_rising : (ns us : List TypeNode) (n : ℕ) (c : Symbol) (ps : List ℕ) (y : TypeNode) → AreTree ns → us ≡ ns
     → n ≡ length ns → y ≡ get_or us (n - 1) y → y ≡ node.Made c ps → HasRisingLabels c
-last_rising ns us n c ps y h u e f g = (last_is_node ns us n c ps y h u e f g).1
+last_rising ns us n c ps y h slice size item is = (last_over ns us n c ps y h slice size item is).1
 
 pub last_is : (ns us : List TypeNode) (n : ℕ) (x y : TypeNode) (t : Tree) → AreTree ns → us ≡ ns → n ≡ length ns
     → y ≡ get_or us (n - 1) y → y ≡ x → root ns ≡ t → node_tree (unfolded ns) x ≡ t
-last_is ns us n x y t h u e f g r = sym (noted ns (length ns - 1) x h.nodes
-    (last_node ns n x y h e (read_in ns us n y u f) g)) ∙ r
+last_is ns us n x y t h slice size item is whole =
+    sym (noted ns (length ns - 1) x h.nodes (last_read ns us n x y h slice size item is)) ∙ whole
 
 pub last_made : (ns us ws : List TypeNode) (n : ℕ) (c d : Symbol) (ps : List ℕ) (y : TypeNode) (t : Tree)
     (ts : List Tree) → AreTree ns → us ≡ ns → ws ≡ ns → n ≡ length ns → y ≡ get_or us (n - 1) y → y ≡ node.Made c ps
     → root ns ≡ t → d ≡ c → ts ≡ trees_at (unfolded ws) ps
     → Tree.Made d (trees_of ts) ≡ t
-last_made ns us ws n c d ps y t ts h u w e f g r i j = ap₂ (λ a b. Tree.Made a (trees_of b)) i (j
-    ∙ ap (λ z. trees_at (unfolded z) ps) w) ∙ last_is ns us n (node.Made c ps) y t h u e f g r
+last_made ns us ws n c d ps y t ts h slice again size item is whole symbol read =
+    ap₂ (λ e us. Tree.Made e (trees_of us)) symbol (read ∙ ap (λ z. trees_at (unfolded z) ps) again)
+    ∙ last_is ns us n (node.Made c ps) y t h slice size item is whole

@@ -1,6 +1,6 @@
 -- The laws of symbols, tables and environments, as the public functions of this crate state them.
-use Rattle.std.proofs.Common.{◌≡◌, ◌≢◌, ℕ, refl, sym, ap, ap₂, ◌∙◌, subst, List, [], ◌∷◌, ◌++◌, Some, Bool, true, false, cond}
-use Rattle.std.specs.Ordering.{is_eq, eq_by_cmp, nat_cmp}
+use Rattle.std.proofs.Common.{◌≡◌, ◌≢◌, ℕ, refl, sym, ap, ◌∙◌, subst, List, [], ◌∷◌, ◌++◌, Some, Bool, true, false, cond}
+use Rattle.std.specs.Ordering.{is_eq}
 use Rattle.std.specs.Cmp.{tied_itself}
 use Rattle.std.specs.Cmp.Lexicographic.{nat_list_cmp_total}
 use Rattle.std.specs.FinMap.{nat_cmp-IsAntisymmetric, slice_cmp-IsAntisymmetric}
@@ -8,7 +8,6 @@ use Rattle.std.specs.FinMap.Entries.{find-put, is_sorted, is_sorted-put}
 use lib.Dec.{T}
 use Rattle.std.specs.declared.cmp.Ordering.{Ordering}
 use Rattle.std.specs.declared.cmp.Ordering.TheVariants.{Less, Equal, Greater}
-use Rattle.semantic_objects.specs.declared.symbol.Symbol.{Symbol}
 use Rattle.semantic_objects.specs.Symbols.{same_symbol}
 use Rattle.semantic_objects.specs.Tables.{Table, IsTable, by_bytes, entry, with_entry, with_all}
 use Rattle.semantic_objects.specs.Environments.{Env, Structures, table_of, structures_of}

@@ -1,9 +1,9 @@
 -- What a list of nodes unfolds to: each node names earlier ones as its parts, and the last one is the tree.
-use Rattle.std.specs.Prelude.{◌≡◌, ℕ, ◌+◌, ◌-◌, ◌<◌, ◌≤◌, List, [], ◌∷◌, ◌++◌, length, map, get_or, slice_get, Some}
+use Rattle.std.specs.Prelude.{◌≡◌, ℕ, ◌-◌, ◌<◌, List, [], ◌∷◌, ◌++◌, length, map, get_or, slice_get, Some}
 use Rattle.semantic_objects.specs.declared.node.TypeNode.{TypeNode}
 use Rattle.semantic_objects.specs.declared.node.TypeNode.TheVariants as node
 use Rattle.semantic_objects.specs.Symbols.{part_count, HasRisingLabels}
-use Rattle.semantic_objects.specs.Trees.{Tree, Trees, trees_of}
+use Rattle.semantic_objects.specs.Trees.{Tree, trees_of}
 
 -- the tree of a place at which no node stands; no definition rests on it
 abbrev pub nowhere : Tree

@@ -7,7 +7,7 @@ use Rattle.semantic_objects.specs.declared.part.TreePart.{TreePart}
 use Rattle.semantic_objects.specs.declared.part.TreePart.TheVariants as part
 use Rattle.semantic_objects.specs.declared.part.TreeField.{TreeField}
 use Rattle.semantic_objects.specs.Symbols.{AreRising, AreDiffering}
-use Rattle.semantic_objects.specs.Trees.{Tree, Trees, trees_of}
+use Rattle.semantic_objects.specs.Trees.{Tree, trees_of}
 
 -- the number of an id
 abbrev pub id_number : TyId → ℕ

@@ -1,6 +1,6 @@
 -- Type names and the symbols of types as contracts see them: when two of them are one, and how many parts each takes.
 -- The Definition of Standard ML (Revised), sections 4.1 and 4.2.
-use Rattle.std.specs.Prelude.{◌≡◌, ◌↔◌, ℕ, List, [], ◌∷◌, length, Bool, true, false, ◌&&◌, eqb}
+use Rattle.std.specs.Prelude.{◌≡◌, ℕ, List, [], ◌∷◌, length, Bool, true, false, ◌&&◌, eqb}
 use Rattle.std.specs.Ordering.{nat_cmp}
 use Rattle.std.specs.Cmp.Lexicographic.{slice_cmp}
 use Rattle.std.specs.declared.cmp.Ordering.TheVariants.{Less}

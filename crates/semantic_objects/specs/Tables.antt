@@ -1,6 +1,6 @@
 -- Finite maps from names, as tables in strictly rising byte order of names.
 -- The Definition of Standard ML (Revised), sections 4.2 and 4.3.
-use Rattle.std.specs.Prelude.{◌≡◌, ℕ, List, [], ◌∷◌, ◌++◌, map, Option, IsTrue}
+use Rattle.std.specs.Prelude.{ℕ, List, [], ◌∷◌, map, Option, IsTrue}
 use Rattle.std.specs.Ordering.{nat_cmp}
 use Rattle.std.specs.Cmp.Lexicographic.{slice_cmp}
 use Rattle.std.specs.FinMap.{find, put, is_sorted}

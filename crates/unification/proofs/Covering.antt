@@ -1,5 +1,5 @@
--- the plain function that decides which of two schemes is more general is right, both ways
-use Rattle.std.proofs.Common.{◌≡◌, ℕ, ◌+◌, ◌<◌, refl, sym, ap, ap₂, ◌∙◌, subst, Option, Some, None, Bool, true, false, cond, [], ◌↔◌}
+-- The plain function that compares two schemes says whether the one is at least as general as the other.
+use Rattle.std.proofs.Common.{◌≡◌, ℕ, ◌+◌, refl, sym, ap, ap₂, ◌∙◌, subst, Option, Some, None, Bool, true, false, cond, [], ◌↔◌}
 use Rattle.std.proofs.lemmas.Bool.{eq-eqb, eqb-true, eqb-false}
 use Rattle.std.specs.Option.{is_some}
 use Rattle.std.specs.Prelude.{eqb}
@@ -7,325 +7,237 @@ use Rattle.semantic_objects.proofs.Same.{symbol_is, symbol_not}
 use Rattle.semantic_objects.specs.Symbols.{same_symbol}
 use Rattle.semantic_objects.specs.Trees.{Tree, Trees, TypeScheme}
 use Rattle.semantic_objects.specs.declared.symbol.Symbol.{Symbol}
+use Rattle.semantic_objects.specs.declared.symbol.Symbol.TheVariants as symbol
 use Rattle.unification.specs.Closing.{plug, plug_all}
 use Rattle.unification.specs.Generality.{same_tree, tree_admits, Found, nothing_found, with_found, match_variable, match_then, match_tree, match_trees, may_stand, covers, IsOf, MarksOwn}
-use Rattle.unification.specs.Instances.{mark_of, fill, instance, IsInstance, IsMoreGeneral}
+use Rattle.unification.specs.Instances.{mark_of, fill, IsInstance, IsMoreGeneral}
 use Rattle.unification.specs.Types.{Ty, Substitution, Marks, State}
-use Rattle.unification.proofs.Filling.{fill_plug, plug_same, plug_bound, tree_is, tree_same, tree_not, admits_filled, unfill, unfill_fill, marks_above, admits_unfilled, unfilled_above, marked_above, marked_below}
-use Rattle.unification.proofs.Putting.{either_way}
-use Rattle.semantic_objects.specs.declared.symbol.Symbol.TheVariants as symbol
+use Rattle.unification.proofs.Walking.{Anything, either_way, not_both, walk_tree}
+use Rattle.unification.proofs.Filling.{fill_plug, plug_still, tree_is, tree_same, admits_filled, read_as, read_filled, read_admits, from_on, below_free, on_bound, marks_on}
+
+-- ---- what is asked of a choice of trees for the variables of a scheme
 
 abbrev Choice : Type 0
 Choice = ℕ → Tree
 
--- a choice is what was found
-abbrev Agrees : Choice → Found → Type 0
-Agrees θ f = (i : ℕ) (t : Tree) → f i ≡ Some t → θ i ≡ t
+abbrev Keeps : Found → Choice → Type 0
+Keeps f θ = (i : ℕ) (t : Tree) → f i ≡ Some t → θ i ≡ t
 
-abbrev Wanted : (ℕ → Tree → Bool) → Found → Type 0
-Wanted may f = (i : ℕ) (t : Tree) → f i ≡ Some t → may i t ≡ true
+abbrev MayAll : (ℕ → Tree → Bool) → Choice → Type 0
+MayAll may θ = (i : ℕ) → may i (θ i) ≡ true
 
-abbrev Allowed : (ℕ → Tree → Bool) → Choice → Type 0
-Allowed may θ = (i : ℕ) → may i (θ i) ≡ true
+-- what is found may stand there
+abbrev MayFound : (ℕ → Tree → Bool) → Found → Type 0
+MayFound may f = (i : ℕ) (t : Tree) → f i ≡ Some t → may i t ≡ true
 
-record Matched (may : ℕ → Tree → Bool) (Same : Choice → Type 0) (f r : Found) : Type 0 where
-  sound : (θ : Choice) → Agrees θ r → Agrees θ f × Same θ
-  general : (θ : Choice) → Agrees θ f → Same θ → Agrees θ r
-  wanted : Wanted may f → Wanted may r
+-- after `f` was found, `r` is what a choice has to keep so that `S` holds
+record Finds (may : ℕ → Tree → Bool) (S : Choice → Type 0) (f r : Found) : Type 0 where
+  old : (θ : Choice) → Keeps r θ → Keeps f θ
+  holds : (θ : Choice) → Keeps r θ → S θ
+  needed : (θ : Choice) → Keeps f θ → S θ → Keeps r θ
+  allowed : MayFound may f → MayFound may r
 
-abbrev Matches : (ℕ → Tree → Bool) → (Choice → Type 0) → Found → Option Found → Type 0
-Matches may Same f (Some r) = Matched may Same f r
-Matches may Same f None = (θ : Choice) → Allowed may θ → Agrees θ f → Same θ → ⊥
+-- .. or there is no choice
+abbrev Answers : (ℕ → Tree → Bool) → (Choice → Type 0) → Found → Option Found → Type 0
+Answers may S f (Some r) = Finds may S f r
+Answers may S f None = (θ : Choice) → MayAll may θ → Keeps f θ → S θ → ⊥
 
-abbrev Plugged : Tree → Tree → Choice → Type 0
-Plugged x y θ = plug θ x ≡ y
+nothing_new : (may : ℕ → Tree → Bool) (S : Choice → Type 0) (f : Found) → ((θ : Choice) → Keeps f θ → S θ)
+    → Finds may S f f
+nothing_new may S f h =
+    record { old = λ θ k. k; holds = h; needed = λ θ k _. k; allowed = λ w. w }
 
-abbrev PluggedAll : Trees → Trees → Choice → Type 0
-PluggedAll xs ys θ = plug_all θ xs ≡ ys
+same_question : (may : ℕ → Tree → Bool) (S U : Choice → Type 0) (f : Found) (o : Option Found)
+    → ((θ : Choice) → S θ → U θ) → ((θ : Choice) → U θ → S θ) → Answers may S f o → Answers may U f o
+same_question may S U f None there back h = λ θ l k u. h θ l k (back θ u)
+same_question may S U f (Some r) there back h = record {
+  old = h.old;
+  holds = λ θ k. there θ (h.holds θ k);
+  needed = λ θ k u. h.needed θ k (back θ u);
+  allowed = h.allowed;
+}
 
-two_bools : (b : Bool) → b ≡ false → b ≡ true → ⊥
-two_bools b h k = let l : false ≡ true = sym h ∙ k in cc
+second_question : (may : ℕ → Tree → Bool) (S U : Choice → Type 0) (f m : Found) (o : Option Found)
+    → Finds may S f m → Answers may U m o → Answers may (λ θ. S θ × U θ) f o
+second_question may S U f m None g h = λ θ l k both. h θ l (g.needed θ k both.0) both.1
+second_question may S U f m (Some r) g h = record {
+  old = λ θ k. g.old θ (h.old θ k);
+  holds = λ θ k. (g.holds θ (h.old θ k), h.holds θ k);
+  needed = λ θ k both. h.needed θ (g.needed θ k both.0) both.1;
+  allowed = λ w. h.allowed (g.allowed w);
+}
+
+both_questions : (may : ℕ → Tree → Bool) (S U : Choice → Type 0) (f : Found) (o : Option Found)
+    (k : Found → Option Found) → Answers may S f o → ((m : Found) → Answers may U m (k m))
+    → Answers may (λ θ. S θ × U θ) f (match_then o k)
+both_questions may S U f None k h g = λ θ l a both. h θ l a both.0
+both_questions may S U f (Some m) k h g = second_question may S U f m (k m) h (g m)
+
+where_same : (may : ℕ → Tree → Bool) (S : Choice → Type 0) (f : Found) (c : Bool) (o : Option Found)
+    → (c ≡ true → Answers may S f o) → (c ≡ false → (θ : Choice) → Keeps f θ → S θ → ⊥)
+    → Answers may S f (cond c o None)
+where_same may S f true o yes_is no_is = yes_is refl
+where_same may S f false o yes_is no_is = λ θ _ k s. no_is refl θ k s
+
+-- ---- one variable
 
 some_is : {A : Type 0} (x y : A) → Some x ≡ Some y → x ≡ y
 some_is x y h = cc
 
-noted_here : (i : ℕ) (t : Tree) (f : Found) → with_found i t f i ≡ Some t
-noted_here i t f = ap (λ b. cond b (Some t) (f i)) (eq-eqb i i refl)
+-- what is found afterwards is the tree at its variable, or was found before
+found_case : (P : ℕ → Tree → Type 0) (i j : ℕ) (t u : Tree) (f : Found) → P i t → (f j ≡ Some u → P j u)
+    → with_found i t f j ≡ Some u → P j u
+found_case P i j t u f here there e = either_way (eqb i j)
+    (λ k. subst (λ z. P z u) (eqb-true i j k)
+    (subst (P i) (some_is t u (sym (ap (λ b. cond b (Some t) (f j)) k) ∙ e)) here))
+    (λ k. there (sym (ap (λ b. cond b (Some t) (f j)) k) ∙ e))
 
-noted_other : (i j : ℕ) (t : Tree) (f : Found) → eqb i j ≡ false → with_found i t f j ≡ f j
-noted_other i j t f h = ap (λ b. cond b (Some t) (f j)) h
+found_here : (i : ℕ) (t : Tree) (f : Found) → with_found i t f i ≡ Some t
+found_here i t f = ap (λ b. cond b (Some t) (f i)) (eq-eqb i i refl)
 
--- of what was found, what was there before
-noted_before : (i j : ℕ) (t u : Tree) (f : Found) → f i ≡ None → f j ≡ Some u → with_found i t f j ≡ Some u
-noted_before i j t u f h k = either_way (eqb i j)
-    (λ e. let l : None ≡ Some u = sym h ∙ ap f (eqb-true i j e) ∙ k in absurd (cc))
-    (λ e. noted_other i j t f e ∙ k)
+found_before : (i j : ℕ) (t u : Tree) (f : Found) → f i ≡ None → f j ≡ Some u → with_found i t f j ≡ Some u
+found_before i j t u f none e = either_way (eqb i j)
+    (λ k. let l : None ≡ Some u = sym none ∙ ap f (eqb-true i j k) ∙ e in absurd (cc))
+    (λ k. ap (λ b. cond b (Some t) (f j)) k ∙ e)
 
-noted_case : (P : ℕ → Tree → Type 0) (i j : ℕ) (t u : Tree) (f : Found) → with_found i t f j ≡ Some u → P i t
-    → (f j ≡ Some u → P j u) → P j u
-noted_case P i j t u f k h g = either_way (eqb i j)
-    (λ e. let l : t ≡ u = some_is t u (sym (ap (λ b. cond b (Some t) (f j)) e) ∙ k) in
-    subst (λ z. P z u) (eqb-true i j e) (subst (P i) l h))
-    (λ e. g (sym (noted_other i j t f e) ∙ k))
+abbrev Becomes : Tree → Tree → Choice → Type 0
+Becomes x y θ = plug θ x ≡ y
 
-matched_found : (may : ℕ → Tree → Bool) (i : ℕ) (t u : Tree) (f : Found) (c : Bool) → same_tree u t ≡ c
-    → f i ≡ Some u → Matches may (Plugged (Tree.Bound i) t) f (cond c (Some f) None)
-matched_found may i t u f true e k = record {
-  sound = λ θ a. (a, a i u k ∙ tree_is u t e);
-  general = λ θ a s. a;
-  wanted = λ w. w;
+abbrev BecomeAll : Trees → Trees → Choice → Type 0
+BecomeAll xs ys θ = plug_all θ xs ≡ ys
+
+variable_finds : (may : ℕ → Tree → Bool) (i : ℕ) (t : Tree) (f : Found) (c : Bool) (o : Option Tree) → may i t ≡ c
+    → f i ≡ o → Answers may (Becomes (Tree.Bound i) t) f (match_variable c i t f o)
+variable_finds may i t f false o no_is e = λ θ l k s. not_both (may i t) no_is (subst (λ z. may i z ≡ true) s (l i))
+variable_finds may i t f true None may_it e = record {
+  old = λ θ k j u g. k j u (found_before i j t u f e g);
+  holds = λ θ k. k i t (found_here i t f);
+  needed = λ θ k s j u. found_case (λ n z. θ n ≡ z) i j t u f s (k j u);
+  allowed = λ w j u. found_case (λ n z. may n z ≡ true) i j t u f may_it (w j u);
 }
-matched_found may i t u f false e k = λ θ _ a s. tree_not u t e (sym (a i u k) ∙ s)
+variable_finds may i t f true (Some u) may_it e =
+    where_same may (Becomes (Tree.Bound i) t) f (same_tree u t) (Some f)
+    (λ same. nothing_new may (Becomes (Tree.Bound i) t) f (λ θ k. k i u e ∙ tree_is u t same))
+    (λ differ θ k s. not_both (same_tree u t) differ
+    (subst (λ z. same_tree u z ≡ true) (sym (k i u e) ∙ s) (tree_same u)))
 
-matched_bound : (may : ℕ → Tree → Bool) (i : ℕ) (t : Tree) (f : Found) (c : Bool) (o : Option Tree) → may i t ≡ c
-    → f i ≡ o → Matches may (Plugged (Tree.Bound i) t) f (match_variable c i t f o)
-matched_bound may i t f false o h k = λ θ l a s. two_bools (may i t) h (subst (λ z. may i z ≡ true) s (l i))
-matched_bound may i t f true None h k = record {
-  sound = λ θ a. (λ j u e. a j u (noted_before i j t u f k e), a i t (noted_here i t f));
-  general = λ θ a s j u e. noted_case (λ n z. θ n ≡ z) i j t u f e s (λ l. a j u l);
-  wanted = λ w j u e. noted_case (λ n z. may n z ≡ true) i j t u f e h (λ l. w j u l);
-}
-matched_bound may i t f true (Some u) h k = matched_found may i t u f (same_tree u t) refl k
+-- ---- trees
 
-matched_open : (may : ℕ → Tree → Bool) (n m : ℕ) (f : Found) (c : Bool) → eqb n m ≡ c
-    → Matches may (Plugged (Tree.Free n) (Tree.Free m)) f (cond c (Some f) None)
-matched_open may n m f true e = record {
-  sound = λ θ a. (a, ap Tree.Free (eqb-true n m e));
-  general = λ θ a s. a;
-  wanted = λ w. w;
-}
-matched_open may n m f false e = λ θ _ a s. eqb-false n m e (let k : n ≡ m = cc in k)
+abbrev FindsIn : (ℕ → Tree → Bool) → Tree → Type 0
+FindsIn may x = (y : Tree) (f : Found) → Answers may (Becomes x y) f (match_tree may x y f)
 
-matched_made : (may : ℕ → Tree → Bool) (c d : Symbol) (ts us : Trees) (f : Found) (same : Bool) (o : Option Found)
-    → same_symbol c d ≡ same → Matches may (PluggedAll ts us) f o
-    → Matches may (Plugged (Tree.Made c ts) (Tree.Made d us)) f (cond same o None)
-matched_made may c d ts us f false o e h = λ θ _ a s. symbol_not c d e (let k : c ≡ d = cc in k)
-matched_made may c d ts us f true None e h = λ θ l a s. h θ l a (let k : plug_all θ ts ≡ us = cc in k)
-matched_made may c d ts us f true (Some r) e h = record {
-  sound = λ θ a. ((h.sound θ a).0, ap₂ Tree.Made (symbol_is c d e) (h.sound θ a).1);
-  general = λ θ a s. h.general θ a (let k : plug_all θ ts ≡ us = cc in k);
-  wanted = h.wanted;
-}
+abbrev FindAllIn : (ℕ → Tree → Bool) → Trees → Type 0
+FindAllIn may xs = (ys : Trees) (f : Found) → Answers may (BecomeAll xs ys) f (match_trees may xs ys f)
 
-matched_after : (may : ℕ → Tree → Bool) (t u : Tree) (ts us : Trees) (f m : Found) → Matched may (Plugged t u) f m
-    → (o : Option Found) → Matches may (PluggedAll ts us) m o
-    → Matches may (PluggedAll (Trees.Cons t ts) (Trees.Cons u us)) f o
-matched_after may t u ts us f m g None h = λ θ l a s. h θ l (g.general θ a (let k : plug θ t ≡ u = cc in k))
-    (let k : plug_all θ ts ≡ us = cc in k)
-matched_after may t u ts us f m g (Some r) h = record {
-  sound = λ θ a. (let i = h.sound θ a in let j = g.sound θ i.0 in (j.0, ap₂ Trees.Cons j.1 i.1));
-  general = λ θ a s. h.general θ (g.general θ a (let k : plug θ t ≡ u = cc in k))
-      (let k : plug_all θ ts ≡ us = cc in k);
-  wanted = λ w. h.wanted (g.wanted w);
-}
+free_finds : (may : ℕ → Tree → Bool) (n : ℕ) → FindsIn may (Tree.Free n)
+free_finds may n (Tree.Bound j) f = λ θ _ _ s. absurd (cc)
+free_finds may n (Tree.Free m) f = where_same may (Becomes (Tree.Free n) (Tree.Free m)) f (eqb n m) (Some f)
+    (λ e. nothing_new may (Becomes (Tree.Free n) (Tree.Free m)) f (λ θ _. ap Tree.Free (eqb-true n m e)))
+    (λ e θ _ s. eqb-false n m e (let k : n ≡ m = cc in k))
+free_finds may n (Tree.Made d us) f = λ θ _ _ s. absurd (cc)
 
-matched_then : (may : ℕ → Tree → Bool) (t u : Tree) (ts us : Trees) (f : Found) (o : Option Found)
-    → Matches may (Plugged t u) f o → ((m : Found) → Matches may (PluggedAll ts us) m (match_trees may ts us m))
-    → Matches may (PluggedAll (Trees.Cons t ts) (Trees.Cons u us)) f (match_then o (match_trees may ts us))
-matched_then may t u ts us f None h g = λ θ l a s. h θ l a (let k : plug θ t ≡ u = cc in k)
-matched_then may t u ts us f (Some m) h g = matched_after may t u ts us f m h (match_trees may ts us m) (g m)
+made_finds : (may : ℕ → Tree → Bool) (c : Symbol) (ts : Trees) → FindAllIn may ts → FindsIn may (Tree.Made c ts)
+made_finds may c ts h (Tree.Bound j) f = λ θ _ _ s. absurd (cc)
+made_finds may c ts h (Tree.Free m) f = λ θ _ _ s. absurd (cc)
+made_finds may c ts h (Tree.Made d us) f =
+    where_same may (Becomes (Tree.Made c ts) (Tree.Made d us)) f (same_symbol c d) (match_trees may ts us f)
+    (λ e. same_question may (BecomeAll ts us) (Becomes (Tree.Made c ts) (Tree.Made d us)) f (match_trees may ts us f)
+    (λ θ s. ap₂ Tree.Made (symbol_is c d e) s) (λ θ s. let k : plug_all θ ts ≡ us = cc in k) (h us f))
+    (λ e θ _ s. symbol_not c d e (let k : c ≡ d = cc in k))
 
-mutual
-  matched : (may : ℕ → Tree → Bool) (x y : Tree) (f : Found) → Matches may (Plugged x y) f (match_tree may x y f)
-  matched may (Tree.Bound i) y f = matched_bound may i y f (may i y) (f i) refl refl
-  matched may (Tree.Free n) (Tree.Bound j) f = λ θ l a s. absurd (cc)
-  matched may (Tree.Free n) (Tree.Free m) f = matched_open may n m f (eqb n m) refl
-  matched may (Tree.Free n) (Tree.Made d us) f = λ θ l a s. absurd (cc)
-  matched may (Tree.Made c ts) (Tree.Bound j) f = λ θ l a s. absurd (cc)
-  matched may (Tree.Made c ts) (Tree.Free m) f = λ θ l a s. absurd (cc)
-  matched may (Tree.Made c ts) (Tree.Made d us) f = matched_made may c d ts us f (same_symbol c d)
-      (match_trees may ts us f) refl (matched_all may ts us f)
+none_finds : (may : ℕ → Tree → Bool) → FindAllIn may Trees.Nil
+none_finds may Trees.Nil f = nothing_new may (BecomeAll Trees.Nil Trees.Nil) f (λ θ _. refl)
+none_finds may (Trees.Cons u us) f = λ θ _ _ s. absurd (cc)
 
-  matched_all : (may : ℕ → Tree → Bool) (xs ys : Trees) (f : Found)
-      → Matches may (PluggedAll xs ys) f (match_trees may xs ys f)
-  matched_all may Trees.Nil Trees.Nil f = record { sound = λ θ a. (a, refl); general = λ θ a s. a; wanted = λ w. w }
-  matched_all may Trees.Nil (Trees.Cons u us) f = λ θ l a s. absurd (cc)
-  matched_all may (Trees.Cons t ts) Trees.Nil f = λ θ l a s. absurd (cc)
-  matched_all may (Trees.Cons t ts) (Trees.Cons u us) f = matched_then may t u ts us f (match_tree may t u f)
-      (matched may t u f) (λ m. matched_all may ts us m)
+more_finds : (may : ℕ → Tree → Bool) (t : Tree) (ts : Trees) → FindsIn may t → FindAllIn may ts
+    → FindAllIn may (Trees.Cons t ts)
+more_finds may t ts h hs Trees.Nil f = λ θ _ _ s. absurd (cc)
+more_finds may t ts h hs (Trees.Cons u us) f =
+    same_question may (λ θ. Becomes t u θ × BecomeAll ts us θ) (BecomeAll (Trees.Cons t ts) (Trees.Cons u us)) f
+    (match_then (match_tree may t u f) (match_trees may ts us)) (λ θ s. ap₂ Trees.Cons s.0 s.1)
+    (λ θ s. (let k : plug θ t ≡ u = cc in k, let l : plug_all θ ts ≡ us = cc in l))
+    (both_questions may (Becomes t u) (BecomeAll ts us) f (match_tree may t u f) (match_trees may ts us) (h u f)
+    (hs us))
 
--- the empty record
-abbrev pub unit_tree : Tree
-unit_tree = Tree.Made (symbol.Record []) Trees.Nil
+finds : (may : ℕ → Tree → Bool) (x : Tree) → FindsIn may x
+finds may x = walk_tree Anything Anything (FindsIn may) (FindAllIn may)
+    (record {
+      bound = λ i _ y f. variable_finds may i y f (may i y) (f i) refl refl;
+      free = λ n _. free_finds may n;
+      made = made_finds may;
+      none = none_finds may;
+      more = more_finds may;
+    })
+    x (λ i _. tt) (λ n _. tt)
 
-abbrev found_or : Option Tree → Tree
-found_or None = unit_tree
-found_or (Some t) = t
+-- ---- instances
 
-abbrev choice_of : Found → Choice
-choice_of f i = found_or (f i)
+-- the choice that keeps what was found, with the empty record for all else
+abbrev or_empty : Option Tree → Tree
+or_empty None = Tree.Made (symbol.Record []) Trees.Nil
+or_empty (Some t) = t
 
-choice_agrees : (f : Found) → Agrees (choice_of f) f
-choice_agrees f i t e = ap found_or e
+abbrev kept_by : Found → Choice
+kept_by f i = or_empty (f i)
 
--- where it is asked, what was found may stand there
-asked : (m : Bool) (x : Bool) → m ≡ true → cond m x true ≡ true → x ≡ true
-asked true x h k = k
-asked false x h k = absurd (cc)
+where_asked : (m x : Bool) → cond m x true ≡ true → m ≡ true → x ≡ true
+where_asked true x h k = h
+where_asked false x h k = absurd (cc)
 
-admits_found : (s : State) (g h : TypeScheme) (i : ℕ) (f : Found) (o : Option Tree) → Wanted (may_stand s g h) f
-    → f i ≡ o → mark_of g.marks i ≡ true → tree_admits (mark_of h.marks) s.marks (found_or o) ≡ true
-admits_found s g h i f None w e k = refl
-admits_found s g h i f (Some t) w e k = asked (mark_of g.marks i) (tree_admits (mark_of h.marks) s.marks t) k
-    (w i t e)
+asked_where : (m x : Bool) → (m ≡ true → x ≡ true) → cond m x true ≡ true
+asked_where true x h = h refl
+asked_where false x h = refl
 
-fits_more : (s : State) (q : Marks) → MarksOwn s → ((n : ℕ) → n < s.next → q n ≡ s.marks n) → (n : ℕ)
-    → s.marks n ≡ true → q n ≡ true
-fits_more s q h k n e = k n (h n e) ∙ e
+found_admits : (s : State) (g h : TypeScheme) (i : ℕ) (o : Option Tree)
+    → ((t : Tree) → o ≡ Some t → may_stand s g h i t ≡ true) → mark_of g.marks i ≡ true
+    → tree_admits (mark_of h.marks) s.marks (or_empty o) ≡ true
+found_admits s g h i None w k = refl
+found_admits s g h i (Some t) w k =
+    where_asked (mark_of g.marks i) (tree_admits (mark_of h.marks) s.marks t) (w t refl) k
 
-covers_as : (s : State) (g h : TypeScheme) (f : Found) → MarksOwn s
-    → Matched (may_stand s g h) (Plugged g.body h.body) nothing_found f → IsMoreGeneral s g h
-covers_as s g h f fit m q same t i =
-    let θ : Choice = choice_of f in
-    let e : plug θ g.body ≡ h.body = (m.sound θ (choice_agrees f)).1 in
-    let w : Wanted (may_stand s g h) f = m.wanted (λ j u k. absurd (cc)) in
+-- what was found makes each instance of the second one of the first
+found_general : (s : State) (g h : TypeScheme) (f : Found) → MarksOwn s
+    → Finds (may_stand s g h) (Becomes g.body h.body) nothing_found f → IsMoreGeneral s g h
+found_general s g h f own m q same t i =
+    let θ : Choice = kept_by f in
+    let w : MayFound (may_stand s g h) f = m.allowed (λ j u e. absurd (cc)) in
     record {
       by = λ j. fill i.by Ty.Var (θ j);
-      admitted = λ j k. admits_filled (mark_of h.marks) s.marks q i.by (θ j) i.admitted (fits_more s q fit same)
-          (admits_found s g h j f (f j) w refl k);
-      is = sym (fill_plug i.by Ty.Var θ g.body) ∙ ap (fill i.by Ty.Var) e ∙ i.is;
+      admitted = λ j k. admits_filled (mark_of h.marks) s.marks q i.by (θ j) i.admitted
+          (λ n e. same n (own n e) ∙ e) (found_admits s g h j (f j) (w j) k);
+      is = sym (fill_plug i.by Ty.Var θ g.body)
+          ∙ ap (fill i.by Ty.Var) (m.holds θ (λ j u e. ap or_empty e)) ∙ i.is;
     }
 
-may_where : (m x : Bool) → (m ≡ true → x ≡ true) → cond m x true ≡ true
-may_where true x h = h refl
-may_where false x h = refl
-
--- the instance with new variables tells
-covered_not : (s : State) (g h : TypeScheme) → IsOf s g.body → IsOf s h.body
-    → ((θ : Choice) → Allowed (may_stand s g h) θ → Agrees θ nothing_found → Plugged g.body h.body θ → ⊥)
-    → IsMoreGeneral s g h → ⊥
-covered_not s g h of_g of_h none more =
-    let b : Substitution = λ i. Ty.Var (s.next + i) in
-    let q : Marks = marks_above s.next s.marks (mark_of h.marks) in
-    let whole : plug (λ i. unfill s.next (b i)) h.body ≡ h.body = plug_same (λ i. unfill s.next (b i))
-    Tree.Bound h.body (λ i. unfilled_above s.next i) ∙ plug_bound h.body in
-    let i : IsInstance q g (fill b Ty.Var h.body) = more q (λ n k. marked_below s.next n s.marks (mark_of h.marks)
-    k) (fill b Ty.Var h.body)
-    (record { by = b; admitted = λ j k. marked_above s.next j s.marks (mark_of h.marks) ∙ k; is = refl }) in
-    let θ : Choice = λ j. unfill s.next (i.by j) in
+-- where nothing is found, the instance with new variables is none of the first scheme
+none_general : (s : State) (g h : TypeScheme) → IsOf s g.body → IsOf s h.body
+    → Answers (may_stand s g h) (Becomes g.body h.body) nothing_found None → IsMoreGeneral s g h → ⊥
+none_general s g h of_g of_h none more =
+    let new : Substitution = λ i. Ty.Var (s.next + i) in
+    let back : ℕ → Tree = from_on s.next in
+    let q : Marks = marks_on s.next s.marks (mark_of h.marks) in
+    let i : IsInstance q g (fill new Ty.Var h.body) = more q
+    (λ n k. ap (tree_admits (mark_of h.marks) s.marks) (below_free s.next n k)) (fill new Ty.Var h.body)
+    (record {
+      by = new;
+      admitted = λ j k. ap (tree_admits (mark_of h.marks) s.marks) (on_bound s.next j) ∙ k;
+      is = refl;
+    }) in
+    let θ : Choice = λ j. read_as back (i.by j) in
     none θ
-    (λ j. may_where (mark_of g.marks j) (tree_admits (mark_of h.marks) s.marks (θ j))
-    (λ k. sym (admits_unfilled s.next (mark_of h.marks) s.marks (i.by j)) ∙ i.admitted j k))
-    (λ j u k. absurd (cc))
-    (sym (unfill_fill s.next i.by g.body of_g) ∙ ap (unfill s.next) i.is ∙ unfill_fill s.next b h.body of_h ∙ whole)
+    (λ j. asked_where (mark_of g.marks j) (tree_admits (mark_of h.marks) s.marks (θ j))
+    (λ k. sym (read_admits back q (mark_of h.marks) s.marks (i.by j) (λ n. refl)) ∙ i.admitted j k))
+    (λ j u e. absurd (cc))
+    (sym (read_filled back i.by g.body (λ n e. below_free s.next n (of_g n e))) ∙ ap (read_as back) i.is
+    ∙ read_filled back new h.body (λ n e. below_free s.next n (of_h n e))
+    ∙ plug_still (λ j. read_as back (new j)) h.body (on_bound s.next))
 
 decided : (s : State) (g h : TypeScheme) (o : Option Found) → MarksOwn s → IsOf s g.body → IsOf s h.body
-    → Matches (may_stand s g h) (Plugged g.body h.body) nothing_found o → (is_some o ≡ true) ↔ IsMoreGeneral s g h
-decided s g h None fit of_g of_h m = ((λ e. absurd (cc)), (λ more. absurd (covered_not s g h of_g of_h m more)))
-decided s g h (Some f) fit of_g of_h m = ((λ e. covers_as s g h f fit m), (λ more. refl))
+    → Answers (may_stand s g h) (Becomes g.body h.body) nothing_found o → (is_some o ≡ true) ↔ IsMoreGeneral s g h
+decided s g h (Some f) own of_g of_h m = ((λ e. found_general s g h f own m), (λ more. refl))
+decided s g h None own of_g of_h m = ((λ e. absurd (cc)), (λ more. absurd (none_general s g h of_g of_h m more)))
 
 pub covers_law : (s : State) (g h : TypeScheme) → MarksOwn s → IsOf s g.body → IsOf s h.body
     → (covers s g h ≡ true) ↔ IsMoreGeneral s g h
-covers_law s g h fit of_g of_h = decided s g h (match_tree (may_stand s g h) g.body h.body nothing_found)
-    fit of_g of_h (matched (may_stand s g h) g.body h.body nothing_found)
-
--- all that was found before is found
-abbrev pub Extends : Found → Found → Type 0
-Extends f g = (i : ℕ) (t : Tree) → f i ≡ Some t → g i ≡ Some t
-
-abbrev Grown : Found → Option Found → Type 0
-Grown f None = Unit {0}
-Grown f (Some r) = Extends f r
-
-grown_choice : (f : Found) (c : Bool) → Grown f (cond c (Some f) None)
-grown_choice f true = λ i t e. e
-grown_choice f false = tt
-
-grown_bound : (c : Bool) (i : ℕ) (t : Tree) (f : Found) (o : Option Tree) → f i ≡ o
-    → Grown f (match_variable c i t f o)
-grown_bound false i t f o k = tt
-grown_bound true i t f None k = λ j u e. noted_before i j t u f k e
-grown_bound true i t f (Some u) k = grown_choice f (same_tree u t)
-
-grown_cond : (f : Found) (c : Bool) (o : Option Found) → Grown f o → Grown f (cond c o None)
-grown_cond f true o h = h
-grown_cond f false o h = tt
-
-grown_after : (f m : Found) (o : Option Found) → Extends f m → Grown m o → Grown f o
-grown_after f m None h k = tt
-grown_after f m (Some r) h k = λ i t e. k i t (h i t e)
-
-grown_then : (f : Found) (o : Option Found) (k : Found → Option Found) → Grown f o → ((m : Found) → Grown m (k m))
-    → Grown f (match_then o k)
-grown_then f None k h g = tt
-grown_then f (Some m) k h g = grown_after f m (k m) h (g m)
-
-mutual
-  grown : (may : ℕ → Tree → Bool) (x y : Tree) (f : Found) → Grown f (match_tree may x y f)
-  grown may (Tree.Bound i) y f = grown_bound (may i y) i y f (f i) refl
-  grown may (Tree.Free n) (Tree.Bound j) f = tt
-  grown may (Tree.Free n) (Tree.Free m) f = grown_choice f (eqb n m)
-  grown may (Tree.Free n) (Tree.Made d us) f = tt
-  grown may (Tree.Made c ts) (Tree.Bound j) f = tt
-  grown may (Tree.Made c ts) (Tree.Free m) f = tt
-  grown may (Tree.Made c ts) (Tree.Made d us) f = grown_cond f (same_symbol c d) (match_trees may ts us f)
-      (grown_all may ts us f)
-
-  grown_all : (may : ℕ → Tree → Bool) (xs ys : Trees) (f : Found) → Grown f (match_trees may xs ys f)
-  grown_all may Trees.Nil Trees.Nil f = λ i t e. e
-  grown_all may Trees.Nil (Trees.Cons u us) f = tt
-  grown_all may (Trees.Cons t ts) Trees.Nil f = tt
-  grown_all may (Trees.Cons t ts) (Trees.Cons u us) f = grown_then f (match_tree may t u f) (match_trees may ts us)
-      (grown may t u f) (λ m. grown_all may ts us m)
-
--- what matched once matches again and finds nothing new, so a pair that is shared is met once
-abbrev Again : Option Found → (Found → Option Found) → Type 0
-Again None k = Unit {0}
-Again (Some r) k = (g : Found) → Extends r g → k g ≡ Some g
-
-again_found : (i : ℕ) (t : Tree) (g : Found) (c : Bool) (o : Option Tree) → c ≡ true → o ≡ Some t
-    → match_variable c i t g o ≡ Some g
-again_found i t g false o h k = absurd (cc)
-again_found i t g true None h k = absurd (cc)
-again_found i t g true (Some u) h k = let e : u ≡ t = some_is u t k in
-    ap (λ b. cond b (Some g) None) (ap (λ z. same_tree z t) e ∙ tree_same t)
-
-again_same : (i : ℕ) (t u : Tree) (f : Found) (b c : Bool) → b ≡ true → same_tree u t ≡ c → f i ≡ Some u
-    → Again (cond c (Some f) None) (λ g. match_variable b i t g (g i))
-again_same i t u f b true h k e = λ g x. again_found i t g b (g i) h (x i t (e ∙ ap Some (tree_is u t k)))
-again_same i t u f b false h k e = tt
-
-again_bound : (i : ℕ) (t : Tree) (f : Found) (c : Bool) (o : Option Tree) → f i ≡ o
-    → Again (match_variable c i t f o) (λ g. match_variable c i t g (g i))
-again_bound i t f false o k = tt
-again_bound i t f true None k = λ g x. again_found i t g true (g i) refl (x i t (noted_here i t f))
-again_bound i t f true (Some u) k = again_same i t u f true (same_tree u t) refl refl k
-
-again_open : (f : Found) (c : Bool) → Again (cond c (Some f) None) (λ g. cond c (Some g) None)
-again_open f true = λ g x. refl
-again_open f false = tt
-
-again_cond : (c : Bool) (o : Option Found) (k : Found → Option Found) → Again o k
-    → Again (cond c o None) (λ g. cond c (k g) None)
-again_cond true o k h = h
-again_cond false o k h = tt
-
-again_after : (m : Found) (o : Option Found) (j k : Found → Option Found)
-    → ((g : Found) → Extends m g → j g ≡ Some g) → Grown m o → Again o k → Again o (λ g. match_then (j g) k)
-again_after m None j k h x a = tt
-again_after m (Some r) j k h x a = λ g y. ap (λ z. match_then z k) (h g (λ i t e. y i t (x i t e))) ∙ a g y
-
-again_then : (o : Option Found) (j k : Found → Option Found) → Again o j → ((m : Found) → Grown m (k m))
-    → ((m : Found) → Again (k m) k) → Again (match_then o k) (λ g. match_then (j g) k)
-again_then None j k h x a = tt
-again_then (Some m) j k h x a = again_after m (k m) j k h (x m) (a m)
-
-mutual
-  pub again : (may : ℕ → Tree → Bool) (x y : Tree) (f : Found) → Again (match_tree may x y f) (match_tree may x y)
-  again may (Tree.Bound i) y f = again_bound i y f (may i y) (f i) refl
-  again may (Tree.Free n) (Tree.Bound j) f = tt
-  again may (Tree.Free n) (Tree.Free m) f = again_open f (eqb n m)
-  again may (Tree.Free n) (Tree.Made d us) f = tt
-  again may (Tree.Made c ts) (Tree.Bound j) f = tt
-  again may (Tree.Made c ts) (Tree.Free m) f = tt
-  again may (Tree.Made c ts) (Tree.Made d us) f = again_cond (same_symbol c d) (match_trees may ts us f)
-      (match_trees may ts us) (again_all may ts us f)
-
-  again_all : (may : ℕ → Tree → Bool) (xs ys : Trees) (f : Found)
-      → Again (match_trees may xs ys f) (match_trees may xs ys)
-  again_all may Trees.Nil Trees.Nil f = λ g x. refl
-  again_all may Trees.Nil (Trees.Cons u us) f = tt
-  again_all may (Trees.Cons t ts) Trees.Nil f = tt
-  again_all may (Trees.Cons t ts) (Trees.Cons u us) f =
-      again_then (match_tree may t u f) (match_tree may t u) (match_trees may ts us) (again may t u f)
-      (λ m. grown_all may ts us m) (λ m. again_all may ts us m)
+covers_law s g h own of_g of_h = decided s g h (match_tree (may_stand s g h) g.body h.body nothing_found) own of_g of_h
+    (finds (may_stand s g h) g.body h.body nothing_found)

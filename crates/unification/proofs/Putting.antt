@@ -1,83 +1,53 @@
--- putting types in for variables
-use Rattle.std.proofs.Common.{◌≡◌, ℕ, ◌+◌, ◌≤◌, refl, sym, ap, ap₂, ◌∙◌, Bool, true, false, ◌||◌, ◌&&◌, cond, arith, ◌⊎◌, inl, inr}
-use Rattle.std.proofs.lemmas.Bool.{eq-eqb, eqb-true, eqb-false}
+-- Types that are put in for variables.
+use Rattle.std.proofs.Common.{◌≡◌, ℕ, ◌+◌, ◌≤◌, refl, sym, ap, ◌∙◌, subst, true, false, cond, arith}
+use Rattle.std.proofs.lemmas.Bool.{eq-eqb, eqb-true}
 use Rattle.std.specs.Prelude.{eqb}
 use Rattle.semantic_objects.specs.declared.symbol.Symbol.{Symbol}
 use Rattle.unification.specs.Types.{Ty, Types, Substitution, State, put, put_all, occurs, occurs_any, size, size_all}
 use Rattle.unification.specs.Unification.{single, Solves}
+use Rattle.unification.proofs.Walking.{Anything, Walk, walk_all, Goes, alike, not_both}
+pub use Rattle.unification.proofs.Walking.{either_way, or_left, or_right, or_either, or_false_left, or_false_right, and_left, and_right, and_both}
 
-pub either_way : {P : Type 0} (b : Bool) → (b ≡ true → P) → (b ≡ false → P) → P
-either_way true y n = y refl
-either_way false y n = n refl
+-- a map of types that keeps symbols
+abbrev IsMap : (Ty → Ty) → (Types → Types) → Type 0
+IsMap f fs = Goes Ty.Made Types.Nil Types.Cons f fs
 
-pub or_false_left : (a b : Bool) → (a || b) ≡ false → a ≡ false
-or_false_left true b h = absurd (cc)
-or_false_left false b h = refl
+puts : (s : Substitution) → IsMap (put s) (put_all s)
+puts s = record { at_made = λ c ts. refl; at_none = refl; at_more = λ t ts. refl }
 
-pub or_false_right : (a b : Bool) → (a || b) ≡ false → b ≡ false
-or_false_right true b h = absurd (cc)
-or_false_right false b h = h
+puts_twice : (p s : Substitution) → IsMap (λ t. put p (put s t)) (λ ts. put_all p (put_all s ts))
+puts_twice p s = record { at_made = λ c ts. refl; at_none = refl; at_more = λ t ts. refl }
 
-pub and_left : (a b : Bool) → (a && b) ≡ true → a ≡ true
-and_left true b h = refl
-and_left false b h = h
-
-pub and_right : (a b : Bool) → (a && b) ≡ true → b ≡ true
-and_right true b h = h
-and_right false b h = absurd (cc)
-
-pub and_both : (a b : Bool) → a ≡ true → b ≡ true → (a && b) ≡ true
-and_both true b h k = k
-and_both false b h k = absurd (cc)
-
-pub or_either : {P : Type 0} (a b : Bool) → (a || b) ≡ true → (a ≡ true → P) → (b ≡ true → P) → P
-or_either true b h p q = p refl
-or_either false b h p q = q h
-
-pub or_right : (a b : Bool) → b ≡ true → (a || b) ≡ true
-or_right true b h = refl
-or_right false b h = h
-
-pub or_left : (a b : Bool) → a ≡ true → (a || b) ≡ true
-or_left true b h = refl
-or_left false b h = absurd (cc)
+leaves_all : IsMap (λ t. t) (λ ts. ts)
+leaves_all = record { at_made = λ c ts. refl; at_none = refl; at_more = λ t ts. refl }
 
 -- putting in twice is putting in once
-mutual
-  pub put-put : (p s : Substitution) (t : Ty) → put p (put s t) ≡ put (λ n. put p (s n)) t
-  put-put p s (Ty.Var n) = refl
-  put-put p s (Ty.Made c ts) = ap (Ty.Made c) (put_parts_put p s ts)
-
-  pub put_parts_put : (p s : Substitution) (ts : Types) → put_all p (put_all s ts) ≡ put_all (λ n. put p (s n)) ts
-  put_parts_put p s Types.Nil = refl
-  put_parts_put p s (Types.Cons t ts) = ap₂ Types.Cons (put-put p s t) (put_parts_put p s ts)
+pub put-put : (p s : Substitution) (t : Ty) → put p (put s t) ≡ put (λ n. put p (s n)) t
+put-put p s t = alike Ty.Made Types.Nil Types.Cons (λ u. put p (put s u)) (put (λ n. put p (s n)))
+    (λ us. put_all p (put_all s us)) (put_all (λ n. put p (s n))) (puts_twice p s) (puts (λ n. put p (s n))) t
+    (λ n _. refl)
 
 -- what is put in for variables that don't occur changes nothing
-mutual
-  pub put_alike : (p q : Substitution) (t : Ty) → ((n : ℕ) → occurs n t ≡ true → p n ≡ q n) → put p t ≡ put q t
-  put_alike p q (Ty.Var n) h = h n (eq-eqb n n refl)
-  put_alike p q (Ty.Made c ts) h = ap (Ty.Made c) (put_parts_same_on p q ts h)
-
-  pub put_parts_same_on : (p q : Substitution) (ts : Types) → ((n : ℕ) → occurs_any n ts ≡ true → p n ≡ q n)
-      → put_all p ts ≡ put_all q ts
-  put_parts_same_on p q Types.Nil h = refl
-  put_parts_same_on p q (Types.Cons t ts) h = ap₂ Types.Cons (put_alike p q t (λ n k. h n (or_left _ _ k)))
-      (put_parts_same_on p q ts (λ n k. h n (or_right _ _ k)))
+pub put_alike : (p q : Substitution) (t : Ty) → ((n : ℕ) → occurs n t ≡ true → p n ≡ q n) → put p t ≡ put q t
+put_alike p q t h =
+    alike Ty.Made Types.Nil Types.Cons (put p) (put q) (put_all p) (put_all q) (puts p) (puts q) t h
 
 pub put_same : (p q : Substitution) (t : Ty) → ((n : ℕ) → p n ≡ q n) → put p t ≡ put q t
 put_same p q t h = put_alike p q t (λ n _. h n)
 
-mutual
-  pub put_free : (t : Ty) → put Ty.Var t ≡ t
-  put_free (Ty.Var n) = refl
-  put_free (Ty.Made c ts) = ap (Ty.Made c) (put_parts_free ts)
+-- a type whose variables stand for themselves stays
+pub put_still : (s : Substitution) (t : Ty) → ((n : ℕ) → occurs n t ≡ true → s n ≡ Ty.Var n) → put s t ≡ t
+put_still s t h =
+    alike Ty.Made Types.Nil Types.Cons (put s) (λ u. u) (put_all s) (λ us. us) (puts s) leaves_all t h
 
-  pub put_parts_free : (ts : Types) → put_all Ty.Var ts ≡ ts
-  put_parts_free Types.Nil = refl
-  put_parts_free (Types.Cons t ts) = ap₂ Types.Cons (put_free t) (put_parts_free ts)
+pub put_free : (t : Ty) → put Ty.Var t ≡ t
+put_free t = put_still Ty.Var t (λ n _. refl)
 
 pub put_solved : (p s : State) (t : Ty) → Solves p s → put p.stands (put s.stands t) ≡ put p.stands t
-put_solved p s t h = put-put p.stands s.stands t ∙ put_same _ _ t h.types
+put_solved p s t h =
+    put-put p.stands s.stands t ∙ put_same (λ n. put p.stands (s.stands n)) p.stands t h.types
+
+-- ---- a type for one variable
 
 pub one_same : (v : ℕ) (t : Ty) → single v t v ≡ t
 one_same v t = ap (λ b. cond b t (Ty.Var v)) (eq-eqb v v refl)
@@ -85,45 +55,45 @@ one_same v t = ap (λ b. cond b t (Ty.Var v)) (eq-eqb v v refl)
 pub one_other : (v n : ℕ) (t : Ty) → eqb v n ≡ false → single v t n ≡ Ty.Var n
 one_other v n t h = ap (λ b. cond b t (Ty.Var n)) h
 
-mutual
-  pub one_absent : (v : ℕ) (u t : Ty) → occurs v t ≡ false → put (single v u) t ≡ t
-  one_absent v u (Ty.Var n) h = one_other v n u h
-  one_absent v u (Ty.Made c ts) h = ap (Ty.Made c) (one_absent_parts v u ts h)
+-- what holds of the type and of each other variable holds of what is put in
+pub one_of : (P : ℕ → Ty → Type 0) (v : ℕ) (t : Ty) → P v t → ((n : ℕ) → eqb v n ≡ false → P n (Ty.Var n))
+    → (n : ℕ) → P n (single v t n)
+one_of P v t this others n = either_way (eqb v n)
+    (λ e. subst (λ m. P m (single v t m)) (eqb-true v n e) (subst (P v) (sym (one_same v t)) this))
+    (λ e. subst (P n) (sym (one_other v n t e)) (others n e))
 
-  one_absent_parts : (v : ℕ) (u : Ty) (ts : Types) → occurs_any v ts ≡ false → put_all (single v u) ts ≡ ts
-  one_absent_parts v u Types.Nil h = refl
-  one_absent_parts v u (Types.Cons t ts) h = ap₂ Types.Cons (one_absent v u t (or_false_left _ _ h))
-      (one_absent_parts v u ts (or_false_right _ _ h))
+pub one_absent : (v : ℕ) (u t : Ty) → occurs v t ≡ false → put (single v u) t ≡ t
+one_absent v u t h = put_still (single v u) t (λ n k. one_other v n u (either_way (eqb v n)
+    (λ e. absurd (not_both (occurs v t) h (subst (λ m. occurs m t ≡ true) (sym (eqb-true v n e)) k))) (λ e. e)))
 
 pub one_solved : (p : Substitution) (v : ℕ) (t : Ty) → p v ≡ put p t → (n : ℕ) → put p (single v t n) ≡ p n
-one_solved p v t h n = either_way (eqb v n)
-    (λ e. ap (λ b. put p (cond b t (Ty.Var n))) e ∙ sym h ∙ ap p (eqb-true v n e))
-    (λ e. ap (put p) (one_other v n t e))
+one_solved p v t h = one_of (λ n u. put p u ≡ p n) v t (sym h) (λ n _. refl)
 
-pub other : (v w : ℕ) → eqb v w ≡ false → eqb w v ≡ false
-other v w h = either_way (eqb w v) (λ e. absurd (eqb-false v w h (sym (eqb-true w v e)))) (λ e. e)
+-- for a choice that makes the variable and the type one, putting it in changes nothing
+pub put_one : (p : Substitution) (v : ℕ) (t : Ty) → p v ≡ put p t → (u : Ty) → put p (put (single v t) u) ≡ put p u
+put_one p v t h u =
+    put-put p (single v t) u ∙ put_same (λ n. put p (single v t n)) p u (one_solved p v t h)
 
-within_either : {P Q : Type 0} (a b : Bool) → (a || b) ≡ true → (a ≡ true → P) → (b ≡ true → Q) → P ⊎ Q
-within_either true b h p q = inl (p refl)
-within_either false b h p q = inr (q h)
+-- ---- sizes
 
-within_two : (n a b : ℕ) → (n ≤ a) ⊎ (n ≤ b) → n ≤ a + b
-within_two n a b (inl h) = omega (arith, h)
-within_two n a b (inr h) = omega (arith, h)
-
-mutual
-  within : (p : Substitution) (v : ℕ) (t : Ty) → occurs v t ≡ true → size (p v) ≤ size (put p t)
-  within p v (Ty.Var n) h = let e : v ≡ n = eqb-true v n h in rw e (omega arith)
-  within p v (Ty.Made c ts) h = let k : size (p v) ≤ size_all (put_all p ts) = within_parts p v ts h in
-      omega (arith, k)
-
-  within_parts : (p : Substitution) (v : ℕ) (ts : Types) → occurs_any v ts ≡ true
-      → size (p v) ≤ size_all (put_all p ts)
-  within_parts p v Types.Nil h = absurd (cc)
-  within_parts p v (Types.Cons t ts) h = within_two _ _ _ (within_either _ _ h (within p v t) (within_parts p v ts))
+-- what stands for a variable of a type isn't larger than the type, with everything put in
+no_larger : (p : Substitution) (v : ℕ) → Walk Anything (λ t. occurs v t ≡ true → size (p v) ≤ size (put p t))
+    (λ ts. occurs_any v ts ≡ true → size (p v) ≤ size_all (put_all p ts))
+no_larger p v = record {
+  variable = λ n _ h. subst (λ m. size (p v) ≤ size (p m)) (eqb-true v n h) (omega arith);
+  made = λ c ts k h. let l : size (p v) ≤ size_all (put_all p ts) = k h in omega (arith, l);
+  none = λ h. absurd (cc);
+  more = λ t ts k ks h. or_either (occurs v t) (occurs_any v ts) h
+      (λ e. let l : size (p v) ≤ size (put p t) = k e in omega (arith, l))
+      (λ e. let l : size (p v) ≤ size_all (put_all p ts) = ks e in omega (arith, l));
+}
 
 -- a type isn't a part of itself
 pub circular : (p : Substitution) (v : ℕ) (c : Symbol) (ts : Types) → occurs_any v ts ≡ true
     → p v ≡ put p (Ty.Made c ts) → ⊥
-circular p v c ts h e = let k : size (p v) ≤ size_all (put_all p ts) = within_parts p v ts h in
-    let i : size (p v) ≡ size_all (put_all p ts) + 1 = ap size e in omega (arith, k, i)
+circular p v c ts h e =
+    let k : size (p v) ≤ size_all (put_all p ts) =
+    walk_all Anything (λ t. occurs v t ≡ true → size (p v) ≤ size (put p t))
+    (λ us. occurs_any v us ≡ true → size (p v) ≤ size_all (put_all p us)) (no_larger p v) ts (λ n _. tt) h in
+    let l : size (p v) ≡ size_all (put_all p ts) + 1 = ap size e in
+    omega (arith, k, l)

@@ -1,6 +1,6 @@
 -- Closing a type over some of its variables, and which variables are kept.
 -- The Definition of Standard ML (Revised), sections 4.7 and 4.8.
-use Rattle.std.specs.Prelude.{ℕ, zero, suc, ltb, List, [], ◌∷◌, ◌++◌, map, Bool, true, false, ◌||◌, cond, eqb}
+use Rattle.std.specs.Prelude.{ℕ, zero, suc, ltb, List, [], ◌∷◌, ◌++◌, map, Bool, false, ◌||◌, cond, eqb}
 use Rattle.semantic_objects.specs.Trees.{Tree, Trees, TypeScheme}
 use Rattle.unification.specs.Types.{Ty, Types, Substitution, Marks, occurs}
 use Rattle.unification.specs.Instances.{mark_of}

@@ -5,4 +5,5 @@ pub mod Instances
 pub mod Closing
 pub mod Generality
 pub mod Fitting
+pub mod Plain
 pub mod Promises

@@ -1,10 +1,10 @@
 -- The laws of unification and of schemes, as the public functions of this crate state them.
-use Rattle.std.specs.Prelude.{◌≡◌, ◌↔◌, ℕ, ◌<◌, ◌≤◌, List, [], length, Some, Result, Ok, Bool, true, false, ◌⊎◌}
+use Rattle.std.specs.Prelude.{◌≡◌, ◌↔◌, ℕ, ◌<◌, ◌≤◌, List, [], Some, Result, Ok, Bool, true, false, ◌⊎◌}
 use Rattle.semantic_objects.specs.Trees.{TypeScheme}
-use Rattle.unification.specs.Types.{Ty, Substitution, State, Marks, put, occurs, admits}
-use Rattle.unification.specs.Unification.{Fault, unify_in, IsSettled, AnswersFor, MakesEqual, Solves, LeavesRigid}
+use Rattle.unification.specs.Types.{Ty, Substitution, State, Marks, put, occurs}
+use Rattle.unification.specs.Unification.{Fault, unify_in, IsSettled, AnswersFor, MakesEqual, Solves}
 use Rattle.unification.specs.Touching.{OfTwo, TouchesIn}
-use Rattle.unification.specs.Instances.{mark_of, with_variable, with_variables, instance, IsInstance, IsMoreGeneral}
+use Rattle.unification.specs.Instances.{with_variable, instance, IsInstance, IsMoreGeneral}
 use Rattle.unification.specs.Closing.{is_among, found_in, scheme_over, held_below, canonical_scheme}
 use Rattle.unification.specs.Generality.{covers, IsOf, MarksOwn}
 use Rattle.unification.specs.Fitting.{IsBelow, IsFit, no_variable, IsSchemeOf}

@@ -1,0 +1,9 @@
+pub mod Frames
+pub mod Occurring
+pub mod Requiring
+pub mod Solving
+pub mod Heights
+pub mod Pairing
+pub mod Sizing
+pub mod Looking
+pub mod Sorting

@@ -1,0 +1,7 @@
+pub mod Looking
+pub mod Unifying
+pub mod Frames
+pub mod Occurring
+pub mod Requiring
+pub mod Sizing
+pub mod Pairs

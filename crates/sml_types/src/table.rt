@@ -1,0 +1,209 @@
+//! The table of types.
+
+ghost use Rattle.std.specs.Prelude.{◌≡◌, ◌∷◌, [], length, true, false, IfOk, OnErr};
+ghost use Rattle.semantic_objects.specs.declared.symbol.Symbol.TheVariants as symbol;
+ghost use Rattle.semantic_objects.specs.Symbols.{AreDiffering};
+ghost use Rattle.unification.specs.Types.{Ty, size};
+ghost use Rattle.unification.specs.Unification.{unify_in, depth};
+ghost use Rattle.unification.specs.Instances.{with_variable};
+ghost use Rattle.type_nodes.specs.Nodes.{IsNode};
+ghost use Rattle.type_nodes.specs.Tables.{Has, store_of, state, whole, type_of, types_of, with_variable_of, IsFrontOf};
+ghost use Rattle.type_nodes.specs.Facts.{capped};
+ghost use Rattle.sml_types.specs.Looking.{HasAll, IsLook, IsRecordType};
+ghost use Rattle.sml_types.specs.Unifying.{Grown, Sought, IsMostGeneralFor, Extends};
+
+use crate::fault::TypeFault;
+use crate::look::{Look, copied, fields_of, look_at};
+use crate::record::in_order;
+use crate::size::tree_size;
+use crate::unify::unify_below;
+use cm_base::{List, NoMemory, Text};
+use semantic_objects::{Symbol, TyId, TyName};
+use std::alloc::Global;
+use std::marker::Model;
+use type_nodes::{Birth, Mark, Node, TypeBindings};
+
+/// Types with variables, and what stands for these.
+#[derive(Drop)]
+pub struct TypeTable {
+    bindings: TypeBindings,
+    alloc: Global,
+}
+
+impl Model for TypeTable {
+    ghost use Rattle.type_nodes.specs.Tables.{Table};
+
+    ghost Value = { Table };
+
+    ghost view = { λ t. t.bindings };
+}
+
+impl TypeTable {
+    /// A table without types.
+    pub fn new(alloc: Global) -> Result<TypeTable, NoMemory>
+        ensures { IfOk result (λ table. table ≡ record { births = []; nodes = []; trail = [] }) }
+    {
+        Ok(TypeTable {
+            bindings: TypeBindings::new(alloc),
+            alloc,
+        })
+    }
+
+    /// A new variable, for which anything may come to stand; an equality variable or not.
+    pub fn fresh(&mut self, eq: bool) -> Result<TyId, NoMemory>
+        ensures id { IfOk result (λ id. id ≡ TyId.Variable (length self.old.births)) }
+        ensures made { IfOk result (λ id. self.new ≡ with_variable_of (record { marked = eq; rigid = false }) self.old) }
+        ensures state { IfOk result (λ id. state self.new ≡ with_variable false eq (state self.old)) }
+        ensures extends { IfOk result (λ id. Extends self.old self.new) }
+        ensures refused { OnErr result (self.new ≡ self.old) }
+    {
+        self.variable(Birth {
+            marked: eq,
+            rigid: false,
+        })
+    }
+
+    /// A new variable that stands for itself alone, as a written type variable does; an equality variable or not.
+    pub fn rigid(&mut self, eq: bool) -> Result<TyId, NoMemory>
+        ensures id { IfOk result (λ id. id ≡ TyId.Variable (length self.old.births)) }
+        ensures made { IfOk result (λ id. self.new ≡ with_variable_of (record { marked = eq; rigid = true }) self.old) }
+        ensures state { IfOk result (λ id. state self.new ≡ with_variable true eq (state self.old)) }
+        ensures extends { IfOk result (λ id. Extends self.old self.new) }
+        ensures refused { OnErr result (self.new ≡ self.old) }
+    {
+        self.variable(Birth {
+            marked: eq,
+            rigid: true,
+        })
+    }
+
+    /// A new variable.
+    fn variable(&mut self, birth: Birth) -> Result<TyId, NoMemory>
+        ensures id { IfOk result (λ id. id ≡ TyId.Variable (length self.old.births)) }
+        ensures made { IfOk result (λ id. self.new ≡ with_variable_of birth self.old) }
+        ensures state { IfOk result (λ id. state self.new ≡ with_variable birth.rigid birth.marked (state self.old)) }
+        ensures extends { IfOk result (λ id. Extends self.old self.new) }
+        ensures refused { OnErr result (self.new ≡ self.old) }
+    {
+        Ok(self.bindings.add_variable(birth)?)
+    }
+
+    /// A new type: a symbol over types.
+    fn add(&mut self, symbol: Symbol, parts: List<TyId>) -> Result<TyId, NoMemory>
+        requires { IsNode (store_of self.old) (record { symbol = symbol; parts = parts }) }
+        ensures made { IfOk result (λ id. type_of self.new id ≡ Ty.Made symbol (types_of self.old parts)) }
+        ensures has { IfOk result (Has self.new) }
+        ensures state { IfOk result (λ id. state self.new ≡ state self.old) }
+        ensures extends { IfOk result (λ id. Extends self.old self.new) }
+        ensures refused { OnErr result (self.new ≡ self.old) }
+    {
+        self.bindings.is_kept();
+        Ok(self.bindings.add_node(Node { symbol, parts })?)
+    }
+
+    /// A function type.
+    pub fn arrow(&mut self, from: TyId, to: TyId) -> Result<TyId, NoMemory>
+        requires from { Has self.old from }
+        requires to { Has self.old to }
+        ensures made { IfOk result (λ id. type_of self.new id ≡ Ty.Made symbol.Arrow (types_of self.old (from ∷ to ∷ []))) }
+        ensures has { IfOk result (Has self.new) }
+        ensures state { IfOk result (λ id. state self.new ≡ state self.old) }
+        ensures extends { IfOk result (λ id. Extends self.old self.new) }
+        ensures refused { OnErr result (self.new ≡ self.old) }
+    {
+        let mut parts = List::new(self.alloc);
+        parts.add(from)?;
+        parts.add(to)?;
+        self.add(Symbol::Arrow, parts)
+    }
+
+    /// A type name with its arguments.
+    pub fn con(&mut self, name: &TyName, args: &List<TyId>) -> Result<TyId, NoMemory>
+        requires args { HasAll self.old args.now }
+        requires counted { length args.now ≡ name.now.arity }
+        ensures made { IfOk result (λ id. type_of self.new id ≡ Ty.Made (symbol.Name name.now) (types_of self.old args.now)) }
+        ensures has { IfOk result (Has self.new) }
+        ensures state { IfOk result (λ id. state self.new ≡ state self.old) }
+        ensures extends { IfOk result (λ id. Extends self.old self.new) }
+        ensures refused { OnErr result (self.new ≡ self.old) }
+    {
+        let name = name.copy()?;
+        let args = copied(self.alloc, args)?;
+        self.add(Symbol::Name(name), args)
+    }
+
+    /// A record type of as many parts as differing labels, with its fields in the byte order of the labels.
+    pub fn record_type(&mut self, labels: &List<Text>, parts: &List<TyId>) -> Result<TyId, NoMemory>
+        requires parts { HasAll self.old parts.now }
+        requires counted { length parts.now ≡ length labels.now }
+        requires differing { AreDiffering labels.now }
+        ensures made { IfOk result (λ id. IsRecordType self.old labels.now parts.now (type_of self.new id)) }
+        ensures has { IfOk result (Has self.new) }
+        ensures state { IfOk result (λ id. state self.new ≡ state self.old) }
+        ensures extends { IfOk result (λ id. Extends self.old self.new) }
+        ensures refused { OnErr result (self.new ≡ self.old) }
+    {
+        let fields = in_order(self.alloc, fields_of(self.alloc, labels, parts)?)?;
+        Ok(self.add(Symbol::Record(fields.labels), fields.parts)?)
+    }
+
+    /// What stands at an id, with what was put in for variables.
+    pub fn look(&self, id: TyId) -> Result<Look, NoMemory>
+        requires { Has self.now id }
+        ensures { IfOk result (IsLook self.now id) }
+    {
+        look_at(&self.bindings, self.alloc, id)
+    }
+
+    /// How many nodes the tree has that an id stands for, variables and names without arguments included; 65,537 where
+    /// there are more than 65,536.
+    pub fn tree_size(&self, id: TyId) -> Result<u32, NoMemory>
+        requires { Has self.now id }
+        ensures { IfOk result (λ count. count ≡ capped (size (whole self.now id))) }
+    {
+        tree_size(&self.bindings, self.alloc, id)
+    }
+
+    /// Makes what two ids stand for one, or leaves the table as it is.
+    pub fn unify(&mut self, a: TyId, b: TyId) -> Result<(), TypeFault>
+        requires first { Has self.old a }
+        requires second { Has self.old b }
+        ensures answer { Sought (unify_in depth (whole self.old a) (whole self.old b) (state self.old)) result (state self.new) }
+        ensures general { IsMostGeneralFor (whole self.old a) (whole self.old b) (state self.old) result (state self.new) }
+        ensures refused { OnErr result (self.new ≡ self.old) }
+        ensures grown { Grown self.old self.new }
+    {
+        self.bindings.is_kept();
+        let before = self.bindings.entries();
+        match unify_below(&mut self.bindings, self.alloc, a, b, deepest()) {
+            Ok(()) => Ok(()),
+            Err(fault) => {
+                self.bindings.undo_to(before);
+                Err(fault)
+            }
+        }
+    }
+
+    /// Remembers the table as it stands.
+    pub fn mark(&self) -> Mark
+        ensures { result ≡ self.now }
+    {
+        self.bindings.mark()
+    }
+
+    /// Makes the table again what a mark remembers. The mark is one of this table, and no older mark was undone since.
+    pub fn undo(&mut self, to: &Mark)
+        requires { IsFrontOf to.now self.old }
+        ensures { self.new ≡ to.now }
+    {
+        self.bindings.undo(to)
+    }
+}
+
+/// How deep unification goes.
+#[tactic(auto, unfolding(unification::specs::Unification::depth))]
+fn deepest() -> usize
+    ensures { result ≡ depth }
+{
+    usize::MAX
+}

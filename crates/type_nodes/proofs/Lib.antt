@@ -1,0 +1,6 @@
+pub mod Making
+pub mod Knowing
+pub mod Playing
+pub mod Binding
+pub mod Histories
+pub mod Cells

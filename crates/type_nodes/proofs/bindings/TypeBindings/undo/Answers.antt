@@ -1,0 +1,21 @@
+use Rattle.std.proofs.Common.{◌∙◌}
+use Rattle.type_nodes.proofs.Cells.{front_entries, made_back, undone}
+use Rattle.type_nodes.proofs.bindings.TypeBindings.undo.Goals as goal
+
+pub undo_to-requires : goal.undo_to-requires
+undo_to-requires c = front_entries c.to.inside.past.value c.args.to.now c.args.self.now c.to.inside.variables
+    c.to.inside.nodes c.to.inside.entries c.to.invariant c.to.view_is c.requires
+
+pub truncate-requires : goal.truncate-requires
+truncate-requires c = record { made = made_back c.to.inside.past.value c.args.to.now c.args.self.now
+    (record { births = c.self.inside.types.births; nodes = c.self.inside.types.nodes; trail = c.self.inside.trail.items })
+    c.to.inside.variables c.to.inside.nodes c.to.inside.entries c.to.invariant c.to.view_is c.requires
+    (c.self.view_is ∙ c.undo_to.ensures) }
+
+pub invariant_of-self : goal.invariant_of-self
+invariant_of-self c = undone c.to.inside.past.value c.args.to.now c.args.self.now
+    (record { births = c.self.inside.types.births; nodes = c.self.inside.types.nodes; trail = c.self.inside.trail.items })
+    c.truncate.new.self c.self.inside.links.items c.truncate-2.new.self.items c.self.inside.marks.items
+    c.truncate-3.new.self.items c.to.inside.variables c.to.inside.nodes c.to.inside.entries c.to.invariant c.to.view_is
+    c.requires (c.self.view_is ∙ c.undo_to.ensures) c.self.invariant c.truncate.ensures c.truncate-2.ensures.items
+    c.truncate-3.ensures.items

@@ -1,0 +1,4 @@
+pub mod Nodes
+pub mod Facts
+pub mod Tables
+pub mod Keeping

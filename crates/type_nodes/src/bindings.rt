@@ -1,0 +1,254 @@
+//! Variables and nodes with what was put in for variables.
+
+ghost use Rattle.std.specs.Prelude.{◌≡◌, ◌<◌, ◌≤◌, ◌-◌, [], length, slice_get, Some, OnOk, IfOk, OnErr};
+ghost use Rattle.type_nodes.specs.Nodes.{IsNode};
+ghost use Rattle.type_nodes.specs.Facts.{facts_of};
+ghost use Rattle.unification.specs.Instances.{with_variable};
+ghost use Rattle.type_nodes.specs.Tables.{Has, store_of, type_of, state, whole, LinkOf, IsEnd, with_variable_of, with_node_of, with_entry, cut, IsFrontOf, bound_in, marked_state};
+ghost use Rattle.type_nodes.specs.Keeping.{MayStand, MayMark, IsKept, IsHistory, last_variable, links_without, marks_without};
+
+use crate::both::push_both;
+use crate::entry::Entry;
+use crate::facts::Facts;
+use crate::mark::Mark;
+use crate::node::{Birth, Node};
+use crate::nodes::TypeNodes;
+use cm_base::NoMemory;
+use semantic_objects::TyId;
+use std::alloc::Global;
+use std::marker::Model;
+use std::snapshot::Snapshot;
+
+/// A table of types.
+#[derive(Drop)]
+pub struct TypeBindings {
+    types: TypeNodes,
+    links: Vec<Option<TyId>>,
+    marks: Vec<bool>,
+    trail: Vec<Entry>,
+}
+
+impl Model for TypeBindings {
+    ghost use Rattle.type_nodes.specs.Tables.{Table};
+    ghost use Rattle.type_nodes.specs.Keeping.{IsTable};
+
+    ghost Value = { Table };
+
+    ghost view = { λ t. record { births = t.types.births; nodes = t.types.nodes; trail = t.trail.items } };
+
+    ghost invariant = {
+        λ t. IsTable (record { births = t.types.births; nodes = t.types.nodes; trail = t.trail.items })
+            t.links.items t.marks.items
+    };
+}
+
+/// Takes an entry back from the links and the marks.
+fn take_back(last: Entry, links: &mut Vec<Option<TyId>>, marks: &mut Vec<bool>)
+    requires links { last_variable last < length links.old.items }
+    requires marks { last_variable last < length marks.old.items }
+    ensures links { links.new.items ≡ links_without last links.old.items }
+    ensures marks { marks.new.items ≡ marks_without last marks.old.items }
+{
+    match last {
+        Entry::Bound(variable, _) => links[variable] = None,
+        Entry::Marked(variable) => marks[variable] = false,
+    }
+}
+
+impl TypeBindings {
+    /// An empty table.
+    pub fn new(alloc: Global) -> TypeBindings
+        ensures { result ≡ record { births = []; nodes = []; trail = [] } }
+    {
+        TypeBindings {
+            types: TypeNodes::new(alloc),
+            links: Vec::new(alloc),
+            marks: Vec::new(alloc),
+            trail: Vec::new(alloc),
+        }
+    }
+
+    /// What holds of every table.
+    pub fn is_kept(&self)
+        ensures kept { IsKept self.now }
+        ensures history { IsHistory self.now }
+    {
+        let _ = &self.links;
+    }
+
+    /// How many variables there are.
+    pub fn variables(&self) -> usize
+        ensures { result ≡ length self.now.births }
+    {
+        self.types.variables()
+    }
+
+    /// How many nodes there are.
+    pub fn nodes(&self) -> usize
+        ensures { result ≡ length self.now.nodes }
+    {
+        self.types.nodes()
+    }
+
+    /// How many entries the trail has.
+    pub fn entries(&self) -> usize
+        ensures { result ≡ length self.now.trail }
+    {
+        self.trail.len()
+    }
+
+    /// How a variable was made.
+    pub fn birth(&self, variable: usize) -> Birth
+        requires { variable < length self.now.births }
+        ensures { slice_get self.now.births variable ≡ Some result }
+    {
+        self.types.birth(variable)
+    }
+
+    /// A node: its symbol and its parts.
+    pub fn node(&self, at: usize) -> &Node
+        requires { at < length self.now.nodes }
+        ensures { slice_get self.now.nodes at ≡ Some result.now }
+    {
+        self.types.node(at)
+    }
+
+    /// What is known of a node's type.
+    pub fn facts(&self, at: usize) -> Facts
+        requires { at < length self.now.nodes }
+        ensures { result ≡ facts_of self.now.births (type_of self.now (TyId.Made at)) }
+    {
+        self.types.facts(at)
+    }
+
+    /// A new variable.
+    pub fn add_variable(&mut self, birth: Birth) -> Result<TyId, NoMemory>
+        ensures id { IfOk result (λ id. id ≡ TyId.Variable (length self.old.births)) }
+        ensures added { IfOk result (λ id. self.new ≡ with_variable_of birth self.old) }
+        ensures state { IfOk result (λ id. state self.new ≡ with_variable birth.rigid birth.marked (state self.old)) }
+        ensures refused { OnErr result (self.new ≡ self.old) }
+    {
+        let at = self.links.len();
+        push_both(&mut self.links, &mut self.marks, None, birth.marked)?;
+        match self.types.add_variable(birth) {
+            Ok(id) => Ok(id),
+            Err(NoMemory) => {
+                self.links.truncate(at);
+                self.marks.truncate(at);
+                Err(NoMemory)
+            }
+        }
+    }
+
+    /// A new node.
+    pub fn add_node(&mut self, node: Node) -> Result<TyId, NoMemory>
+        requires { IsNode (store_of self.old) node }
+        ensures id { IfOk result (λ id. id ≡ TyId.Made (length self.old.nodes)) }
+        ensures added { IfOk result (λ id. self.new ≡ with_node_of node self.old) }
+        ensures state { IfOk result (λ id. state self.new ≡ state self.old) }
+        ensures refused { OnErr result (self.new ≡ self.old) }
+    {
+        Ok(self.types.add_node(node)?)
+    }
+
+    /// What a variable got.
+    fn link(&self, variable: usize) -> Option<TyId>
+        requires { variable < length self.now.births }
+        ensures { LinkOf self.now variable result }
+    {
+        self.links[variable]
+    }
+
+    /// Whether a variable is an equality variable.
+    pub fn is_marked(&self, variable: usize) -> bool
+        requires { variable < length self.now.births }
+        ensures { result ≡ (state self.now).marks variable }
+    {
+        self.marks[variable]
+    }
+
+    /// The variable that nothing stands for, or the node, that an id comes to.
+    pub fn head(&self, id: TyId) -> TyId
+        requires { Has self.now id }
+        ensures has { Has self.now result }
+        ensures whole { whole self.now result ≡ whole self.now id }
+        ensures end { IsEnd self.now result }
+    {
+        let mut at = id;
+        while let TyId::Variable(variable) = at {
+            match self.link(variable) {
+                Some(to) => at = to,
+                None => return at,
+            }
+        }
+        at
+    }
+
+    /// Puts a type in for a variable.
+    pub fn bind(&mut self, variable: usize, to: TyId) -> Result<(), NoMemory>
+        requires { MayStand self.old variable to }
+        ensures added { OnOk result (self.new ≡ with_entry (Entry.Bound variable to) self.old) }
+        ensures state { OnOk result (state self.new ≡ bound_in variable (whole self.old to) (state self.old)) }
+        ensures refused { OnErr result (self.new ≡ self.old) }
+    {
+        self.trail.push(Entry::Bound(variable, to))?;
+        self.links[variable] = Some(to);
+        Ok(())
+    }
+
+    /// Marks a variable as an equality variable.
+    pub fn set_mark(&mut self, variable: usize) -> Result<(), NoMemory>
+        requires { MayMark self.old variable }
+        ensures added { OnOk result (self.new ≡ with_entry (Entry.Marked variable) self.old) }
+        ensures state { OnOk result (state self.new ≡ marked_state variable (state self.old)) }
+        ensures refused { OnErr result (self.new ≡ self.old) }
+    {
+        self.trail.push(Entry::Marked(variable))?;
+        self.marks[variable] = true;
+        Ok(())
+    }
+
+    /// Takes the last entry back.
+    fn pop(&mut self)
+        ensures { self.new ≡ cut (length self.old.trail - 1) self.old }
+    {
+        if let Some(last) = self.trail.pop() {
+            take_back(last, &mut self.links, &mut self.marks);
+        }
+    }
+
+    /// Takes entries back until so many are left.
+    pub fn undo_to(&mut self, entries: usize)
+        requires { entries ≤ length self.old.trail }
+        ensures { self.new ≡ cut entries self.old }
+    {
+        while self.entries() > entries {
+            self.pop();
+        }
+    }
+
+    /// Remembers the table as it stands.
+    pub fn mark(&self) -> Mark
+        ensures { result ≡ self.now }
+    {
+        self.is_kept();
+        Mark {
+            variables: self.variables(),
+            nodes: self.nodes(),
+            entries: self.entries(),
+            past: Snapshot::of(self),
+        }
+    }
+
+    /// Makes the table again what a mark remembers, variables and nodes included.
+    pub fn undo(&mut self, to: &Mark)
+        requires { IsFrontOf to.now self.old }
+        ensures { self.new ≡ to.now }
+    {
+        let variables = to.variables;
+        self.undo_to(to.entries);
+        self.types.truncate(variables, to.nodes);
+        self.links.truncate(variables);
+        self.marks.truncate(variables);
+    }
+}
