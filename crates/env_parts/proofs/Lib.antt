@@ -1,0 +1,2 @@
+pub mod Facting
+pub mod Tabling

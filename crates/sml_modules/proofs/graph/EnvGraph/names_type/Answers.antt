@@ -1,0 +1,10 @@
+use Rattle.std.proofs.Common.{◌≡◌, subst}
+use Rattle.std.specs.Prelude.{IfOk}
+use Rattle.sml_modules.specs.Graphs.{env_at}
+use Rattle.sml_modules.proofs.Looking.{type_names}
+use Rattle.sml_modules.proofs.graph.EnvGraph.names_type.Goals as goal
+
+pub returns-clause-names : goal.returns-clause-names
+returns-clause-names c = subst (λ z. IfOk c.names.result (λ names. names ≡ z))
+    (type_names c.args.self.now.items (env_at c.args.self.now c.args.env) c.in_ok-tables.tables.now c.in_ok-tables.ensures)
+    c.names.ensures.names

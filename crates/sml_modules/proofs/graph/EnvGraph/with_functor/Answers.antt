@@ -1,0 +1,26 @@
+use Rattle.std.proofs.Common.{refl}
+use Rattle.semantic_objects.specs.Tables.{with_entry}
+use Rattle.sml_modules.specs.Graphs.{top_at, functor_at}
+use Rattle.sml_modules.specs.Nodes.{top_of_tables}
+use Rattle.sml_modules.proofs.Keeping.{gives_top_ok}
+use Rattle.sml_modules.proofs.Making.{functor_set_are, functor_set_is}
+use Rattle.sml_modules.proofs.graph.EnvGraph.with_functor.Goals as goal
+
+pub add_top-requires : goal.add_top-requires
+add_top-requires c = functor_set_are c.args.self.now c.in_ok-old.old.now c.in_ok-tables.tables
+    (record c.in_ok-tables.tables { functors = c.set.new.self }) (top_at c.args.self.now c.args.top)
+    c.in_ok-name.name c.args.entry c.in_ok-old.ensures c.in_ok-tables.ensures c.requires.entry
+    refl refl c.in_ok-set.ensures.ok refl
+
+pub returns-clause-ok : goal.returns-clause-ok
+returns-clause-ok c = gives_top_ok c.args.self.now c.add_top.new.self
+    (top_of_tables c.args.self.now.items (record c.in_ok-tables.tables { functors = c.set.new.self }))
+    (record (top_at c.args.self.now c.args.top) {
+      functors = with_entry c.args.name.now (functor_at c.args.self.now c.args.entry)
+          (top_at c.args.self.now c.args.top).functors;
+    })
+    c.add_top.result c.add_top.ensures.ok
+    (functor_set_is c.args.self.now c.in_ok-old.old.now c.in_ok-tables.tables
+    (record c.in_ok-tables.tables { functors = c.set.new.self }) (top_at c.args.self.now c.args.top)
+    c.args.name.now c.in_ok-name.name c.args.entry c.in_ok-old.ensures c.in_ok-tables.ensures c.in_ok-name.ensures
+    refl refl c.in_ok-set.ensures.ok refl)

@@ -1,0 +1,5 @@
+pub mod Items
+pub mod Graphs
+pub mod Codes
+pub mod Nodes
+pub mod Adding
