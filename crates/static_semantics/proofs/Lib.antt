@@ -1,0 +1,11 @@
+pub mod Rows
+pub mod Holding
+pub mod Growing
+pub mod TypesGrow
+pub mod PatternsGrow
+pub mod DatatypesGrow
+pub mod CoreGrow
+pub mod Ages
+pub mod ByAge
+pub mod Promised
+pub mod Maximal

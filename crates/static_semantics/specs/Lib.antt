@@ -1,0 +1,15 @@
+pub mod BasicTypes
+pub mod Inferring
+pub mod WrittenVariables
+pub mod Nonexpansive
+pub mod TypeInference
+pub mod PatternInference
+pub mod DatatypeInference
+pub mod CoreInference
+pub mod EnvironmentsPut
+pub mod RuleConditions
+pub mod Elaborates
+pub mod Holding
+pub mod Growing
+pub mod ByAge
+pub mod Promises
