@@ -1,0 +1,15 @@
+pub mod Above
+pub mod Checking
+pub mod Dealing
+pub mod Dealt
+pub mod Filling
+pub mod Forming
+pub mod Homes
+pub mod Repeating
+pub mod Numbering
+pub mod Ordering
+pub mod Passing
+pub mod Places
+pub mod Sounding
+pub mod Summing
+pub mod Turns

@@ -1,0 +1,13 @@
+use Rattle.std.proofs.Common.{◌≡◌, ◌++◌, List, length}
+use Rattle.cm_description.specs.declared.loaded.Group.{Group}
+use Rattle.project_checks.specs.Checks.{group_names, is_unfrozen, least}
+use Rattle.project_checks.proofs.checks.least_unfrozen.Given as goal
+
+-- what was found is that of the groups behind those that are left
+abbrev pub invariant-loop-group : goal.invariant-loop-group
+invariant-loop-group l =
+    (after : List Group) × (l.fn.groups ≡ l.rest ++ after)
+    × (l.least ≡ least (group_names (is_unfrozen l.fn.groups) (length l.rest) after))
+
+abbrev pub decreases-loop-group : goal.decreases-loop-group
+decreases-loop-group l = length l.rest

@@ -1,0 +1,2 @@
+pub mod BasisAnchor
+pub mod Levels
