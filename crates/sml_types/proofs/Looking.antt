@@ -2,6 +2,7 @@
 use Rattle.std.proofs.Common.{◌≡◌, ℕ, ◌+◌, List, [], ◌∷◌, ◌++◌, length, map, refl, sym, ap, ap₂, ◌∙◌, subst, Some, arith, slice_get, get_or}
 use Rattle.std.proofs.lemmas.Option.{slice_get_within, slice_get-get_or, get_or_from_slice_get}
 use Rattle.std.proofs.lemmas.Map.Views.{All-map-IsPermutation}
+use Rattle.std.proofs.Math.Seq.{take-append_seam}
 use Rattle.std.specs.List.{All}
 use Rattle.semantic_objects.specs.declared.name.TyId.{TyId}
 use Rattle.semantic_objects.specs.declared.name.TyId.TheVariants as id
@@ -22,10 +23,16 @@ use Rattle.sml_types.specs.declared.look.LookField.{LookField}
 use Rattle.sml_types.specs.Unifying.{Extends}
 use Rattle.sml_types.specs.Looking.{labels_of, ids_of, HasAll, LooksRecord, AreSorted, IsRecordType, IsLook}
 use Rattle.sml_types.proofs.Frames.{part_has}
+use Rattle.sml_types.proofs.Solving.{take_whole}
 
 -- what was there stays
 pub extends_variable : (t : Table) (b : Birth) → Extends t (with_variable_of b t)
 extends_variable t b = record {
+  front = record {
+    births = take-append_seam t.births (b ∷ []);
+    nodes = take_whole t.nodes;
+    trail = take_whole t.trail;
+  };
   types = λ a h. refl;
   ids = λ a h. id_more _ _ _ _ a (let k : length (t.births ++ b ∷ []) ≡ length t.births + 1 = length_snoc t.births b in
       omega (arith, k)) (omega arith) h;
@@ -33,6 +40,11 @@ extends_variable t b = record {
 
 pub extends_node : (t : Table) (x : Node) → Extends t (with_node_of x t)
 extends_node t x = record {
+  front = record {
+    births = take_whole t.births;
+    nodes = take-append_seam t.nodes (x ∷ []);
+    trail = take_whole t.trail;
+  };
   types = λ a h. type_front t.nodes (x ∷ []) (length t.births) a h;
   ids = λ a h. id_more _ _ _ _ a (omega arith)
       (let k : length (t.nodes ++ x ∷ []) ≡ length t.nodes + 1 = length_snoc t.nodes x in omega (arith, k)) h;

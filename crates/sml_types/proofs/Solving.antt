@@ -18,11 +18,12 @@ use Rattle.type_nodes.specs.Tables.{Table, Has, state, whole, type_of, rank, IsH
 use Rattle.type_nodes.specs.Keeping.{IsOpen, MayStand, IsKept}
 use Rattle.type_nodes.proofs.Binding.{rank_open}
 use Rattle.sml_types.specs.declared.fault.TypeFault.{TypeFault}
+use Rattle.sml_types.specs.declared.fault.TypeFault.TheVariants as fault
 use Rattle.sml_types.specs.Requiring.{MarksMore}
-use Rattle.sml_types.specs.Unifying.{Grown, Solved}
+use Rattle.sml_types.specs.Unifying.{Grown, NamesOwn, Solved}
 
 -- growth
-take_whole : {X : Type 0} (xs : List X) → take (length xs) xs ≡ xs
+pub take_whole : {X : Type 0} (xs : List X) → take (length xs) xs ≡ xs
 take_whole [] = refl
 take_whole (x ∷ xs) = ap (λ l. x ∷ l) (take_whole xs)
 
@@ -62,6 +63,18 @@ grown_entry t e = record {
 
 pub grown_to : (a b c : Table) (e : Entry) → Grown a b → c ≡ with_entry e b → Grown a c
 grown_to a b c e h k = subst (Grown a) (sym k) (grown_then a b (with_entry e b) h (grown_entry b e))
+
+-- the ids of a fault are ids of the table before
+has_back : (a b : Table) (x : TyId) → b.births ≡ a.births → b.nodes ≡ a.nodes → Has b x → Has a x
+has_back a b (id.Variable v) h k l = subst (λ bs. v < length bs) h l
+has_back a b (id.Made i) h k l = subst (λ ns. i < length ns) k l
+
+pub named_back : (a b : Table) (r : Result (Unit {0}) TypeFault) → b.births ≡ a.births → b.nodes ≡ a.nodes → NamesOwn b r → NamesOwn a r
+named_back a b (Ok done) h k n = tt
+named_back a b (Err (fault.Clash x y)) h k n = (has_back a b x h k n.0, has_back a b y h k n.1)
+named_back a b (Err (fault.Circular x y)) h k n = (has_back a b x h k n.0, has_back a b y h k n.1)
+named_back a b (Err (fault.NotEquality x)) h k n = has_back a b x h k n
+named_back a b (Err fault.NoMemory) h k n = tt
 
 -- a birth that was read
 pub rigid_read : (births : List Birth) (v : ℕ) (b : Birth) → slice_get births v ≡ Some b → rigid_in births v ≡ b.rigid

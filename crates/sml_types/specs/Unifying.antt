@@ -4,7 +4,7 @@ use Rattle.std.specs.Prelude.{◌≡◌, ◌≤◌, length, take, Some, Result, 
 use Rattle.semantic_objects.specs.declared.name.TyId.{TyId}
 use Rattle.unification.specs.Types.{Ty, State}
 use Rattle.unification.specs.Unification.{Fault, Answer, Solves, LeavesRigid, MakesEqual, IsMostGeneral}
-use Rattle.type_nodes.specs.Tables.{Table, Has, type_of}
+use Rattle.type_nodes.specs.Tables.{Table, Has, type_of, IsFrontOf}
 use Rattle.sml_types.specs.declared.fault.TypeFault.{TypeFault}
 use Rattle.sml_types.specs.declared.fault.TypeFault.TheVariants as fault
 
@@ -30,6 +30,14 @@ Sought want (Err (fault.Circular a b)) new = want ≡ Some (Err Fault.Circular)
 Sought want (Err (fault.NotEquality a)) new = want ≡ Some (Err Fault.NotEquality)
 Sought want (Err fault.NoMemory) new = Unit {0}
 
+-- the ids of a fault are ids of the table
+abbrev pub NamesOwn : Table → Result (Unit {0}) TypeFault → Type 0
+NamesOwn t (Ok done) = Unit {0}
+NamesOwn t (Err (fault.Clash a b)) = Has t a × Has t b
+NamesOwn t (Err (fault.Circular a b)) = Has t a × Has t b
+NamesOwn t (Err (fault.NotEquality a)) = Has t a
+NamesOwn t (Err fault.NoMemory) = Unit {0}
+
 -- a most general state in which the two types are one, or no choice makes them one
 abbrev pub IsMostGeneralFor : Ty → Ty → State → Result (Unit {0}) TypeFault → State → Type 0
 IsMostGeneralFor u v s (Ok done) r = IsMostGeneral s r (MakesEqual u v)
@@ -38,7 +46,8 @@ IsMostGeneralFor u v s (Err (fault.Circular a b)) r = (p : State) → Solves p s
 IsMostGeneralFor u v s (Err (fault.NotEquality a)) r = (p : State) → Solves p s → LeavesRigid p s → MakesEqual u v p → ⊥
 IsMostGeneralFor u v s (Err fault.NoMemory) r = Unit {0}
 
--- ids stay ids, and stay what they were made as
+-- nothing is taken back, ids stay ids, and stay what they were made as
 pub record Extends (old new : Table) : Type 0 where
+  pub front : IsFrontOf old new
   pub types : (a : TyId) → Has old a → type_of new a ≡ type_of old a
   pub ids : (a : TyId) → Has old a → Has new a

@@ -4,6 +4,7 @@ ghost use Rattle.std.specs.Prelude.{◌≡◌, ◌<◌, ◌++◌, ◌∷◌, [],
 ghost use Rattle.unification.specs.Types.{require};
 ghost use Rattle.type_nodes.specs.Tables.{Has, IsEnd, state, whole};
 ghost use Rattle.sml_types.specs.Frames.{AreFrames, nothing, seen};
+ghost use Rattle.sml_types.specs.Unifying.{NamesOwn};
 ghost use Rattle.sml_types.specs.Requiring.{MarksMore, admitted, by_parts, IsAdmitted, Demanded, RequiredOn, Required};
 
 use crate::fault::TypeFault;
@@ -25,6 +26,7 @@ fn demand_variable(
     requires has { Has table.old (TyId.Variable at) }
     ensures only { MarksMore table.old table.new }
     ensures answer { Demanded table.old table.new (whole table.old (TyId.Variable at)) frames.old frames.new result }
+    ensures named { NamesOwn table.old result }
 {
     table.is_kept();
     if table.is_marked(at) {
@@ -46,7 +48,8 @@ fn demand_parts(
 ) -> Result<(), TypeFault>
     requires has { at < length table.now.nodes }
     requires done { IsAdmitted (state table.now).marks (seen table.now) done.now }
-    ensures { Demanded table.now table.now (whole table.now (TyId.Made at)) frames.old frames.new result }
+    ensures answer { Demanded table.now table.now (whole table.now (TyId.Made at)) frames.old frames.new result }
+    ensures named { NamesOwn table.now result }
 {
     table.is_kept();
     match done.of(at) {
@@ -71,7 +74,8 @@ fn demand_node(
 ) -> Result<(), TypeFault>
     requires has { at < length table.now.nodes }
     requires done { IsAdmitted (state table.now).marks (seen table.now) done.now }
-    ensures { Demanded table.now table.now (whole table.now (TyId.Made at)) frames.old frames.new result }
+    ensures answer { Demanded table.now table.now (whole table.now (TyId.Made at)) frames.old frames.new result }
+    ensures named { NamesOwn table.now result }
 {
     table.is_kept();
     let facts = table.facts(at);
@@ -93,6 +97,7 @@ fn demand(
     requires done { IsAdmitted (state table.old).marks (seen table.old) done.now }
     ensures only { MarksMore table.old table.new }
     ensures answer { Demanded table.old table.new (whole table.old id) frames.old frames.new result }
+    ensures named { NamesOwn table.old result }
 {
     table.is_kept();
     match table.head(id) {
@@ -112,6 +117,7 @@ fn demand_next(
     requires frames { AreFrames by_parts (admitted (state table.old).marks) nothing (seen table.old) (frames.old ++ frame ∷ []) }
     ensures only { MarksMore table.old table.new }
     ensures answer { RequiredOn table.old table.new (frames.old ++ frame ∷ []) frames.new done.new result }
+    ensures named { NamesOwn table.old result }
 {
     table.is_kept();
     match frame.part(table) {
@@ -131,6 +137,7 @@ pub(crate) fn require(table: &mut TypeBindings, alloc: Global, id: TyId) -> Resu
     requires { Has table.old id }
     ensures only { MarksMore table.old table.new }
     ensures answer { Required (require (state table.old).rigid (whole table.old id) (state table.old).marks) result (state table.new).marks }
+    ensures named { NamesOwn table.old result }
 {
     table.is_kept();
     let mut frames = List::new(alloc);

@@ -1,6 +1,6 @@
 //! The table of types.
 
-ghost use Rattle.std.specs.Prelude.{◌≡◌, ◌∷◌, [], length, true, false, IfOk, OnErr};
+ghost use Rattle.std.specs.Prelude.{◌≡◌, ◌↔◌, ◌∷◌, [], length, true, false, IsTrue, IfOk, OnErr};
 ghost use Rattle.semantic_objects.specs.declared.symbol.Symbol.TheVariants as symbol;
 ghost use Rattle.semantic_objects.specs.Symbols.{AreDiffering};
 ghost use Rattle.unification.specs.Types.{Ty, size};
@@ -10,7 +10,7 @@ ghost use Rattle.type_nodes.specs.Nodes.{IsNode};
 ghost use Rattle.type_nodes.specs.Tables.{Has, store_of, state, whole, type_of, types_of, with_variable_of, IsFrontOf};
 ghost use Rattle.type_nodes.specs.Facts.{capped};
 ghost use Rattle.sml_types.specs.Looking.{HasAll, IsLook, IsRecordType};
-ghost use Rattle.sml_types.specs.Unifying.{Grown, Sought, IsMostGeneralFor, Extends};
+ghost use Rattle.sml_types.specs.Unifying.{Grown, Sought, NamesOwn, IsMostGeneralFor, Extends};
 
 use crate::fault::TypeFault;
 use crate::look::{Look, copied, fields_of, look_at};
@@ -47,6 +47,16 @@ impl TypeTable {
             bindings: TypeBindings::new(alloc),
             alloc,
         })
+    }
+
+    /// Whether an id is one of the table.
+    pub fn has(&self, id: TyId) -> bool
+        ensures { IsTrue result ↔ Has self.now id }
+    {
+        match id {
+            TyId::Variable(at) => at < self.bindings.variables(),
+            TyId::Made(at) => at < self.bindings.nodes(),
+        }
     }
 
     /// A new variable, for which anything may come to stand; an equality variable or not.
@@ -170,6 +180,7 @@ impl TypeTable {
         requires second { Has self.old b }
         ensures answer { Sought (unify_in depth (whole self.old a) (whole self.old b) (state self.old)) result (state self.new) }
         ensures general { IsMostGeneralFor (whole self.old a) (whole self.old b) (state self.old) result (state self.new) }
+        ensures named { NamesOwn self.old result }
         ensures refused { OnErr result (self.new ≡ self.old) }
         ensures grown { Grown self.old self.new }
     {

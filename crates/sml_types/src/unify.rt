@@ -5,7 +5,7 @@ ghost use Rattle.unification.specs.Types.{occurs};
 ghost use Rattle.unification.specs.Unification.{assign, link, solve, unify_in};
 ghost use Rattle.type_nodes.specs.Tables.{Has, IsHead, IsEnd, state, whole, type_of, rank};
 ghost use Rattle.type_nodes.specs.Keeping.{IsOpen};
-ghost use Rattle.sml_types.specs.Unifying.{Grown, Solved, Sought};
+ghost use Rattle.sml_types.specs.Unifying.{Grown, NamesOwn, Solved, Sought};
 ghost use Rattle.sml_types.specs.Pairs.{
   Meeting,
   meeting_answer,
@@ -41,6 +41,7 @@ fn assign_marked(
     requires falls { rank table.old to < rank table.old (TyId.Variable variable) }
     requires marked { (state table.old).marks variable ≡ true }
     ensures answer { Solved (assign variable (whole table.old to) (state table.old)) result (state table.new) }
+    ensures named { NamesOwn table.old result }
     ensures grown { Grown table.old table.new }
 {
     table.is_kept();
@@ -63,6 +64,7 @@ fn assign(
     requires absent { occurs variable (whole table.old to) ≡ false }
     requires falls { rank table.old to < rank table.old (TyId.Variable variable) }
     ensures answer { Solved (assign variable (whole table.old to) (state table.old)) result (state table.new) }
+    ensures named { NamesOwn table.old result }
     ensures grown { Grown table.old table.new }
 {
     if table.is_marked(variable) {
@@ -85,6 +87,7 @@ fn link(
     requires first_end { IsEnd table.old (TyId.Variable first) }
     requires second_end { IsEnd table.old (TyId.Variable second) }
     ensures answer { Solved (link first second (state table.old)) result (state table.new) }
+    ensures named { NamesOwn table.old result }
     ensures grown { Grown table.old table.new }
 {
     table.is_kept();
@@ -116,6 +119,7 @@ fn solve(
     requires end { IsEnd table.old (TyId.Variable variable) }
     requires node { node < length table.old.nodes }
     ensures answer { Solved (solve variable (whole table.old (TyId.Made node)) (state table.old)) result (state table.new) }
+    ensures named { NamesOwn table.old result }
     ensures grown { Grown table.old table.new }
 {
     table.is_kept();
@@ -140,9 +144,10 @@ fn meet_nodes(
     requires left { left < length table.now.nodes }
     requires right { right < length table.now.nodes }
     requires one { AreOne table.now (state table.now) same.now }
-    ensures { Meeting table.now table.now (meeting_answer table.now depth (TyId.Made left) (TyId.Made right) pairs.old)
+    ensures answer { Meeting table.now table.now (meeting_answer table.now depth (TyId.Made left) (TyId.Made right) pairs.old)
         (AreThese (state table.now) (type_of table.now (TyId.Made left)) (type_of table.now (TyId.Made right)))
         pairs.old pairs.new result }
+    ensures named { NamesOwn table.now result }
 {
     table.is_kept();
     if depth == 0 {
@@ -184,6 +189,7 @@ fn meet(
     requires one { AreOne table.old (state table.old) same.now }
     ensures answer { Meeting table.old table.new (meeting_answer table.old depth left right pairs.old)
         (AreThese (state table.old) (type_of table.old left) (type_of table.old right)) pairs.old pairs.new result }
+    ensures named { NamesOwn table.old result }
     ensures grown { Grown table.old table.new }
 {
     if depth == 0 {
@@ -209,6 +215,7 @@ fn meet_next(
     requires one { AreOne table.old (state table.old) same.old }
     requires pairs { ArePairs table.old (state table.old) no_exception (pairs.old ++ pair ∷ []) }
     ensures answer { Stepping table.old table.new (pairs.old ++ pair ∷ []) pairs.new same.new result }
+    ensures named { NamesOwn table.old result }
     ensures grown { Grown table.old table.new }
 {
     table.is_kept();
@@ -235,6 +242,7 @@ pub(crate) fn unify_below(
     requires left { Has table.old left }
     requires right { Has table.old right }
     ensures answer { Sought (unify_in depth (whole table.old left) (whole table.old right) (state table.old)) result (state table.new) }
+    ensures named { NamesOwn table.old result }
     ensures grown { Grown table.old table.new }
 {
     table.is_kept();

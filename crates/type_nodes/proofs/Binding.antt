@@ -127,7 +127,7 @@ pub bound_unifies : (t : Table) (v : ℕ) (a : TyId) → IsKept t → MayStand t
 bound_unifies t v a k m =
     ap₂ (λ x y. unify_step (unify_in zero) x y (state t)) (k.unlinked v m.at.unlinked) (whole_put t a k)
     ∙ step_bound (unify_in zero) v (whole t a) (state t) (ap (λ f. f v) k.rigid ∙ m.at.flexible) m.absent m.admitted
-      (head_younger t v a k m.at.flexible m.has m.head m.falls)
+    (head_younger t v a k m.at.flexible m.has m.head m.falls)
 
 below_variable : (n v : ℕ) → v < n → IsBelow n (Ty.Var v)
 below_variable n v h m e = let k : m ≡ v = eqb-true m v e in omega (arith, k, h)
@@ -206,7 +206,7 @@ kept_bound t v a k m =
           ap (λ (s : State). s.stands w) e ∙ ap (put (single v (whole t a))) (k.unlinked w i.1) ∙ one_other v w (whole t a) i.0);
       linked = λ w b h. link_cases (eqb v w) a b (link t w) (sym (link_bound w v a None t.trail) ∙ h)
           (λ i j. subst (LinkedTo (with_entry (entry.Bound v a) t) w) j
-            (subst (λ z. LinkedTo (with_entry (entry.Bound v a) t) z a) (eqb-true v w i) (bound_at t v a r p m e)))
+          (subst (λ z. LinkedTo (with_entry (entry.Bound v a) t) z a) (eqb-true v w i) (bound_at t v a r p m e)))
           (λ i j. bound_other t v w a b (k.linked w b j) e);
       steady = λ w h. ap (λ (s : State). s.marks w) e ∙ k.steady w h;
     }
@@ -222,9 +222,9 @@ fit_marked v s h l free = record {
       types = h.settled.solves.types;
       marks = λ n k. or_either (eqb v n) (s.marks n) k
           (λ e. subst (λ z. admits (marked v s.marks) (s.stands z) ≡ true) (eqb-true v n e)
-            (subst (λ z. admits (marked v s.marks) z ≡ true) (sym free) (or_left (eqb v v) (s.marks v) (eq-eqb v v refl))))
+          (subst (λ z. admits (marked v s.marks) z ≡ true) (sym free) (or_left (eqb v v) (s.marks v) (eq-eqb v v refl))))
           (λ i. admits_more s.marks (marked v s.marks) (s.stands n) (λ m j. marked_more v m s.marks j)
-            (h.settled.solves.marks n i));
+          (h.settled.solves.marks n i));
     };
     leaves = record { alone = h.settled.leaves.alone; unmarked = λ n i j. j };
   };

@@ -220,8 +220,8 @@ pub table_pop : (t : Table) (all rest : List Entry) (ls ks : List (Option TyId))
     → IsTable (record { births = t.births; nodes = t.nodes; trail = rest }) ks ns
 table_pop t all rest ls ks ms ns e h a b c =
     subst (λ k. IsTable (with_trail t rest) k ns) (sym b)
-      (subst (λ n. IsTable (with_trail t rest) (links_without e ls) n) (sym c)
-        (pop_entry (with_trail t rest) ls ms e (subst (λ es. IsTable (with_trail t es) ls ms) a h)))
+    (subst (λ n. IsTable (with_trail t rest) (links_without e ls) n) (sym c)
+    (pop_entry (with_trail t rest) ls ms e (subst (λ es. IsTable (with_trail t es) ls ms) a h)))
 
 pub last_within : (t : Table) (all rest : List Entry) (ls : List (Option TyId)) (ms : List Bool) (e : Entry)
     → IsTable (record { births = t.births; nodes = t.nodes; trail = all }) ls ms → all ≡ rest ++ e ∷ []
@@ -236,7 +236,7 @@ mark_old : (p t : Table) (v : ℕ) → take (length p.births) t.births ≡ p.bir
     → v < length p.births → (state t).marks v ≡ (state p).marks v
 mark_old p t v h e l = marks_as t v
     ∙ ap₂ (λ (b : Birth) es. b.marked || marks_it v es)
-      (sym (get_or-take (length p.births) t.births v (record { marked = false; rigid = false }) l) ∙ ap (λ bs. birth_in bs v) h) e
+    (sym (get_or-take (length p.births) t.births v (record { marked = false; rigid = false }) l) ∙ ap (λ bs. birth_in bs v) h) e
     ∙ sym (marks_as p v)
 
 link_old : (p t : Table) (v : ℕ) → t.trail ≡ p.trail → link t v ≡ link p v
@@ -277,9 +277,9 @@ pub added_variable : (old new : Store) (es : List Entry) (ls ks : List (Option T
     → IsTable (table_with new es) ks ns
 added_variable old new es ls ks ms ns b h e f g =
     subst (λ s. IsTable (table_with s es) ks ns) (sym e)
-      (subst (λ k. IsTable (table_with (with_birth b old) es) k ns) (sym f)
-        (subst (λ n. IsTable (table_with (with_birth b old) es) (ls ++ None ∷ []) n) (sym g)
-          (table_variable (table_with old es) ls ms b h)))
+    (subst (λ k. IsTable (table_with (with_birth b old) es) k ns) (sym f)
+    (subst (λ n. IsTable (table_with (with_birth b old) es) (ls ++ None ∷ []) n) (sym g)
+    (table_variable (table_with old es) ls ms b h)))
 
 pub added_node : (old new : Store) (es : List Entry) (ls : List (Option TyId)) (ms : List Bool) (x : Node)
     → IsTable (table_with old es) ls ms → IsNode old x → new ≡ with_node x old → IsTable (table_with new es) ls ms

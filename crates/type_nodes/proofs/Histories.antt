@@ -71,8 +71,8 @@ kept_cut t (suc n) h l =
     let e : Entry = get_or t.trail n first_entry in
     let at : slice_get t.trail n ≡ Some e = slice_get-get_or t.trail n first_entry (omega (arith, l)) in
     subst (λ es. IsKept (record { births = t.births; nodes = t.nodes; trail = es }))
-        (sym (take-suc t.trail n first_entry (omega (arith, l))))
-        (kept_entry (cut n t) e (kept_cut t n h (omega (arith, l))) (h.follows n e at))
+    (sym (take-suc t.trail n first_entry (omega (arith, l))))
+    (kept_entry (cut n t) e (kept_cut t n h (omega (arith, l))) (h.follows n e at))
 
 pub kept : (t : Table) → IsHistory t → IsKept t
 kept t h = subst (λ es. IsKept (record { births = t.births; nodes = t.nodes; trail = es })) (take-length t.trail)
@@ -158,7 +158,7 @@ follow_front t b (entry.Bound v a) k m = record {
   admitted = λ h. admits_more (state t).marks (state (with_variable_of b t)).marks (whole (with_variable_of b t) a)
       (λ n i. marks_grow t b n k i)
       (subst (λ u. admits (state t).marks u ≡ true) (sym (whole_front t b a))
-        (m.admitted (sym (marks_front t b v m.at.within) ∙ h)));
+      (m.admitted (sym (marks_front t b v m.at.within) ∙ h)));
   falls = (let i = rank_front t b a m.has in let j = rank_front t b (id.Variable v) m.at.within in
       let l : rank t a < rank t (id.Variable v) = m.falls in
       subst (λ x. x < rank (with_variable_of b t) (id.Variable v)) (sym i) (subst (λ x. rank t a < x) (sym j) l));
@@ -181,7 +181,7 @@ born_here births b n h = get_or_push births b _ n (sym h)
 no_mark : (t : Table) → IsKept t → marks_it (length t.births) t.trail ≡ false
 no_mark t k = either_way (marks_it (length t.births) t.trail)
     (λ e. let l : length t.births < length t.births = subst (λ n. length t.births < n) k.next
-      (k.fit.marks (length t.births) (marks_as t (length t.births) ∙ or_right _ _ e)) in absurd (omega (arith, l)))
+    (k.fit.marks (length t.births) (marks_as t (length t.births) ∙ or_right _ _ e)) in absurd (omega (arith, l)))
     (λ e. e)
 
 or_no : (a b : Bool) → b ≡ false → (a || b) ≡ a
@@ -202,18 +202,18 @@ pub mark_new : (t : Table) (b : Birth) (n : ℕ) → IsKept t
     → (state (with_variable_of b t)).marks n ≡ cond (eqb n (length t.births)) b.marked ((state t).marks n)
 mark_new t b n k = either_way (eqb n (length t.births))
     (λ e. let i : n ≡ length t.births = eqb-true n (length t.births) e in
-      marks_as (with_variable_of b t) n ∙ or_no _ _ (ap (λ z. marks_it z t.trail) i ∙ no_mark t k)
-      ∙ ap (λ (x : Birth). x.marked) (born_here t.births b n i)
-      ∙ sym (ap (λ z. cond z b.marked ((state t).marks n)) e))
+    marks_as (with_variable_of b t) n ∙ or_no _ _ (ap (λ z. marks_it z t.trail) i ∙ no_mark t k)
+    ∙ ap (λ (x : Birth). x.marked) (born_here t.births b n i)
+    ∙ sym (ap (λ z. cond z b.marked ((state t).marks n)) e))
     (λ e. marks_as (with_variable_of b t) n
-      ∙ ap (λ (x : Birth). x.marked || marks_it n t.trail) (birth_other t.births b n e) ∙ sym (marks_as t n)
-      ∙ sym (ap (λ z. cond z b.marked ((state t).marks n)) e))
+    ∙ ap (λ (x : Birth). x.marked || marks_it n t.trail) (birth_other t.births b n e) ∙ sym (marks_as t n)
+    ∙ sym (ap (λ z. cond z b.marked ((state t).marks n)) e))
 
 rigid_new : (births : List Birth) (b : Birth) (n : ℕ)
     → rigid_in (births ++ b ∷ []) n ≡ cond (eqb n (length births)) b.rigid (rigid_in births n)
 rigid_new births b n = either_way (eqb n (length births))
     (λ e. ap (λ (x : Birth). x.rigid) (born_here births b n (eqb-true n (length births) e))
-      ∙ sym (ap (λ z. cond z b.rigid (rigid_in births n)) e))
+    ∙ sym (ap (λ z. cond z b.rigid (rigid_in births n)) e))
     (λ e. ap (λ (x : Birth). x.rigid) (birth_other births b n e) ∙ sym (ap (λ z. cond z b.rigid (rigid_in births n)) e))
 
 state_same : (s r : State) → s.next ≡ r.next → s.stands ≡ r.stands → s.marks ≡ r.marks → s.rigid ≡ r.rigid → s ≡ r
@@ -225,11 +225,11 @@ state_variable t b h =
     let k : IsKept t = kept t h in
     let j : IsKept (with_variable_of b t) = kept (with_variable_of b t) (history_variable t b h) in
     state_same _ _
-      (j.next ∙ length_snoc t.births b ∙ ap (λ n. n + 1) (sym k.next))
-      (stands_front t b)
-      (same_marks _ _ (λ n. mark_new t b n k ∙ ap (λ z. cond (eqb n z) b.marked ((state t).marks n)) (sym k.next)))
-      (j.rigid ∙ same_marks _ _ (λ n. rigid_new t.births b n
-        ∙ ap₂ (λ z f. cond (eqb n z) b.rigid (f n)) (sym k.next) (sym k.rigid)))
+    (j.next ∙ length_snoc t.births b ∙ ap (λ n. n + 1) (sym k.next))
+    (stands_front t b)
+    (same_marks _ _ (λ n. mark_new t b n k ∙ ap (λ z. cond (eqb n z) b.marked ((state t).marks n)) (sym k.next)))
+    (j.rigid ∙ same_marks _ _ (λ n. rigid_new t.births b n
+    ∙ ap₂ (λ z f. cond (eqb n z) b.rigid (f n)) (sym k.next) (sym k.rigid)))
 
 -- a node more
 bound_has : (t : Table) (i v : ℕ) (a : TyId) → IsHistory t → slice_get t.trail i ≡ Some (entry.Bound v a) → Has t a

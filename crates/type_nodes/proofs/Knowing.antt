@@ -52,14 +52,14 @@ facts_snoc births m (x ∷ xs) a =
     let n : capped (size_all (types_in m (xs ++ a ∷ []))) ≡ capped (capped (size_all ts) + capped (size u)) =
     ap (λ (f : Facts). f.size) k in
     facts_same _ _
-      (ap (λ (f : Facts). has_variable (flexible_in births) t || f.flexible) k
-        ∙ sym (or_assoc (has_variable (flexible_in births) t) (have_variable (flexible_in births) ts)
-          (has_variable (flexible_in births) u)))
-      (ap (λ (f : Facts). has_variable every t || f.variable) k
-        ∙ sym (or_assoc (has_variable every t) (have_variable every ts) (has_variable every u)))
-      (omega (arith, n))
-      (ap (λ (f : Facts). admits (marked_in births) t && f.equality) k
-        ∙ sym (and_assoc (admits (marked_in births) t) (admits_all (marked_in births) ts) (admits (marked_in births) u)))
+    (ap (λ (f : Facts). has_variable (flexible_in births) t || f.flexible) k
+    ∙ sym (or_assoc (has_variable (flexible_in births) t) (have_variable (flexible_in births) ts)
+    (has_variable (flexible_in births) u)))
+    (ap (λ (f : Facts). has_variable every t || f.variable) k
+    ∙ sym (or_assoc (has_variable every t) (have_variable every ts) (has_variable every u)))
+    (omega (arith, n))
+    (ap (λ (f : Facts). admits (marked_in births) t && f.equality) k
+    ∙ sym (and_assoc (admits (marked_in births) t) (admits_all (marked_in births) ts) (admits (marked_in births) u)))
 
 pub facts_over : (births : List Birth) (c : Symbol) (ts : Types)
     → facts_of births (Ty.Made c ts) ≡ over_symbol c (facts_all births ts)
@@ -139,7 +139,7 @@ store_front : (s : Store) (facts : List Facts) (v n i : ℕ) (f : Facts) → IsS
 store_front s facts v n i f h g e =
     let l : i < length s.nodes = at_within s facts i f h e.1 in
     let k : i < length (take n s.nodes) = (let m : length (take n s.nodes) ≡ min n (length s.nodes) = length-take n s.nodes in
-      let j : i < n = e.0 in omega (arith, m, l, j)) in
+    let j : i < n = e.0 in omega (arith, m, l, j)) in
     let same : type_at s (id.Made i) ≡ type_in (made (take n s.nodes)) (id.Made i) =
     ap (λ ns. type_in (made ns) (id.Made i)) (sym (take-append-drop n s.nodes))
     ∙ type_front (take n s.nodes) (drop n s.nodes) 0 (id.Made i) k in
@@ -175,7 +175,7 @@ facts_more births m parts i f a d l e h =
     ap (λ g. joined g (facts_of births (type_in m a))) h
     ∙ sym (facts_snoc births m (take i parts) a)
     ∙ sym (ap (λ ids. facts_all births (types_in m ids)) (ap (λ n. take n parts) (let k : i + 1 ≡ suc i = omega arith in k)
-      ∙ take-suc parts i d l ∙ ap (λ b. take i parts ++ b ∷ []) (sym e)))
+    ∙ take-suc parts i d l ∙ ap (λ b. take i parts ++ b ∷ []) (sym e)))
 
 pub facts_whole : (births : List Birth) (m : List Ty) (parts : List TyId) (i : ℕ) (f : Facts) → length parts ≤ i
     → f ≡ facts_all births (types_in m (take i parts)) → f ≡ facts_all births (types_in m parts)

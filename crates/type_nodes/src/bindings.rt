@@ -36,10 +36,8 @@ impl Model for TypeBindings {
 
     ghost view = { λ t. record { births = t.types.births; nodes = t.types.nodes; trail = t.trail.items } };
 
-    ghost invariant = {
-        λ t. IsTable (record { births = t.types.births; nodes = t.types.nodes; trail = t.trail.items })
-            t.links.items t.marks.items
-    };
+    ghost invariant = { λ t. IsTable (record { births = t.types.births; nodes = t.types.nodes; trail = t.trail.items })
+        t.links.items t.marks.items };
 }
 
 /// Takes an entry back from the links and the marks.

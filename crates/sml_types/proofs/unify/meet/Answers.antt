@@ -25,4 +25,4 @@ pub returns-in-Made-Made-clause-answer : goal.returns-in-Made-Made-clause-answer
 returns-in-Made-Made-clause-answer c = let k = c.in-Made-Made in
     meeting_as c.args.table.now c.args.table.now c.args.depth c.args.left c.args.right (id.Made k.i) (id.Made k.j)
     c.args.pairs.now c.meet_nodes.new.pairs c.meet_nodes.result c.is_kept.ensures.kept k.ensures.whole k.ensures'.whole
-    c.meet_nodes.ensures
+    c.meet_nodes.ensures.answer

@@ -5,13 +5,13 @@ use Rattle.sml_types.proofs.Frames.{symbol_is_at}
 use Rattle.sml_types.proofs.Pairing.{nodes_one, nodes_push, nodes_clash}
 use Rattle.sml_types.proofs.unify.meet_nodes.Goals as goal
 
-pub returns-then-nodes-depth : goal.returns-then-nodes-depth
-returns-then-nodes-depth c = nodes_one c.args.table.now c.args.depth c.args.left c.args.right c.root-this.result
+pub returns-then-nodes-depth-clause-answer : goal.returns-then-nodes-depth-clause-answer
+returns-then-nodes-depth-clause-answer c = nodes_one c.args.table.now c.args.depth c.args.left c.args.right c.root-this.result
     c.root-that.result c.args.pairs.now c.is_kept.ensures.kept (omega arith) c.requires.left c.root-this.ensures.one
     c.root-that.ensures.one c.if-this-that.true (omega (arith, c.nodes.ensures, c.if-nodes-depth.true))
 
-pub returns-in_ok-add : goal.returns-in_ok-add
-returns-in_ok-add c =
+pub returns-in_ok-add-clause-answer : goal.returns-in_ok-add-clause-answer
+returns-in_ok-add-clause-answer c =
     let e : c.node.result.now.symbol ≡ c.node-2.result.now.symbol = search rules in
     rw c.in_ok-add.ensures.ok (nodes_push c.args.table.now c.args.depth c.args.left c.args.right
     (record { left = c.root-this.result; right = c.root-that.result; next = 0; depth = c.args.depth - 1 }) c.args.pairs.now
@@ -20,8 +20,8 @@ returns-in_ok-add c =
     (symbol_is_at (seen c.args.table.now) c.root-this.result c.node.result.now c.node.ensures ∙ e
     ∙ sym (symbol_is_at (seen c.args.table.now) c.root-that.result c.node-2.result.now c.node-2.ensures)) refl refl)
 
-pub returns-else-is_same : goal.returns-else-is_same
-returns-else-is_same c = nodes_clash c.args.table.now c.args.depth c.args.left c.args.right c.root-this.result c.root-that.result
+pub returns-else-is_same-clause-answer : goal.returns-else-is_same-clause-answer
+returns-else-is_same-clause-answer c = nodes_clash c.args.table.now c.args.depth c.args.left c.args.right c.root-this.result c.root-that.result
     c.args.pairs.now c.is_kept.ensures.kept (omega arith) c.root-this.ensures.within c.root-that.ensures.within
     c.root-this.ensures.one c.root-that.ensures.one
     (λ q. let e : c.node.result.now.symbol ≡ c.node-2.result.now.symbol =

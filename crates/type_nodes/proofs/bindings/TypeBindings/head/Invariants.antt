@@ -4,9 +4,9 @@ use Rattle.type_nodes.proofs.bindings.TypeBindings.head.Given as goal
 
 abbrev pub invariant-loop-at : goal.invariant-loop-at
 invariant-loop-at l = record {
-    has : Has l.fn.self l.at;
-    whole : whole l.fn.self l.at ≡ whole l.fn.self l.fn.id;
-  }
+  has : Has l.fn.self l.at;
+  whole : whole l.fn.self l.at ≡ whole l.fn.self l.fn.id;
+}
 
 abbrev pub decreases-loop-at : goal.decreases-loop-at
 decreases-loop-at l = rank l.fn.self l.at

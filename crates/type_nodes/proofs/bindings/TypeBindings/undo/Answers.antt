@@ -7,10 +7,12 @@ undo_to-requires c = front_entries c.to.inside.past.value c.args.to.now c.args.s
     c.to.inside.nodes c.to.inside.entries c.to.invariant c.to.view_is c.requires
 
 pub truncate-requires : goal.truncate-requires
-truncate-requires c = record { made = made_back c.to.inside.past.value c.args.to.now c.args.self.now
-    (record { births = c.self.inside.types.births; nodes = c.self.inside.types.nodes; trail = c.self.inside.trail.items })
-    c.to.inside.variables c.to.inside.nodes c.to.inside.entries c.to.invariant c.to.view_is c.requires
-    (c.self.view_is ∙ c.undo_to.ensures) }
+truncate-requires c = record {
+  made = made_back c.to.inside.past.value c.args.to.now c.args.self.now
+      (record { births = c.self.inside.types.births; nodes = c.self.inside.types.nodes; trail = c.self.inside.trail.items })
+      c.to.inside.variables c.to.inside.nodes c.to.inside.entries c.to.invariant c.to.view_is c.requires
+      (c.self.view_is ∙ c.undo_to.ensures);
+}
 
 pub invariant_of-self : goal.invariant_of-self
 invariant_of-self c = undone c.to.inside.past.value c.args.to.now c.args.self.now
