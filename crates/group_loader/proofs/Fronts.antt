@@ -1,15 +1,23 @@
 -- One more byte than the limit shows whether a file passes it.
-use Rattle.std.proofs.Common.{◌≡◌, ap, refl, ℕ, ◌+◌, List, length, take, take_all, length-take, false, arith, Option, Some, None}
-use Rattle.std.specs.Prelude.{nat_lt, if◌then◌else◌, Ok, Err}
+use Rattle.std.proofs.Common.{◌≡◌, ℕ, ◌+◌, List, length, length-take, take, take_all, Option, Some, None, Result, Ok, Err, refl, is_some, arith, if◌then◌else◌}
 use Rattle.std.proofs.lemmas.Grind.{common_steps}
-use Rattle.std.specs.FinMap.{get}
+use Rattle.std.specs.Prelude.{nat_lt}
 use Rattle.cm_base.specs.Diags.{whole_file}
-use Rattle.cm_base.specs.Files.{Files}
-use Rattle.cm_description.specs.FirstForm.{first_members}
-use Rattle.plain_words.specs.declared.PlacedWord.{PlacedWord}
 use Rattle.cm_base.specs.Files.{front_read}
-use Rattle.group_loader.specs.Loading.{without_anchors, counted_members, members_of, plain_options, source_found, is_long_path, unit_of}
-use Rattle.group_loader.specs.declared.limits.TheConstants.{DESCRIPTION, SOURCE, ALL_SOURCES}
+use Rattle.cm_base.specs.declared.diag.Diag.{Diag}
+use Rattle.cm_base.specs.declared.diag.Place.{Place}
+use Rattle.grammars.specs.Reading.{read}
+use Rattle.cm_lexer.specs.Tokens.{scan_of}
+use Rattle.path_anchors.specs.Pathconfig.{config_file, bindings_of}
+use Rattle.description_values.specs.Described.{by_reading, description_of}
+use Rattle.cm_description.specs.Grammar.{description}
+use Rattle.cm_description.specs.declared.description.Description.{Description}
+use Rattle.project_loading.specs.Projects.{bound_by, counted, described_by}
+use Rattle.project_checks.specs.declared.limits.TheConstants.{PATHCONFIG, SOURCE}
+use Rattle.project_checks.specs.declared.progress.Progress.{Progress}
+use Rattle.project_loading.proofs.Levels.{goes_alike}
+use Rattle.group_loader.specs.StepsInARow.{source_there}
+use Rattle.group_loader.specs.declared.limits.TheConstants.{DESCRIPTION}
 
 -- what is answered by a file's size and, within the limit, by its bytes
 pub by_front : {A : Type 0} (max : ℕ) (bytes : List ℕ) (refused : A) (goes : List ℕ → A)
@@ -17,29 +25,29 @@ pub by_front : {A : Type 0} (max : ℕ) (bytes : List ℕ) (refused : A) (goes :
     ≡ (if nat_lt max (length bytes) then refused else goes bytes)
 by_front max bytes refused goes = grind (arith, common_steps, length-take (max + 1) bytes, take_all (max + 1) bytes)
 
--- whether a file is there shows in its front
-pub anchors_front : (max : ℕ) (file : Option (List ℕ)) → without_anchors (front_read max file) ≡ without_anchors file
-anchors_front max None = refl
-anchors_front max (Some bytes) = refl
+pub bound_front : (file : Option (List ℕ)) → bound_by (front_read PATHCONFIG file) ≡ bound_by file
+bound_front None = refl
+bound_front (Some bytes) = by_front PATHCONFIG bytes (Err (whole_file 12 config_file)) bindings_of
 
--- the members are those of the description's front
-pub members_front : (root : List ℕ) (file : Option (List ℕ))
-    → members_of root (front_read DESCRIPTION file) ≡ members_of root file
-members_front root None = refl
-members_front root (Some bytes) = by_front DESCRIPTION bytes (Err (whole_file 12 root))
-    (λ text. counted_members root (first_members text))
+pub found_front : (at : Place) (name : List ℕ) (file : Option (List ℕ))
+    → source_there at name (front_read SOURCE file) ≡ source_there at name file
+found_front at name None = refl
+found_front at name (Some bytes) = by_front SOURCE bytes (Err (whole_file 12 name)) (λ source. Ok source)
 
--- the unit is that of the source's front
-pub source_front : (root : List ℕ) (sum : ℕ) (member : PlacedWord) (file : Option (List ℕ))
-    → source_found root sum member (front_read SOURCE file) ≡ source_found root sum member file
-source_front root sum member None = refl
-source_front root sum member (Some bytes) =
-    by_front SOURCE bytes (Err (whole_file 12 member.text)) (λ source.
-    if nat_lt ALL_SOURCES (sum + length source) then Err (whole_file 12 member.text)
-    else Ok (record { name = member.text; options = plain_options; source = source }))
+description_front : (name bytes : List ℕ)
+    → description_of name (take (DESCRIPTION + 1) bytes) ≡ description_of name bytes
+unfolding description_of
+description_front name bytes =
+    by_front DESCRIPTION bytes (Err (whole_file 12 name))
+    (λ text. by_reading name text (read (description name text) (scan_of text).tokens))
 
--- the unit of a member whose path isn't too long
-pub unit_within : (files : Files) (root : List ℕ) (sum : ℕ) (member : PlacedWord) → is_long_path member.text ≡ false
-    → unit_of files root sum member ≡ source_found root sum member (get files member.text)
-unit_within files root sum member short =
-    ap (λ long. if long then Err (whole_file 12 root) else source_found root sum member (get files member.text)) short
+pub described_front : (at : Place) (name : List ℕ) (p : Progress) (file : Option (List ℕ))
+    → described_by at name p (front_read DESCRIPTION file) ≡ described_by at name p file
+described_front at name p None = refl
+described_front at name p (Some bytes) =
+    goes_alike (counted name p) (λ room. description_of name (take (DESCRIPTION + 1) bytes))
+    (λ room. description_of name bytes) (λ room is. description_front name bytes)
+
+pub some_front : (file : Option (List ℕ)) → is_some (front_read 0 file) ≡ is_some file
+some_front None = refl
+some_front (Some bytes) = refl

@@ -7,6 +7,7 @@ use Rattle.cm_base.specs.declared.fault.FolderFault.{FolderFault}
 use Rattle.cm_base.specs.declared.fault.FolderFault.TheVariants as folder
 use Rattle.group_loader.specs.declared.fault.LoadFault.{LoadFault}
 use Rattle.group_loader.specs.declared.fault.LoadFault.TheVariants as fault
+use Rattle.project_checks.specs.declared.progress.Progress.{Progress}
 
 -- a folder's fault as the loader's
 abbrev pub of_folder : FolderFault → LoadFault
@@ -24,3 +25,16 @@ Loads (Ok value) defined = defined ≡ Ok value
 Loads (Err (fault.Diag diag)) defined = defined ≡ Err diag
 Loads (Err fault.Folder) defined = Unit {0}
 Loads (Err fault.NoMemory) defined = Unit {0}
+
+-- a call that loads more leaves what its definition gives, or the same as above
+abbrev pub Leaves : Result (Unit {0}) LoadFault → Result Progress Diag → Progress → Type 0
+Leaves (Ok done) defined now = defined ≡ Ok now
+Leaves (Err (fault.Diag diag)) defined now = defined ≡ Err diag
+Leaves (Err fault.Folder) defined now = Unit {0}
+Leaves (Err fault.NoMemory) defined now = Unit {0}
+
+-- .. without a folder
+abbrev pub LeavesBy : Result (Unit {0}) Fault → Result Progress Diag → Progress → Type 0
+LeavesBy (Ok done) defined now = defined ≡ Ok now
+LeavesBy (Err (refusal.Diag diag)) defined now = defined ≡ Err diag
+LeavesBy (Err refusal.NoMemory) defined now = Unit {0}

@@ -1,2 +1,4 @@
 pub mod Answers
-pub mod Loading
+pub mod LoadedProjects
+pub mod Loaders
+pub mod StepsInARow

@@ -1,12 +1,14 @@
-//! The loader of a project: the group that a folder's description names, with the sources of its members.
+//! The loader of projects: the groups and libraries to which ROOT leads, with the sources of their members.
 #![tactic(auto)]
 
+mod descent;
 mod fault;
 mod limits;
-mod loading;
-mod paths;
-mod refusals;
+mod loader;
+mod project;
+mod reading;
 
 pub use fault::LoadFault;
-pub use limits::{ALL_SOURCES, DESCRIPTION, MEMBERS, PATH_COMPONENT, SOURCE, WRITTEN_PATH};
-pub use loading::load;
+pub use limits::DESCRIPTION;
+pub use project::load;
+pub use reading::read_anchors;
