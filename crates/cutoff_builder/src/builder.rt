@@ -19,7 +19,7 @@ use crate::turn::{UnitFault, take_turn};
 use crate::unit::SourceUnit;
 use build_laws::ALL_INTERFACES;
 use cm_base::{Built, Compiler, Diag, Folder, List, NoMemory, Skeleton};
-use cm_description::loaded::{Project, Wanted};
+use cm_description::{Project, Wanted};
 use dependency_graph::{UnitOrder, at};
 use std::alloc::Global;
 
@@ -100,7 +100,7 @@ fn build_each<F: Folder, C: Compiler>(
 
 /// Builds the units of a project in their order over its store. `skeletons` and `wanted` have a skeleton and the wanted
 /// names of each unit, by its number. It stops at the first diagnostic, where the folder fails, or for want of memory, for
-/// which a text or a list of 2^32 bytes or items, which no format can hold, counts too.
+/// which a text or a list of 2^32 bytes or items, which no format can hold, and 2^32 units count too.
 ///
 /// From a good store it is the plain build of the project: the same units, the same diagnostic, the same files; and the
 /// compiler is asked for what is stale in the store and for nothing else. Over any other store it does what `cut_build`
@@ -115,7 +115,6 @@ pub fn build<F: Folder, C: Compiler>(
     order: &UnitOrder,
 ) -> Result<Built, BuildFault>
     requires counted { length order.now ≡ length project.now.units }
-    requires few { length project.now.units < 2 ^ 32 }
     requires skeletons { length skeletons.now ≡ length project.now.units }
     requires wanted { length wanted.now ≡ length project.now.units }
     requires providers { All (λ list. All (λ w. w.provider < length project.now.units) list) wanted.now }

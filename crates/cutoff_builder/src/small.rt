@@ -10,7 +10,7 @@ ghost use Rattle.cutoff_builder.specs.Small.{is_small, is_small_wanted};
 use crate::planned::source_unit;
 use crate::unit::SourceUnit;
 use cm_base::{List, Need, Skeleton, Spot, Text};
-use cm_description::loaded::{Project, Unit, Wanted};
+use cm_description::{Project, Unit, Wanted};
 use dependency_graph::{UnitOrder, at};
 
 /// Whether a count fits four bytes.
@@ -111,8 +111,8 @@ fn is_small_or_none(found: Option<SourceUnit<'_>>) -> bool
     }
 }
 
-/// Whether the formats can hold all units of a project.
-pub fn all_small(
+/// Whether the formats can hold each unit of a project.
+fn each_is_small(
     project: &Project,
     skeletons: &List<Skeleton>,
     wanted: &List<List<Wanted>>,
@@ -130,4 +130,23 @@ pub fn all_small(
         }
     }
     true
+}
+
+/// Whether the formats can hold all units of a project, and numbers of four bytes count them.
+pub fn all_small(
+    project: &Project,
+    skeletons: &List<Skeleton>,
+    wanted: &List<List<Wanted>>,
+    order: &UnitOrder,
+) -> bool
+    requires counted { length order.now ≡ length project.now.units }
+    requires providers { All (λ list. All (λ w. w.provider < length project.now.units) list) wanted.now }
+    ensures few { IsTrue result → length project.now.units < 2 ^ 32 }
+    ensures small { IsTrue result → AllByRecursion IsSmallPlanned
+        (planned_of project.now skeletons.now wanted.now order.now) }
+{
+    if project.units.len() >= 1 << 32 {
+        return false;
+    }
+    each_is_small(project, skeletons, wanted, order)
 }

@@ -17,7 +17,7 @@ use cm_base::{
     List, ModName, NoMemory, Options, Skeleton, Text,
 };
 use cm_bytes::pid_of;
-use cm_description::loaded::{Unit, Wanted};
+use cm_description::{Unit, Wanted};
 use std::alloc::Global;
 use std::marker::Model;
 

@@ -7,7 +7,7 @@ pub returns-clause-builds : goal.returns-clause-builds
 returns-clause-builds g c = λ files told. builds_plain g.C.Compiler.defines files
     (planned_of c.args.project.now c.args.skeletons.now c.args.wanted.now c.args.order.now) c.build_each.result
     (g.F.Folder.holds c.build_each.new.folder) (g.C.Compiler.asked c.args.compiler.now)
-    (g.C.Compiler.asked c.build_each.new.compiler) (c.if-not-all_small.ensures refl) (c.build_each.ensures.cuts files told)
+    (g.C.Compiler.asked c.build_each.new.compiler) (c.if-not-all_small.ensures.small refl) (c.build_each.ensures.cuts files told)
 
 pub returns-clause-project : goal.returns-clause-project
 returns-clause-project g c = λ files told. keeps_project g.C.Compiler.defines.compiled files

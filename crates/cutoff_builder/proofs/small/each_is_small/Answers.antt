@@ -4,7 +4,7 @@ use Rattle.build_laws.specs.Storing.{IsSmallPlanned}
 use Rattle.cutoff_builder.specs.Planning.{as_list, planned_in}
 use Rattle.cutoff_builder.proofs.Going.{planned_more}
 use Rattle.cutoff_builder.proofs.Smallness.{all_append}
-use Rattle.cutoff_builder.proofs.small.all_small.Goals as goal
+use Rattle.cutoff_builder.proofs.small.each_is_small.Goals as goal
 
 pub loop-place-preserved : goal.loop-place-preserved
 loop-place-preserved c =

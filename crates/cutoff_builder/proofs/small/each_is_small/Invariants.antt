@@ -2,7 +2,7 @@ use Rattle.std.proofs.Common.{map, take}
 use Rattle.std.specs.List.{AllByRecursion}
 use Rattle.build_laws.specs.Storing.{IsSmallPlanned}
 use Rattle.cutoff_builder.specs.Planning.{planned_in}
-use Rattle.cutoff_builder.proofs.small.all_small.Given as goal
+use Rattle.cutoff_builder.proofs.small.each_is_small.Given as goal
 
 -- the units of the first numbers are small
 abbrev pub invariant-loop-place : goal.invariant-loop-place

@@ -1,0 +1,4 @@
+pub mod Providers
+pub mod Graphs
+pub mod Planned
+pub mod Steps
