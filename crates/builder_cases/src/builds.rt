@@ -11,7 +11,7 @@ use case_scenes::{
     Answer, Asked, Files, Stage, counted, lines_of, look_at, look_of, push_diag, unknown,
 };
 use cm_base::{Built, How, List, MemFolder, NoMemory, Options, Skeleton, Text};
-use cm_description::loaded::{Project, Wanted};
+use cm_description::{Project, Wanted};
 use cutoff_builder::{BuildFault, build};
 use dependency_graph::UnitOrder;
 use std::alloc::Global;

@@ -6,7 +6,7 @@ ghost use Rattle.std.specs.Ordering.{is_lt, nat_cmp};
 ghost use Rattle.dependency_graph.specs.Order.{AllAreUnits, AllDiffer, name_of};
 
 use cm_base::{List, NoMemory, Text};
-use cm_description::loaded::Wanted;
+use cm_description::Wanted;
 use dependency_graph::{OrderFault, UnitOrder, order};
 use std::alloc::Global;
 

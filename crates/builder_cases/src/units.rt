@@ -3,7 +3,7 @@
 ghost use Rattle.std.specs.Prelude.{◌<◌};
 
 use cm_base::{List, ModName, Namespace, NoMemory, Options, Skeleton, Text};
-use cm_description::loaded::{Project, Unit, UnitBody, Wanted};
+use cm_description::{Project, Unit, UnitBody, Wanted};
 use std::alloc::Global;
 
 /// A unit of a case: its providers by their names.

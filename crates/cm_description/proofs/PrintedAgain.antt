@@ -20,10 +20,9 @@ use Rattle.cm_lexer.proofs.Steps.{scan_none}
 use Rattle.cm_conditions.specs.Grammar.{space_of}
 use Rattle.cm_description.specs.Again.{unplaced_line, unplaced_entry, unplaced_member, unplaced, AreAlike, IsRead, ReadsAgain, IsPrinted}
 use Rattle.cm_description.specs.Answers.{IsDescription, IsRefusal, ReadsDescription, passes_limits, is_empty, lacks_exports, checked, refusal_at, first_place}
-use Rattle.cm_description.specs.FirstForm.{is_group_word, is_is_word}
 use Rattle.cm_description.specs.Grammar.{word, exports, members, no_exports, no_members, described, description}
 use Rattle.cm_description.specs.Printing.{kind_line, is_line, listed, entry_text, member_text, printed}
-use Rattle.cm_description.specs.Words.{is_library_word, allows, is_word, space_by, same_kind, begins_export}
+use Rattle.cm_description.specs.Words.{is_library_word, allows, is_word, space_by, same_kind, begins_export, is_group_word, is_is_word}
 use Rattle.cm_description.specs.declared.description.Description.{Description}
 use Rattle.cm_description.specs.declared.description.Entry.{Entry}
 use Rattle.cm_description.specs.declared.word.WordKind.TheVariants as wanted

@@ -1,4 +1,3 @@
-pub mod FirstForm
 pub mod Words
 pub mod Modules
 pub mod Grammar

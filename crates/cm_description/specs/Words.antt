@@ -10,7 +10,6 @@ use Rattle.cm_lexer.specs.declared.token.TokenKind.{TokenKind}
 use Rattle.cm_lexer.specs.declared.token.TokenKind.TheVariants as kind
 use Rattle.cm_lexer.specs.declared.token.Token.{Token}
 use Rattle.cm_conditions.specs.Grammar.{space_of}
-use Rattle.cm_description.specs.FirstForm.{is_group_word, is_is_word}
 use Rattle.cm_description.specs.declared.directive.Directive.{Directive}
 use Rattle.cm_description.specs.declared.directive.Directive.TheVariants as directive
 use Rattle.cm_description.specs.declared.word.WordKind.{WordKind}
@@ -22,6 +21,14 @@ abbrev pub place : List ℕ → Token → Place
 place file x = record { file = file; line = x.line; col = x.col }
 
 -- ---- words
+
+-- the word that begins a group, as it is, with a capital or in capitals
+unfoldable pub is_group_word : List ℕ → Bool
+is_group_word word =
+    pointwise nat_eq word (codes "group") || (pointwise nat_eq word (codes "Group") || pointwise nat_eq word (codes "GROUP"))
+
+unfoldable pub is_is_word : List ℕ → Bool
+is_is_word word = pointwise nat_eq word (codes "is") || pointwise nat_eq word (codes "IS")
 
 -- the word that begins a library, as it is, with a capital or in capitals
 unfoldable pub is_library_word : List ℕ → Bool

@@ -4,10 +4,9 @@ ghost use Rattle.std.specs.Prelude.{◌≡◌};
 ghost use Rattle.std.specs.List.{list_all};
 ghost use Rattle.cm_base.specs.ByteClasses.{is_letter, is_identifier_byte};
 ghost use Rattle.cm_conditions.specs.Grammar.{space_of};
-ghost use Rattle.cm_description.specs.Words.{is_library_word, is_identifier, allows, directive_of};
+ghost use Rattle.cm_description.specs.Words.{is_group_word, is_library_word, is_is_word, is_identifier, allows, directive_of};
 
 use crate::directive::Directive;
-use crate::first_form::{is_group_word, is_is_word};
 use cm_base::{Namespace, is_identifier_byte, is_letter};
 
 /// What is wanted of a word.
@@ -45,6 +44,22 @@ fn are_letters(word: &[u8]) -> bool
     ensures { result ≡ list_all is_letter word.now }
 {
     word.iter().all(|byte| is_letter(*byte))
+}
+
+/// Whether a word is `group`, as it is, with a capital or in capitals.
+#[tactic(auto, unfolding(crate::specs::Words::is_group_word))]
+pub(crate) fn is_group_word(word: &[u8]) -> bool
+    ensures { result ≡ is_group_word word.now }
+{
+    word == b"group".as_slice() || word == b"Group".as_slice() || word == b"GROUP".as_slice()
+}
+
+/// Whether a word is `is`, as it is or in capitals.
+#[tactic(auto, unfolding(crate::specs::Words::is_is_word))]
+pub(crate) fn is_is_word(word: &[u8]) -> bool
+    ensures { result ≡ is_is_word word.now }
+{
+    word == b"is".as_slice() || word == b"IS".as_slice()
 }
 
 /// Whether a word is `library`, as it is, with a capital or in capitals.

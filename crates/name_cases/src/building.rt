@@ -4,8 +4,9 @@ use crate::reading::{name_of, skeleton_of};
 use case_files::{CaseFault, Section, Wrong};
 use case_texts::words_of;
 use cm_base::{Fault, List, NoMemory, Options, Pid, Skeleton, Text};
-use cm_description::loaded::{Export, Group, Project, Unit, UnitBody};
-use cm_description::{Description, MemberEntry, read_description};
+use cm_description::{
+    Description, Export, Group, MemberEntry, Project, Unit, UnitBody, read_description,
+};
 use std::alloc::Global;
 use std::mem;
 

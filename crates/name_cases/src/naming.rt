@@ -10,7 +10,7 @@ use crate::showing::{answered, push_exports, push_imports};
 use case_files::{Case, CaseFault, Report, Section, Wrong};
 use case_texts::refusal;
 use cm_base::{Fault, List, NoMemory};
-use cm_description::loaded::{Export, Wanted};
+use cm_description::{Export, Wanted};
 use std::alloc::Global;
 use visibility::{all_names, exports, imports};
 

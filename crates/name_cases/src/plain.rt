@@ -4,8 +4,7 @@
 use crate::building::Built;
 use cm_base::{Diag, Fault, List, ModName, Namespace, NoMemory, Place, Skeleton, Spot, Text};
 use cm_conditions::{select, space_word};
-use cm_description::Entry;
-use cm_description::loaded::{Export, Group, Project, UnitBody, Wanted};
+use cm_description::{Entry, Export, Group, Project, UnitBody, Wanted};
 use std::alloc::Global;
 use visibility::Names;
 

@@ -4,7 +4,7 @@ use case_files::{Part, push_parts};
 use case_texts::refusal;
 use cm_base::{Fault, List, ModName, NoMemory};
 use cm_conditions::space_word;
-use cm_description::loaded::{Export, Project, Wanted};
+use cm_description::{Export, Project, Wanted};
 use std::alloc::Global;
 use visibility::Names;
 

@@ -9,7 +9,7 @@ ghost use Rattle.project_checks.specs.Owning.{owned_at};
 use crate::owners::Owned;
 use crate::progress::Membership;
 use cm_base::{List, NoMemory};
-use cm_description::loaded::{Group, Unit};
+use cm_description::{Group, Unit};
 use std::alloc::Global;
 
 /// So many empty lists.

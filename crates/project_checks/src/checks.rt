@@ -8,7 +8,7 @@ ghost use Rattle.project_checks.specs.Checks.{group_names, is_unfrozen, least, n
 use crate::names::{least_if, least_repeated};
 use crate::owners::Owned;
 use cm_base::{Diag, Fault, NoMemory, Text};
-use cm_description::loaded::{Group, Unit};
+use cm_description::{Group, Unit};
 use std::alloc::Global;
 
 /// A number on a whole file, if there is one.

@@ -6,7 +6,7 @@ ghost use Rattle.std.specs.Ordering.{is_lt, nat_cmp};
 ghost use Rattle.project_checks.specs.Checks.{least, least_if, least_with, repeated};
 
 use cm_base::{NoMemory, Text};
-use cm_description::loaded::Unit;
+use cm_description::Unit;
 use indexmap::IndexSet;
 use std::alloc::Global;
 

@@ -5,7 +5,7 @@ ghost use Rattle.project_checks.specs.Owners.{AreOrdered, owns_itself};
 ghost use Rattle.project_checks.specs.Owning.{AreWithin, HaveOwners, Joins, PassesDown, joined, own_turn, owned_at};
 
 use cm_base::NoMemory;
-use cm_description::loaded::Group;
+use cm_description::Group;
 use std::alloc::Global;
 
 /// The owners that a group is known to have: none yet, one, or several that differ.

@@ -1,7 +1,7 @@
 //! What was loaded so far.
 
 use cm_base::List;
-use cm_description::loaded::{Group, Unit};
+use cm_description::{Group, Unit};
 
 /// A group that is a member of another one, by their numbers.
 #[derive(Clone, Copy, Debug, PartialEq, Eq)]

@@ -11,7 +11,7 @@ use crate::checks::{freezing_checked, owned_once, units_once};
 use crate::owners::owners_of;
 use crate::progress::Progress;
 use cm_base::Fault;
-use cm_description::loaded::Project;
+use cm_description::Project;
 use std::alloc::Global;
 
 /// The project of what was loaded, or what is refused of it: 11, 15, and where it is to be frozen 14 and 13.

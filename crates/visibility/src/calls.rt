@@ -15,7 +15,7 @@ use crate::places::places_of;
 use crate::projects::group_of;
 use crate::showing::shown;
 use cm_base::{Def, Fault, List, Skeleton};
-use cm_description::loaded::{Export, Group, Project, Wanted};
+use cm_description::{Export, Group, Project, Wanted};
 use indexmap::IndexMap;
 use std::alloc::Global;
 

@@ -3,7 +3,7 @@
 ghost use Rattle.std.specs.Prelude.{◌≡◌, IfOk};
 
 use cm_base::{List, ModName, NoMemory, Place};
-use cm_description::loaded::Export;
+use cm_description::Export;
 use std::alloc::Global;
 
 /// Another module name of the same name space and text.

@@ -18,7 +18,7 @@ use crate::projects::{is_library, members, sources};
 use crate::refusals::file_place;
 use crate::there::names_there;
 use cm_base::{Fault, List, ModName, NoMemory, Place, Skeleton, Text};
-use cm_description::loaded::{Export, Project};
+use cm_description::{Export, Project};
 use indexmap::IndexMap;
 use std::alloc::Global;
 use std::collections::BTreeMap;

@@ -10,7 +10,7 @@ ghost use Rattle.visibility.specs.Tables.{NotesFirst, AddsSpots, MakesDefiners};
 use crate::copies::copied;
 use crate::refusals::clash;
 use cm_base::{Fault, List, ModName, NoMemory, Skeleton, Spot};
-use cm_description::loaded::Project;
+use cm_description::Project;
 use indexmap::IndexMap;
 use std::alloc::Global;
 

@@ -11,8 +11,7 @@ use crate::found::Found;
 use crate::group_names::GroupNames;
 use crate::refusals::refused;
 use cm_base::{Fault, List, ModName, NoMemory, Place};
-use cm_description::Entry;
-use cm_description::loaded::Export;
+use cm_description::{Entry, Export};
 use indexmap::IndexSet;
 use std::alloc::Global;
 

@@ -9,7 +9,7 @@ use crate::copies::copied;
 use crate::found::Found;
 use crate::places::exports_at;
 use cm_base::{List, ModName, NoMemory};
-use cm_description::loaded::Export;
+use cm_description::Export;
 use indexmap::IndexMap;
 use std::alloc::Global;
 

@@ -9,7 +9,7 @@ use crate::exported::{found_among, found_at};
 use crate::found::Found;
 use crate::projects::{members, sources};
 use cm_base::{Fault, List, ModName, Skeleton};
-use cm_description::loaded::{Export, Project};
+use cm_description::{Export, Project};
 use indexmap::IndexMap;
 use std::alloc::Global;
 

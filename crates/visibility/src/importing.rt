@@ -14,7 +14,7 @@ use crate::group_names::GroupNames;
 use crate::projects::{sees_basis, unit_file};
 use crate::refusals::{refused, spot_place};
 use cm_base::{Fault, List, Need, NoMemory, Skeleton, Spot, Text};
-use cm_description::loaded::{Project, Wanted};
+use cm_description::{Project, Wanted};
 use std::alloc::Global;
 
 /// The refusal of a name at its spot in a unit's file.

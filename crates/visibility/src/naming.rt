@@ -13,7 +13,7 @@ use crate::names::Names;
 use crate::places::places_of;
 use crate::showing::shown;
 use cm_base::{Def, Fault, List, NoMemory, Skeleton};
-use cm_description::loaded::{Export, Group, Project, Unit, Wanted};
+use cm_description::{Export, Group, Project, Unit, Wanted};
 use indexmap::IndexMap;
 use std::alloc::Global;
 

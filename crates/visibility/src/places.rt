@@ -7,7 +7,7 @@ ghost use Rattle.cm_base.specs.Places.{item_at};
 ghost use Rattle.visibility.specs.Tables.{ArePlaces};
 
 use cm_base::{List, NoMemory};
-use cm_description::loaded::Export;
+use cm_description::Export;
 use indexmap::IndexMap;
 use std::alloc::Global;
 

@@ -5,7 +5,7 @@ ghost use Rattle.visibility.specs.Imports.{sees_basis, shows_basis};
 ghost use Rattle.visibility.specs.Projects.{group_of, is_library, members, sources, unit_file};
 
 use cm_base::{NoMemory, Text};
-use cm_description::loaded::{Project, UnitBody};
+use cm_description::{Project, UnitBody};
 use std::alloc::Global;
 
 /// The sources of a group, in member order.

@@ -8,7 +8,7 @@ ghost use Rattle.visibility.specs.Exports.{clash_diag};
 use crate::projects::unit_file;
 use cm_base::{Diag, List, ModName, NoMemory, Place, Spot, Text};
 use cm_conditions::space_word;
-use cm_description::loaded::Project;
+use cm_description::Project;
 use std::alloc::Global;
 
 /// Adds bytes at the end.

@@ -14,7 +14,7 @@ use crate::group_names::GroupNames;
 use crate::projects::{members, sources};
 use crate::there::names_there;
 use cm_base::{Def, Fault, List, Skeleton};
-use cm_description::loaded::{Export, Group, Project};
+use cm_description::{Export, Group, Project};
 use indexmap::IndexMap;
 use std::alloc::Global;
 

@@ -12,7 +12,7 @@ ghost use Rattle.visibility.specs.Tables.{shown_at, shown_among};
 use crate::copies::copied;
 use crate::places::exports_at;
 use cm_base::{List, ModName, NoMemory, Skeleton, Spot};
-use cm_description::loaded::Export;
+use cm_description::Export;
 use indexmap::IndexMap;
 use std::alloc::Global;
 
