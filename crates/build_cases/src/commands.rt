@@ -4,7 +4,8 @@ use crate::player::Player;
 use case_files::{CaseFault, Part, Section, push_parts};
 use case_scenes::{Answer, Files, Stage, counted, lines_of, look_at, look_of, unknown};
 use cm_base::{Compiler, Folder, List, MemSink, NoMemory, Sink, SureFolder, SureSink, Text};
-use cm_top::{Status, Toolbox, run_cm};
+use cm_top::{Status, run_cm};
+use member_tools::Toolbox;
 use std::alloc::Global;
 use std::mem;
 

@@ -7,10 +7,6 @@ pub enum Kind {
     Letters,
     /// Commands over a folder in memory, with the compiler of the program.
     Build,
-    /// Loading of a project, without building it.
-    Load,
-    /// Builds of units that the case names, in their order.
-    Planned,
     /// Calls of the folder and the output of the machine.
     Machine,
     /// The words that a program is called with.
@@ -18,11 +14,9 @@ pub enum Kind {
 }
 
 /// The kinds with their names.
-const KINDS: [(&[u8], Kind); 6] = [
+const KINDS: [(&[u8], Kind); 4] = [
     (b"letters", Kind::Letters),
     (b"build", Kind::Build),
-    (b"load", Kind::Load),
-    (b"planned", Kind::Planned),
     (b"machine", Kind::Machine),
     (b"call", Kind::Call),
 ];

@@ -1,21 +1,17 @@
-//! Cases of the manager: folders, edits and commands, and what became of the files; with the calls below a command that
-//! no command shows.
+//! Cases of the manager: folders, edits and commands, and what became of the files; with the calls of the machine
+//! below a command that no command shows.
 #![tactic(auto)]
 
-mod builder_calls;
 mod commands;
 mod kind;
-mod loader_calls;
 mod machine;
 mod player;
 mod words_of_call;
 
-use builder_calls::BuilderCalls;
 use case_files::{Case, CaseFault, Kinds, Report, Wrong, run_cases};
 use case_scenes::{Letters, play};
 use commands::Commands;
 use kind::{Kind, kind_of};
-use loader_calls::LoaderCalls;
 use machine::try_on_machine;
 use sml_compiler::SmlCompiler;
 use std::alloc::Global;
@@ -33,8 +29,6 @@ impl Kinds for BuildKinds {
         match kind_of(case.kind.as_bytes()) {
             Some(Kind::Letters) => play(alloc, Commands::<Letters>::new(alloc)?, case, report),
             Some(Kind::Build) => play(alloc, Commands::<SmlCompiler>::new(alloc)?, case, report),
-            Some(Kind::Load) => play(alloc, LoaderCalls::new(alloc)?, case, report),
-            Some(Kind::Planned) => play(alloc, BuilderCalls::new(alloc)?, case, report),
             Some(Kind::Machine) => try_on_machine(self.rt, case, report),
             Some(Kind::Call) => play(alloc, WordsOfCall::new(alloc), case, report),
             None => Err(CaseFault::Wrong(case.line, Wrong::Kind)),

@@ -6,7 +6,8 @@ ghost use Rattle.cm_cli.specs.Exit.{exit_number};
 
 use cm_base::{NoMemory, Text};
 use cm_host::{RealFolder, RealSink, WordsFault, program_words};
-use cm_top::{Status, Toolbox, run_cm};
+use cm_top::{Status, run_cm};
+use member_tools::Toolbox;
 use sml_compiler::SmlCompiler;
 use std::process::ExitCode;
 

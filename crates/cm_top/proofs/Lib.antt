@@ -1,4 +1,8 @@
+pub mod Agreeing
+pub mod Showing
+pub mod LinkLeaves
+pub mod Doing
 pub mod Ending
 pub mod ShortLemmas
-pub mod Staying
-pub mod Working
+pub mod Framing
+pub mod Shadows

@@ -1,13 +1,12 @@
 -- The program's promise: how a command ends, what it leaves and what was asked, in every case. The contract of `run_cm`
 -- is made of these and of the causes of a fault.
-use Rattle.std.specs.Prelude.{ℕ, ◌≡◌, List, [], ◌++◌, Option, Some, take}
+use Rattle.std.specs.Prelude.{ℕ, ◌≡◌, ◌⊎◌, List, [], ◌++◌, Option, Some, take}
+use Rattle.cm_base.specs.Definitions.{Definitions}
 use Rattle.cm_base.specs.Files.{Files}
 use Rattle.cm_base.specs.Fronts.{GrowsUpTo}
 use Rattle.cm_base.specs.Keeping.{Keeps}
 use Rattle.cm_bytes.specs.Hashes.{HashesApart}
-use Rattle.cm_base.specs.Definitions.{Definitions}
-use Rattle.bin_store.specs.GoodStore.{StoreIsGood}
-use Rattle.plain_builder.specs.Kept.{KeepsGood}
+use Rattle.bin_store.specs.GoodStore.{IsGoodStore, StoreIsGood}
 use Rattle.cm_top.specs.Meaning.{Meaning}
 use Rattle.cm_top.specs.declared.status.Status.{Status}
 use Rattle.cm_top.specs.declared.status.Status.TheVariants as status
@@ -32,39 +31,80 @@ IsUsageEnd status.SinkFault = Unit {0}
 IsUsageEnd status.NoMemory = Unit {0}
 IsUsageEnd status.ToolFault = ⊥
 
+-- what a command finds and leaves: what the output had, and has then; what the folder holds then; and both lists of
+-- what the compiler was asked, before and after
+pub record Run : Type 0 where
+  pub text : List ℕ
+  pub written : Option (List ℕ)
+  pub holds : Option Files
+  pub asked : List (List ℕ)
+  pub asked_then : List (List ℕ)
+  pub skeletons : List (List ℕ)
+  pub skeletons_then : List (List ℕ)
+
+abbrev pub run_of : List ℕ → Option (List ℕ) → Option Files → List (List ℕ) → List (List ℕ) → List (List ℕ)
+    → List (List ℕ) → Run
+run_of text written holds asked asked_then skeletons skeletons_then = record {
+  text = text;
+  written = written;
+  holds = holds;
+  asked = asked;
+  asked_then = asked_then;
+  skeletons = skeletons;
+  skeletons_then = skeletons_then;
+}
+
 -- how a command that met no fault ends: as it means
-pub record IsMeaning (m : Meaning) (end : Status) (text : List ℕ) (written : Option (List ℕ)) (holds : Option Files)
-    (asked asked' skeletons skeletons' : List (List ℕ)) : Type 0 where
+pub record IsMeaning (m : Meaning) (end : Status) (run : Run) : Type 0 where
   pub status : end ≡ m.status
-  pub output : written ≡ Some (text ++ m.output)
-  pub files : holds ≡ Some m.files
-  pub asks : asked' ≡ asked ++ m.asked
-  pub asks_skeletons : skeletons' ≡ skeletons ++ m.asked_skeletons
+  pub output : run.written ≡ Some (run.text ++ m.output)
+  pub files : run.holds ≡ Some m.files
+  pub asks : run.asked_then ≡ run.asked ++ m.asked
+  pub asks_skeletons : run.skeletons_then ≡ run.skeletons ++ m.asked_skeletons
 
 -- how one ends that a fault or want of memory cut off: so much is printed, and a front of what it asks for was asked
-pub record IsCutOff (m : Meaning) (text printed : List ℕ) (written : Option (List ℕ))
-    (asked asked' skeletons skeletons' : List (List ℕ)) : Type 0 where
-  pub output : written ≡ Some (text ++ printed)
-  pub asks : GrowsUpTo asked asked' m.asked
-  pub asks_skeletons : GrowsUpTo skeletons skeletons' m.asked_skeletons
+pub record IsCutOff (m : Meaning) (printed : List ℕ) (run : Run) : Type 0 where
+  pub output : run.written ≡ Some (run.text ++ printed)
+  pub asks : GrowsUpTo run.asked run.asked_then m.asked
+  pub asks_skeletons : GrowsUpTo run.skeletons run.skeletons_then m.asked_skeletons
 
 -- a command ends as it means, or it is cut off: before it prints, or where the output fails, after a front of its
--- output. Of the output before and after, of the folder after, and of both lists of what was asked before and after
-abbrev pub Ends : Status → Meaning → List ℕ → Option (List ℕ) → Option Files → List (List ℕ) → List (List ℕ)
-    → List (List ℕ) → List (List ℕ) → Type 0
-Ends status.Ok m text written holds a a' s s' = IsMeaning m status.Ok text written holds a a' s s'
-Ends status.Diagnostic m text written holds a a' s s' = IsMeaning m status.Diagnostic text written holds a a' s s'
-Ends status.Usage m text written holds a a' s s' = IsMeaning m status.Usage text written holds a a' s s'
-Ends status.FolderFault m text written holds a a' s s' = IsCutOff m text [] written a a' s s'
-Ends status.SinkFault m text written holds a a' s s' = (n : ℕ) × IsCutOff m text (take n m.output) written a a' s s'
-Ends status.NoMemory m text written holds a a' s s' = IsCutOff m text [] written a a' s s'
-Ends status.ToolFault m text written holds a a' s s' = IsCutOff m text [] written a a' s s'
+-- output
+abbrev pub Ends : Status → Meaning → Run → Type 0
+Ends status.Ok m run = IsMeaning m status.Ok run
+Ends status.Diagnostic m run = IsMeaning m status.Diagnostic run
+Ends status.Usage m run = IsMeaning m status.Usage run
+Ends status.FolderFault m run = IsCutOff m [] run
+Ends status.SinkFault m run = (n : ℕ) × IsCutOff m (take n m.output) run
+Ends status.NoMemory m run = IsCutOff m [] run
+Ends status.ToolFault m run = IsCutOff m [] run
 
--- what stays of the folder, whatever the answer. Each path that the command doesn't write is as it was. A store that
--- is good for some known interfaces stays good, with the command's own known as well, while no two differing ones of
--- these share a hash; and then a command that isn't cut off leaves the files that the plain build gives
-pub record Stays (by : Definitions) (m : Meaning) (whole : Type 0) (old new : Option Files) : Type 0 where
-  pub frame : Keeps old new m.paths
-  pub good : KeepsGood by m.interfaces old new
-  pub plain : whole → (known : List (List ℕ)) → HashesApart (known ++ m.interfaces) → StoreIsGood by known old
-      → new ≡ Some m.plain
+-- ---- from a good store
+
+-- for every list of known interfaces for which the store at entry is good, where no two differing texts of these and of
+-- the command's own share a hash
+abbrev pub FromGood : Definitions → Files → Meaning → (List (List ℕ) → Type 0) → Type 0
+FromGood by files m P = (known : List (List ℕ)) → HashesApart (known ++ m.interfaces) → IsGoodStore by known files → P known
+
+-- what is promised of a command's end
+pub record IsAsPromised (by : Definitions) (files : Files) (m : Meaning) (end : Status) (run : Run) : Type 0 where
+  -- It ends as it means; after a fault a front of that is printed and asked for.
+  pub ends : FromGood by files m (λ known. Ends end m run)
+
+-- what is promised of the folder, whatever the answer, and whatever the output tells
+pub record Stays (by : Definitions) (files : Files) (m : Meaning) (holds : Option Files) : Type 0 where
+  -- Each path that the command doesn't write is as it was.
+  pub frame : FromGood by files m (λ known. Keeps (Some files) holds m.paths)
+  -- The store is good for what was known and for the command's own interfaces, so the next command starts well.
+  pub good : FromGood by files m (λ known. StoreIsGood by (known ++ m.interfaces) holds)
+
+-- ---- completeness
+
+-- the meaning's status, or want of memory, which no clause ties to a cause
+abbrev pub IsComplete : Status → Meaning → Type 0
+IsComplete end m = (end ≡ m.status) ⊎ (end ≡ status.NoMemory)
+
+-- from a good store a command whose folder and output met no failure ends as it means, or wants memory
+abbrev pub Completes : Definitions → Files → Meaning → Status → Type 0 → Type 0 → Type 0
+Completes by files m end folder_failed sink_failed =
+    (folder_failed → ⊥) → (sink_failed → ⊥) → FromGood by files m (λ known. IsComplete end m)

@@ -5,4 +5,3 @@ pub mod Lines
 pub mod Meaning
 pub mod ProjectBuild
 pub mod Short
-pub mod Words

@@ -1,10 +1,12 @@
 -- The lines that a command prints.
-use Rattle.std.specs.Prelude.{ℕ, List, [], ◌∷◌, ◌++◌, Option, Some, None, codes, length}
+use Rattle.std.specs.Prelude.{ℕ, Bool, true, false, List, [], ◌∷◌, ◌++◌, Option, Some, None, codes, length, count_by}
 use Rattle.std.specs.List.{flat_map}
 use Rattle.std.specs.Fmt.{decimal}
 use Rattle.cm_base.specs.declared.diag.Diag.{Diag}
 use Rattle.cm_base.specs.declared.diag.Place.{Place}
 use Rattle.cm_base.specs.declared.record.BuiltUnit.{BuiltUnit}
+use Rattle.cm_base.specs.declared.record.How.{How}
+use Rattle.cm_base.specs.declared.record.How.TheVariants as how
 
 -- `error: usage`
 unfoldable pub usage_line : List ℕ
@@ -23,20 +25,43 @@ unfoldable pub diag_line : Diag → List ℕ
 diag_line diag =
     place_text diag.at ++ (codes ": error " ++ (decimal diag.number ++ (flat_map spaced diag.names ++ (10 ∷ []))))
 
--- a unit that was compiled
-unfoldable pub compiling_line : BuiltUnit → List ℕ
-compiling_line unit = codes "[compiling " ++ (unit.unit ++ (93 ∷ 10 ∷ []))
+-- how a unit that is done came
+abbrev pub how_word : How → List ℕ
+how_word how.Compiled = codes "[compiling "
+how_word how.Loaded = codes "[loading "
+how_word how.Frozen = codes "[frozen "
 
--- how a build ended that had no diagnostic, of so many units, each compiled
-unfoldable pub built_line : ℕ → List ℕ
-built_line count =
-    codes "[built: " ++ (decimal count ++ (codes " units, " ++ (decimal count
-    ++ (codes " compiled, 0 loaded, 0 frozen]" ++ (10 ∷ [])))))
+-- the line of a unit that is done
+unfoldable pub unit_line : BuiltUnit → List ℕ
+unit_line unit = how_word unit.how ++ (unit.unit ++ (93 ∷ 10 ∷ []))
+
+-- whether a unit came in one of these ways
+abbrev pub same_how : How → How → Bool
+same_how how.Compiled how.Compiled = true
+same_how how.Compiled how.Loaded = false
+same_how how.Compiled how.Frozen = false
+same_how how.Loaded how.Compiled = false
+same_how how.Loaded how.Loaded = true
+same_how how.Loaded how.Frozen = false
+same_how how.Frozen how.Compiled = false
+same_how how.Frozen how.Loaded = false
+same_how how.Frozen how.Frozen = true
+
+-- how many units came so
+abbrev pub count_of : How → List BuiltUnit → ℕ
+count_of how units = count_by (λ unit. same_how unit.how how) units
+
+-- how a build ended that had no diagnostic: how many units it has, and how many of them came in each way
+unfoldable pub built_line : List BuiltUnit → List ℕ
+built_line units =
+    codes "[built: " ++ (decimal (length units) ++ (codes " units, " ++ (decimal (count_of how.Compiled units)
+    ++ (codes " compiled, " ++ (decimal (count_of how.Loaded units) ++ (codes " loaded, "
+    ++ (decimal (count_of how.Frozen units) ++ (codes " frozen]" ++ (10 ∷ [])))))))))
 
 -- the report of a build: a line for each unit that is done, and the line that ends it
-abbrev pub last_line : ℕ → Option Diag → List ℕ
-last_line count None = built_line count
-last_line count (Some diag) = diag_line diag
+abbrev pub last_line : List BuiltUnit → Option Diag → List ℕ
+last_line units None = built_line units
+last_line units (Some diag) = diag_line diag
 
 abbrev pub report : List BuiltUnit → Option Diag → List ℕ
-report units ended = flat_map compiling_line units ++ last_line (length units) ended
+report units ended = flat_map unit_line units ++ last_line units ended

@@ -1,28 +1,27 @@
--- What a command means: the status, the output, the files afterwards, what the compiler is asked for, the interfaces
--- of the units that it builds, the paths that it writes, and the files afterwards as the plain build gives them.
-use Rattle.std.specs.Prelude.{ℕ, nat_lt, List, [], ◌∷◌, ◌++◌, Option, Some, None, Result, Ok, Err, length, if◌then◌else◌}
+-- What a command means: the status, the output, the files afterwards, what the compiler is asked for, the interfaces of
+-- the units that it builds, and the paths that it writes.
+use Rattle.std.specs.Prelude.{ℕ, nat_lt, List, [], ◌∷◌, ◌++◌, map, Option, Some, None, length, if◌then◌else◌}
+use Rattle.std.specs.List.{flat_map}
 use Rattle.std.specs.FinMap.{insert}
+use Rattle.cm_base.specs.Definitions.{Definitions}
 use Rattle.cm_base.specs.Files.{Files}
 use Rattle.cm_base.specs.Diags.{whole_file}
 use Rattle.cm_base.specs.declared.diag.Diag.{Diag}
 use Rattle.cm_base.specs.declared.record.BuiltUnit.{BuiltUnit}
-use Rattle.cm_description.specs.declared.project.Project.{Project}
-use Rattle.cm_base.specs.Definitions.{Definitions}
+use Rattle.cm_base.specs.declared.record.How.{How}
+use Rattle.cm_base.specs.declared.record.How.TheVariants as how
 use Rattle.bin_store.specs.Paths.{linked_path}
 use Rattle.linker.specs.Linked.{linked_program}
-use Rattle.cm_base.specs.declared.record.PlannedUnit.{PlannedUnit}
-use Rattle.plain_builder.specs.PlainBuild.{Build}
-use Rattle.plain_builder.specs.Kept.{interfaces_of, paths_of}
-use Rattle.plain_builder.specs.Stored.{put_units, with_units}
-use Rattle.group_loader.specs.Loading.{project_of}
+use Rattle.build_laws.specs.CutBuild.{Cut}
+use Rattle.build_laws.specs.Storing.{unit_paths}
+use Rattle.command_words.specs.Words.{command_of}
+use Rattle.command_words.specs.declared.command.Command.{Command}
+use Rattle.command_words.specs.declared.command.Command.TheVariants as command
+use Rattle.cm_top.specs.declared.limits.TheConstants.{LINKED}
 use Rattle.cm_top.specs.declared.status.Status.{Status}
 use Rattle.cm_top.specs.declared.status.Status.TheVariants as status
-use Rattle.cm_top.specs.declared.words.Command.{Command}
-use Rattle.cm_top.specs.declared.words.Command.TheVariants.{Build as build_command}
-use Rattle.cm_top.specs.declared.limits.TheConstants.{LINKED}
 use Rattle.cm_top.specs.Lines.{usage_line, report}
-use Rattle.cm_top.specs.ProjectBuild.{ProjectBuild, ended_at, plain_build_of}
-use Rattle.cm_top.specs.Words.{command_of}
+use Rattle.cm_top.specs.ProjectBuild.{Prepared, Builder, prepared, built, plain_over, store_over}
 
 pub record Meaning : Type 0 where
   pub status : Status
@@ -32,7 +31,6 @@ pub record Meaning : Type 0 where
   pub asked_skeletons : List (List ℕ)
   pub interfaces : List (List ℕ)
   pub paths : List (List ℕ)
-  pub plain : Files
 
 -- words that mean nothing
 abbrev pub usage : Files → Meaning
@@ -44,8 +42,9 @@ usage files = record {
   asked_skeletons = [];
   interfaces = [];
   paths = [];
-  plain = files;
 }
+
+-- ---- linking
 
 -- a linked program that passes its limit is 12 at its file
 unfoldable pub link_fault : List BuiltUnit → Option Diag
@@ -55,10 +54,6 @@ link_fault units = if nat_lt LINKED (length (linked_program units)) then Some (w
 abbrev pub ended_with : Option Diag → List BuiltUnit → Option Diag
 ended_with (Some diag) units = Some diag
 ended_with None units = link_fault units
-
-abbrev pub status_of : Option Diag → Status
-status_of None = status.Ok
-status_of (Some diag) = status.Diagnostic
 
 -- the linked program is written where no diagnostic comes
 abbrev pub with_linked : Option Diag → List BuiltUnit → Files → Files
@@ -70,44 +65,64 @@ abbrev pub linked_paths : Option Diag → List (List ℕ)
 linked_paths None = linked_path ∷ []
 linked_paths (Some diag) = []
 
--- a build whose units are stored: the files with them, and those that the plain build gives
-abbrev pub of_end : Option Diag → List BuiltUnit → List (List ℕ) → List (List ℕ) → Files → Files → Meaning
-of_end ended units asked skeletons files plain = record {
-  status = status_of ended;
-  output = report units ended;
-  files = with_linked ended units files;
-  asked = asked;
+-- ---- builds
+
+abbrev pub status_of : Option Diag → Status
+status_of None = status.Ok
+status_of (Some diag) = status.Diagnostic
+
+-- the interfaces of the units of a build
+abbrev pub interfaces_in : List BuiltUnit → List (List ℕ)
+interfaces_in units = map (λ unit. unit.interface) units
+
+-- the paths that are written for a unit that came so: its interface's and its binfile's where it was compiled, and none
+-- where it stood there already
+abbrev pub paths_by : How → BuiltUnit → List (List ℕ)
+paths_by how.Compiled unit = unit_paths unit
+paths_by how.Loaded unit = []
+paths_by how.Frozen unit = []
+
+-- .. for the units of a build
+abbrev pub paths_in : List BuiltUnit → List (List ℕ)
+paths_in units = flat_map (λ unit. paths_by unit.how unit) units
+
+-- how a build ends, its linking included
+abbrev pub ended_in : Cut → Option Diag
+ended_in cut = ended_with cut.ended cut.units
+
+-- the paths that a build writes, its linking included
+abbrev pub written_paths : Cut → List (List ℕ)
+written_paths cut = paths_in cut.units ++ linked_paths (ended_in cut)
+
+-- a build, after so many skeletons were asked for
+abbrev pub of_cut : List (List ℕ) → Cut → Meaning
+of_cut skeletons cut = record {
+  status = status_of (ended_in cut);
+  output = report cut.units (ended_in cut);
+  files = with_linked (ended_in cut) cut.units cut.files;
+  asked = cut.asked;
   asked_skeletons = skeletons;
-  interfaces = interfaces_of units;
-  paths = paths_of units ++ linked_paths ended;
-  plain = with_linked ended units plain;
+  interfaces = interfaces_in cut.units;
+  paths = written_paths cut;
 }
 
--- the units are built in their order: of each that is done the interface, where none stands whole under its hash,
--- and the binfile are written. The plain build knows of no store: there each interface is written
-abbrev pub of_build : List (List ℕ) → Files → List PlannedUnit → Build → Meaning
-of_build skeletons files planned build =
-    of_end (ended_with build.ended build.units) build.units build.asked skeletons (put_units files planned build.units)
-    (with_units files planned build.units)
+-- a build of what is prepared
+abbrev pub of_build : Builder → Files → Prepared → Meaning
+of_build over files ready = of_cut ready.asked_skeletons (built over files ready.units)
 
--- .. as the plain build of a project
-abbrev pub of_plain : Files → ProjectBuild → Meaning
-of_plain files done = of_build done.asked_skeletons files done.planned done.build
+-- ---- commands
 
--- a diagnostic before the first unit is built
-abbrev pub refused : Diag → List (List ℕ) → Files → Meaning
-refused diag skeletons files = of_plain files (ended_at diag skeletons)
+abbrev pub of_command : Builder → Definitions → Files → Option Command → Meaning
+of_command over by files None = usage files
+of_command over by files (Some (command.Build defs root)) = of_build over files (prepared by files defs root)
 
--- the project, or the first diagnostic of its loading
-abbrev pub of_project : Definitions → List ℕ → Files → Result Project Diag → Meaning
-of_project by root files (Err diag) = refused diag [] files
-of_project by root files (Ok project) = of_plain files (plain_build_of by root project)
-
--- a command
-abbrev pub of_command : Definitions → Files → Option Command → Meaning
-of_command by files None = usage files
-of_command by files (Some (build_command defs root)) = of_project by root files (project_of files root)
-
--- what some words mean in a folder
+-- What the words mean in a folder, with a compiler of these two definitions. The files at entry say which units are
+-- stale, and so which of them are compiled; what the build gives and leaves is the plain build's, which knows no
+-- store.
 abbrev pub meaning_of : Definitions → List (List ℕ) → Files → Meaning
-meaning_of by words files = of_command by files (command_of words)
+meaning_of by words files = of_command (plain_over by) by files (command_of words)
+
+-- .. and what they do over a store as it stands, whoever wrote it. Over a good store, where no two differing interfaces
+-- share a hash, it is what they mean.
+abbrev pub doing_of : Definitions → List (List ℕ) → Files → Meaning
+doing_of by words files = of_command (store_over by) by files (command_of words)

@@ -7,11 +7,8 @@ mod linking;
 mod printing;
 mod run;
 mod status;
-mod toolbox;
-mod words;
 mod work;
 
-pub use run::run_cm;
+pub use command_words::{Command, read_words};
+pub use run::{run_cm, run_sure};
 pub use status::Status;
-pub use toolbox::Toolbox;
-pub use words::{Command, read_words};

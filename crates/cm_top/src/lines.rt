@@ -3,9 +3,9 @@
 ghost use Rattle.std.specs.Prelude.{◌≡◌, ◌++◌, OnOk, IfOk, length};
 ghost use Rattle.std.specs.List.{flat_map};
 ghost use Rattle.std.specs.Fmt.{decimal};
-ghost use Rattle.cm_top.specs.Lines.{usage_line, spaced, place_text, diag_line, compiling_line, built_line, last_line, report};
+ghost use Rattle.cm_top.specs.Lines.{usage_line, spaced, place_text, diag_line, how_word, unit_line, same_how, count_of, built_line, last_line, report};
 
-use cm_base::{BuiltUnit, Diag, NoMemory, Place, Text};
+use cm_base::{BuiltUnit, Diag, How, NoMemory, Place, Text};
 use std::alloc::Global;
 
 /// Adds bytes at the end.
@@ -75,37 +75,78 @@ pub fn add_diag(alloc: Global, out: &mut Vec<u8>, diag: &Diag) -> Result<(), NoM
     Ok(())
 }
 
-/// Adds the line of a unit that was compiled.
-#[tactic(auto, unfolding(crate::specs::Lines::compiling_line))]
-fn add_compiling(out: &mut Vec<u8>, unit: &BuiltUnit) -> Result<(), NoMemory>
-    ensures { OnOk result (out.new.items ≡ out.old.items ++ compiling_line unit.now) }
+/// What the line of a unit begins with that came so.
+fn how_word(how: How) -> &'static [u8]
+    ensures { result.now ≡ how_word how }
 {
-    add(out, b"[compiling ")?;
+    match how {
+        How::Compiled => b"[compiling ",
+        How::Loaded => b"[loading ",
+        How::Frozen => b"[frozen ",
+    }
+}
+
+/// Adds the line of a unit that is done.
+#[tactic(auto, unfolding(crate::specs::Lines::unit_line))]
+fn add_unit(out: &mut Vec<u8>, unit: &BuiltUnit) -> Result<(), NoMemory>
+    ensures { OnOk result (out.new.items ≡ out.old.items ++ unit_line unit.now) }
+{
+    add(out, how_word(unit.how))?;
     add_text(out, &unit.unit)?;
     add(out, b"]\n")?;
     Ok(())
 }
 
-/// Adds a line for each unit that was compiled.
+/// Adds a line for each unit that is done.
 pub fn add_units(out: &mut Vec<u8>, units: &[BuiltUnit]) -> Result<(), NoMemory>
-    ensures { OnOk result (out.new.items ≡ out.old.items ++ flat_map compiling_line units.now) }
+    ensures { OnOk result (out.new.items ≡ out.old.items ++ flat_map unit_line units.now) }
 {
     for unit in units {
-        add_compiling(out, unit)?;
+        add_unit(out, unit)?;
     }
+    Ok(())
+}
+
+/// Whether a unit came so.
+fn same_how(a: How, b: How) -> bool
+    ensures { result ≡ same_how a b }
+{
+    a == b
+}
+
+/// How many units came so.
+fn count_of(how: How, units: &[BuiltUnit]) -> usize
+    ensures { result ≡ count_of how units.now }
+{
+    units.iter().filter(|unit| same_how(unit.how, how)).count()
+}
+
+/// Adds how many units came so, and a word behind it.
+fn add_count(
+    alloc: Global,
+    out: &mut Vec<u8>,
+    how: How,
+    units: &[BuiltUnit],
+    word: &[u8],
+) -> Result<(), NoMemory>
+    ensures { OnOk result (out.new.items ≡ out.old.items ++ (decimal (count_of how units.now) ++ word.now)) }
+{
+    add_number(alloc, out, count_of(how, units) as u64)?;
+    add(out, word)?;
     Ok(())
 }
 
 /// Adds the line that ends a build without a diagnostic.
 #[tactic(auto, unfolding(crate::specs::Lines::built_line))]
-pub fn add_built(alloc: Global, out: &mut Vec<u8>, count: u64) -> Result<(), NoMemory>
-    ensures { OnOk result (out.new.items ≡ out.old.items ++ built_line count) }
+pub fn add_built(alloc: Global, out: &mut Vec<u8>, units: &[BuiltUnit]) -> Result<(), NoMemory>
+    ensures { OnOk result (out.new.items ≡ out.old.items ++ built_line units.now) }
 {
     add(out, b"[built: ")?;
-    add_number(alloc, out, count)?;
+    add_number(alloc, out, units.len() as u64)?;
     add(out, b" units, ")?;
-    add_number(alloc, out, count)?;
-    add(out, b" compiled, 0 loaded, 0 frozen]\n")?;
+    add_count(alloc, out, How::Compiled, units, b" compiled, ")?;
+    add_count(alloc, out, How::Loaded, units, b" loaded, ")?;
+    add_count(alloc, out, How::Frozen, units, b" frozen]\n")?;
     Ok(())
 }
 
@@ -130,13 +171,13 @@ pub fn diag_text(alloc: Global, diag: &Diag) -> Result<Vec<u8>, NoMemory>
 fn add_last(
     alloc: Global,
     out: &mut Vec<u8>,
-    count: u64,
+    units: &[BuiltUnit],
     ended: &Option<Diag>,
 ) -> Result<(), NoMemory>
-    ensures { OnOk result (out.new.items ≡ out.old.items ++ last_line count ended.now) }
+    ensures { OnOk result (out.new.items ≡ out.old.items ++ last_line units.now ended.now) }
 {
     match ended {
-        None => add_built(alloc, out, count)?,
+        None => add_built(alloc, out, units)?,
         Some(diag) => add_diag(alloc, out, diag)?,
     }
     Ok(())
@@ -152,6 +193,6 @@ pub fn report_text(
 {
     let mut text = Vec::new(alloc);
     add_units(&mut text, units)?;
-    add_last(alloc, &mut text, units.len() as u64, ended)?;
+    add_last(alloc, &mut text, units, ended)?;
     Ok(text)
 }

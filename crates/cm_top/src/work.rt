@@ -1,32 +1,27 @@
 //! The work of a command, up to its report.
 
-ghost use Rattle.std.specs.Prelude.{◌≡◌, ◌<◌, ◌^◌, [], Err, IfOk, None, length};
+ghost use Rattle.std.specs.Prelude.{◌≡◌, Err, IfOk, None, length};
 ghost use Rattle.cm_base.specs.Causes.{HasCause};
-ghost use Rattle.cm_base.specs.Diags.{whole_file};
 ghost use Rattle.cm_base.specs.Files.{Told};
-ghost use Rattle.plain_builder.specs.Kept.{HaveSkeletons};
-ghost use Rattle.plain_builder.specs.PlainBuild.{plain_build};
-ghost use Rattle.group_loader.specs.Loading.{project_of};
-ghost use Rattle.skeleton_asking.specs.Skeletons.{skeletons_of};
-ghost use Rattle.unit_order.specs.Planning.{plan_of};
-ghost use Rattle.cm_top.specs.Answers.{IsReported, IsWorkDone, Works, EndsSo, AsksSkeletons, TouchesLinked};
-ghost use Rattle.cm_top.specs.Headline.{Stays};
+ghost use Rattle.build_laws.specs.Planned.{HaveSkeletons, NamesDiffer};
+ghost use Rattle.cm_description.specs.WellFormed.{IsWellFormed};
+ghost use Rattle.project_planning.specs.Buildable.{AreProvided, planned_units};
+ghost use Rattle.project_planning.specs.Planning.{plan_of};
+ghost use Rattle.cm_top.specs.Answers.{IsReported, Does, EndsSo, AsksFor, TouchesLinked};
 ghost use Rattle.cm_top.specs.Lines.{diag_line};
-ghost use Rattle.cm_top.specs.Meaning.{of_end, of_build, of_plain, of_project, ended_with, status_of};
-ghost use Rattle.cm_top.specs.ProjectBuild.{build_in_order, plain_build_of};
+ghost use Rattle.cm_top.specs.Meaning.{ended_with, status_of};
+ghost use Rattle.cm_top.specs.ProjectBuild.{ending, of_planning, prepared};
 
 use crate::lines::{diag_text, report_text};
 use crate::linking::end;
 use crate::status::Status;
-use cm_base::{
-    Built, Compiler, Diag, Fault, Folder, FolderFault, List, NoMemory, PlannedUnit, Skeleton, Text,
-};
+use cm_base::{Built, Compiler, Def, Diag, Fault, Folder, FolderFault, List, NoMemory, Text};
 use cm_description::Project;
+use cutoff_builder::{BuildFault, build};
 use group_loader::{LoadFault, load};
-use plain_builder::{BuildFault, build};
-use skeleton_asking::ask_skeletons;
+use member_tools::Toolbox;
+use project_planning::{Plan, make_plan};
 use std::alloc::Global;
-use unit_order::plan;
 
 /// What a command prints, and the status that it ends with.
 #[derive(Debug, Drop)]
@@ -99,8 +94,8 @@ fn finish<F: Folder>(
 ) -> Result<Report, WorkFault>
     ensures cause { HasCause (F.faults folder.old) (F.faults folder.new) (result ≡ Err WorkFault.Folder) }
     ensures plain { IfOk result (λ report. IsReported report.status) }
-    ensures ends { Told (F.holds folder.old) (λ files. EndsSo result
-        (of_end (ended_with ended built.now.units) built.now.units [] [] files files) (F.holds folder.new)) }
+    ensures ends { Told (F.holds folder.old) (λ files. EndsSo result (ending built.now.units ended files)
+        (F.holds folder.new)) }
     ensures touches { TouchesLinked (ended_with ended built.now.units) (F.holds folder.old) (F.holds folder.new) }
 {
     let ended = end(alloc, folder, built, ended)?;
@@ -111,25 +106,36 @@ fn finish<F: Folder>(
     })
 }
 
-/// Builds the units in their order, links them and reports.
-fn build_units<F: Folder, C: Compiler>(
+/// Builds the units of a plan in their order, links them and reports.
+fn build_plan<F: Folder, C: Compiler>(
     alloc: Global,
     folder: &mut F,
     compiler: &mut C,
-    planned: &[PlannedUnit],
+    project: &Project,
+    plan: &Plan,
 ) -> Result<Report, WorkFault>
-    requires { HaveSkeletons C.defines.skel planned.now }
+    requires order { length plan.now.order ≡ length project.now.units }
+    requires skeletons { length plan.now.skeletons ≡ length project.now.units }
+    requires wanted { length plan.now.wanted ≡ length project.now.units }
+    requires providers { AreProvided project.now plan.now.wanted }
+    requires apart { NamesDiffer (planned_units project.now plan.now) }
+    requires lawful { HaveSkeletons C.defines.skel (planned_units project.now plan.now) }
     ensures cause { HasCause (F.faults folder.old) (F.faults folder.new) (result ≡ Err WorkFault.Folder) }
     ensures plain { IfOk result (λ report. IsReported report.status) }
-    ensures works { Told (F.holds folder.old) (λ files. Works result
-        (of_build [] files planned.now (plain_build C.defines.compiled planned.now))
-        (F.holds folder.new) (C.asked compiler.old) (C.asked compiler.new)) }
-    ensures stays { Told (F.holds folder.old) (λ files. Stays C.defines
-        (of_build [] files planned.now (plain_build C.defines.compiled planned.now)) (IsWorkDone result)
-        (F.holds folder.old) (F.holds folder.new)) }
+    ensures does { Told (F.holds folder.old) (λ files. Does C.defines files
+        (Ok (planned_units project.now plan.now)) result (F.holds folder.new)
+        (C.asked compiler.old) (C.asked compiler.new)) }
     ensures same { C.asked_skeletons compiler.new ≡ C.asked_skeletons compiler.old }
 {
-    match build(alloc, folder, compiler, planned) {
+    match build(
+        alloc,
+        folder,
+        compiler,
+        project,
+        &plan.skeletons,
+        &plan.wanted,
+        &plan.order,
+    ) {
         Ok(built) => finish(alloc, folder, &built, None),
         Err(BuildFault::Stop { diag, done }) => finish(alloc, folder, &done, Some(diag)),
         Err(BuildFault::Folder) => Err(WorkFault::Folder),
@@ -137,85 +143,50 @@ fn build_units<F: Folder, C: Compiler>(
     }
 }
 
-/// Puts the units into their order and builds them, or refuses the description where the rule on names is broken.
-fn plan_units<F: Folder, C: Compiler>(
-    alloc: Global,
-    root: &Text,
-    folder: &mut F,
-    compiler: &mut C,
-    project: &Project,
-    skeletons: &List<Skeleton>,
-) -> Result<Report, WorkFault>
-    requires found { (skeletons_of C.defines.skel project.now.units).found ≡ skeletons.now }
-    requires ended { (skeletons_of C.defines.skel project.now.units).ended ≡ None }
-    requires each { length skeletons.now ≡ length project.now.units }
-    ensures cause { HasCause (F.faults folder.old) (F.faults folder.new) (result ≡ Err WorkFault.Folder) }
-    ensures plain { IfOk result (λ report. IsReported report.status) }
-    ensures works { Told (F.holds folder.old) (λ files. Works result
-        (of_plain files (build_in_order C.defines root.now [] (plan_of project.now.units skeletons.now)))
-        (F.holds folder.new) (C.asked compiler.old) (C.asked compiler.new)) }
-    ensures stays { Told (F.holds folder.old) (λ files. Stays C.defines
-        (of_plain files (build_in_order C.defines root.now [] (plan_of project.now.units skeletons.now)))
-        (IsWorkDone result) (F.holds folder.old) (F.holds folder.new)) }
-    ensures same { C.asked_skeletons compiler.new ≡ C.asked_skeletons compiler.old }
-{
-    if project.units.len() >= 1 << 32 {
-        return Err(WorkFault::NoMemory);
-    }
-    match plan(alloc, &project.units, skeletons)? {
-        Some(planned) => build_units(alloc, folder, compiler, planned.as_slice()),
-        None => Ok(refused(alloc, &Diag::on_file(alloc, 60, root)?)?),
-    }
-}
-
-/// Asks for the skeletons, plans the units and builds them.
+/// Plans a project and builds it, up to the report.
 fn build_project<F: Folder, C: Compiler>(
     alloc: Global,
-    root: &Text,
+    defs: &List<Def>,
     folder: &mut F,
     compiler: &mut C,
     project: &Project,
 ) -> Result<Report, WorkFault>
+    requires { IsWellFormed project.now }
     ensures cause { HasCause (F.faults folder.old) (F.faults folder.new) (result ≡ Err WorkFault.Folder) }
     ensures plain { IfOk result (λ report. IsReported report.status) }
-    ensures works { Told (F.holds folder.old) (λ files. Works result
-        (of_plain files (plain_build_of C.defines root.now project.now))
-        (F.holds folder.new) (C.asked compiler.old) (C.asked compiler.new)) }
-    ensures stays { Told (F.holds folder.old) (λ files. Stays C.defines
-        (of_plain files (plain_build_of C.defines root.now project.now))
-        (IsWorkDone result) (F.holds folder.old) (F.holds folder.new)) }
-    ensures skeletons { AsksSkeletons result (skeletons_of C.defines.skel project.now.units).asked
+    ensures does { Told (F.holds folder.old) (λ files. Does C.defines files
+        (of_planning project.now (plan_of C.defines.skel project.now defs.now)).units result (F.holds folder.new)
+        (C.asked compiler.old) (C.asked compiler.new)) }
+    ensures skeletons { AsksFor result (plan_of C.defines.skel project.now defs.now).asked
         (C.asked_skeletons compiler.old) (C.asked_skeletons compiler.new) }
 {
-    match ask_skeletons(alloc, compiler, project.units.as_slice()) {
-        Ok(skeletons) => plan_units(alloc, root, folder, compiler, project, &skeletons),
+    match make_plan(alloc, compiler, project, defs) {
+        Ok(plan) => build_plan(alloc, folder, compiler, project, &plan),
         Err(Fault::Diag(diag)) => Ok(refused(alloc, &diag)?),
         Err(Fault::NoMemory) => Err(WorkFault::NoMemory),
     }
 }
 
-/// Loads the project of ROOT and builds it, up to the report.
+/// Loads the project of ROOT under definitions and builds it, up to the report.
 pub fn work<F: Folder, C: Compiler>(
     alloc: Global,
+    defs: &List<Def>,
     root: &Text,
     folder: &mut F,
     compiler: &mut C,
+    tools: &mut Toolbox,
 ) -> Result<Report, WorkFault>
-    requires { length root.now < 2 ^ 32 }
     ensures cause { HasCause (F.faults folder.old) (F.faults folder.new) (result ≡ Err WorkFault.Folder) }
     ensures plain { IfOk result (λ report. IsReported report.status) }
-    ensures works { Told (F.holds folder.old) (λ files. Works result
-        (of_project C.defines root.now files (project_of files root.now))
-        (F.holds folder.new) (C.asked compiler.old) (C.asked compiler.new)) }
-    ensures stays { Told (F.holds folder.old) (λ files. Stays C.defines
-        (of_project C.defines root.now files (project_of files root.now))
-        (IsWorkDone result) (F.holds folder.old) (F.holds folder.new)) }
-    ensures skeletons { Told (F.holds folder.old) (λ files. AsksSkeletons result
-        (of_project C.defines root.now files (project_of files root.now)).asked_skeletons
+    ensures does { Told (F.holds folder.old) (λ files. Does C.defines files
+        (prepared C.defines files defs.now root.now).units result (F.holds folder.new)
+        (C.asked compiler.old) (C.asked compiler.new)) }
+    ensures skeletons { Told (F.holds folder.old) (λ files. AsksFor result
+        (prepared C.defines files defs.now root.now).asked_skeletons
         (C.asked_skeletons compiler.old) (C.asked_skeletons compiler.new)) }
 {
-    match load(alloc, folder, root) {
-        Ok(project) => build_project(alloc, root, folder, compiler, &project),
+    match load(alloc, folder, tools, defs, root, false) {
+        Ok(project) => build_project(alloc, defs, folder, compiler, &project),
         Err(LoadFault::Diag(diag)) => Ok(refused(alloc, &diag)?),
         Err(LoadFault::Folder) => Err(WorkFault::Folder),
         Err(LoadFault::NoMemory) => Err(WorkFault::NoMemory),

@@ -1,31 +1,66 @@
 //! Cases `ask`: the skeletons that a compiler of letters is asked for, of units that are lines `NAME SOURCE`. The first
-//! byte of a source is the structure that it defines, and one that begins with `!` is refused.
+//! byte of a source is the structure that it defines, and one that begins with `!` is refused. A line `NAME` is a unit of a
+//! frozen library.
 
-use crate::planning::unit_of;
 use case_files::{Part, push_parts};
 use case_scenes::Letters;
 use case_texts::{push_diag, words_of};
-use cm_base::{Fault, List, NoMemory, Skeleton, Text};
-use cm_description::Unit;
+use cm_base::{Fault, List, NoMemory, Options, Skeleton, Text};
+use cm_description::{Project, Unit, UnitBody};
 use skeleton_asking::ask_skeletons;
 use std::alloc::Global;
 
-/// Adds the unit of a line.
-fn add_unit(alloc: Global, units: &mut Vec<Unit>, text: &[u8]) -> Result<(), NoMemory> {
-    let words = words_of(alloc, text)?;
-    if let [name, source] = words.as_slice() {
-        units.push(unit_of(alloc, name, source.as_bytes())?)?;
-    }
-    Ok(())
+/// A source.
+fn source_body(source: &Text) -> Result<UnitBody, NoMemory> {
+    Ok(UnitBody::Source {
+        options: Options {
+            nobasis: false,
+            opaque: false,
+        },
+        source: source.copy()?,
+    })
 }
 
-/// The units of a text, a line each.
-fn units_of(alloc: Global, text: &[u8]) -> Result<Vec<Unit>, NoMemory> {
-    let mut units = Vec::new(alloc);
-    for unit in text.split(|byte| *byte == b'\n') {
-        add_unit(alloc, &mut units, unit)?;
+/// What is known of a unit of a frozen library of which nothing is recorded.
+fn frozen_body(alloc: Global) -> Result<UnitBody, NoMemory> {
+    Ok(UnitBody::Frozen {
+        imports: List::new(alloc),
+        interface: Text::from_bytes(alloc, b"")?,
+        code: Text::from_bytes(alloc, b"")?,
+    })
+}
+
+/// Adds a unit of this name.
+fn add_unit(units: &mut List<Unit>, name: &Text, body: UnitBody) -> Result<(), NoMemory> {
+    let name = name.copy()?;
+    units.add(Unit {
+        name,
+        group: 0,
+        body,
+    })
+}
+
+/// Adds the unit of a line.
+fn add_line(alloc: Global, units: &mut List<Unit>, text: &[u8]) -> Result<(), NoMemory> {
+    let words = words_of(alloc, text)?;
+    match words.as_slice() {
+        [name, source] => add_unit(units, name, source_body(source)?),
+        [name] => add_unit(units, name, frozen_body(alloc)?),
+        _ => Ok(()),
     }
-    Ok(units)
+}
+
+/// The project of the units of a text, a line each. Its groups don't matter here.
+fn project_of(alloc: Global, text: &[u8]) -> Result<Project, NoMemory> {
+    let mut units = List::new(alloc);
+    for unit in text.split(|byte| *byte == b'\n') {
+        add_line(alloc, &mut units, unit)?;
+    }
+    Ok(Project {
+        units,
+        groups: List::new(alloc),
+        finished: List::new(alloc),
+    })
 }
 
 /// Adds a line of units.
@@ -63,9 +98,9 @@ fn push_end(
 
 /// How many skeletons were answered, or the refusal; and the units that were asked for theirs, and for more.
 pub fn asked(alloc: Global, text: &Text) -> Result<Vec<u8>, NoMemory> {
-    let units = units_of(alloc, text.as_bytes())?;
+    let project = project_of(alloc, text.as_bytes())?;
     let mut compiler = Letters::new(alloc);
-    let end = ask_skeletons(alloc, &mut compiler, units.as_slice());
+    let end = ask_skeletons(alloc, &mut compiler, &project);
     let mut out = Vec::new(alloc);
     push_end(alloc, &mut out, &end)?;
     push_units(

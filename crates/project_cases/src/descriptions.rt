@@ -1,13 +1,10 @@
-//! Cases `description`, `printed`, `first-form` and `name-byte`: what a text is as a description.
+//! Cases `description` and `printed`: what a text is as a description.
 
 use case_files::{Part, push_all, push_parts};
 use case_texts::{line, push_line, refusal};
 use cm_base::{Fault, List, NoMemory, Place, Text};
 use cm_conditions::{Line, LineBody, space_word};
-use cm_description::{
-    Description, Entry, MemberEntry, is_name_byte, print_description, read_description, read_first,
-};
-use plain_words::PlacedWord;
+use cm_description::{Description, Entry, MemberEntry, print_description, read_description};
 use std::alloc::Global;
 
 /// Adds a place, which ends a line.
@@ -171,53 +168,4 @@ pub fn printed(alloc: Global, text: &Text) -> Result<Vec<u8>, NoMemory> {
         Ok(once) => printed_again(alloc, once),
         Err(fault) => refusal(alloc, &fault),
     }
-}
-
-/// Adds the line of a member: its place, and its name.
-fn push_word(alloc: Global, out: &mut Vec<u8>, word: &PlacedWord) -> Result<(), NoMemory> {
-    let parts = [
-        Part::Number(u64::from(word.line)),
-        Part::Text(b":"),
-        Part::Number(u64::from(word.col)),
-        Part::Text(b" "),
-        Part::Text(word.text.as_bytes()),
-        Part::Text(b"\n"),
-    ];
-    push_parts(alloc, out, &parts)
-}
-
-/// The lines of members.
-fn members_of(alloc: Global, members: &[PlacedWord]) -> Result<Vec<u8>, NoMemory> {
-    let mut out = Vec::new(alloc);
-    for member in members {
-        push_word(alloc, &mut out, member)?;
-    }
-    Ok(out)
-}
-
-/// The members of a description of the first form, or that it is of another form.
-pub fn first_form(alloc: Global, text: &Text) -> Result<Vec<u8>, NoMemory> {
-    if text.as_bytes().len() >= u32::MAX as usize {
-        return Err(NoMemory);
-    }
-    match read_first(alloc, text)? {
-        Some(members) => members_of(alloc, members.as_slice()),
-        None => line(alloc, b"another form"),
-    }
-}
-
-/// For each byte whether it stands in names of the first form.
-pub fn name_bytes(alloc: Global, text: &Text) -> Result<Vec<u8>, NoMemory> {
-    let mut out = Vec::new(alloc);
-    for byte in text.as_bytes() {
-        push_all(
-            &mut out,
-            if is_name_byte(*byte) {
-                b"yes\n"
-            } else {
-                b"no\n"
-            },
-        )?;
-    }
-    Ok(out)
 }

@@ -7,10 +7,6 @@ pub enum TextKind {
     Description,
     /// `printed`: a description as it is printed.
     Printed,
-    /// `first-form`: the members of a description of the first form.
-    FirstForm,
-    /// `name-byte`: whether bytes stand in names of the first form.
-    NameByte,
     /// `pathconfig`: whether a pathconfig is good.
     Pathconfig,
     /// `resolve`: the name of the file that a path in a description means.
@@ -21,24 +17,19 @@ pub enum TextKind {
     Order,
     /// `large-order`: the same for thousands of units, which are made by a rule.
     LargeOrder,
-    /// `plan`: the order in which units are built, with the providers of their names.
-    Plan,
     /// `ask`: the skeletons that are asked for.
     Ask,
 }
 
 /// The kinds with their names.
-const KINDS: [(&[u8], TextKind); 11] = [
+const KINDS: [(&[u8], TextKind); 8] = [
     (b"description", TextKind::Description),
     (b"printed", TextKind::Printed),
-    (b"first-form", TextKind::FirstForm),
-    (b"name-byte", TextKind::NameByte),
     (b"pathconfig", TextKind::Pathconfig),
     (b"resolve", TextKind::Resolve),
     (b"lie", TextKind::Lie),
     (b"order", TextKind::Order),
     (b"large-order", TextKind::LargeOrder),
-    (b"plan", TextKind::Plan),
     (b"ask", TextKind::Ask),
 ];
 

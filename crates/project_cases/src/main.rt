@@ -8,7 +8,6 @@ mod kind;
 mod large_orders;
 mod orders;
 mod paths;
-mod planning;
 mod texts;
 
 use case_files::{Case, CaseFault, Kinds, Report, Wrong, run_cases};

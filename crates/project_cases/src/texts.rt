@@ -1,7 +1,7 @@
 //! The kinds of cases of texts: what each calls, and the sections of its own.
 
 use crate::kind::TextKind;
-use crate::{asking, descriptions, large_orders, orders, paths, planning};
+use crate::{asking, descriptions, large_orders, orders, paths};
 use case_files::{Case, CaseFault, Report};
 use case_texts::{Answers, try_texts};
 use cm_base::{NoMemory, Text};
@@ -12,8 +12,6 @@ fn plain_answer(alloc: Global, kind: TextKind, text: &Text) -> Result<Vec<u8>, N
     match kind {
         TextKind::Description => descriptions::described(alloc, text),
         TextKind::Printed => descriptions::printed(alloc, text),
-        TextKind::FirstForm => descriptions::first_form(alloc, text),
-        TextKind::NameByte => descriptions::name_bytes(alloc, text),
         TextKind::Ask => asking::asked(alloc, text),
         _ => paths::read(alloc, text),
     }
@@ -26,7 +24,6 @@ impl Answers for TextKind {
             TextKind::Lie => paths::laid(alloc, case, text),
             TextKind::Order => orders::ordered(alloc, case, text),
             TextKind::LargeOrder => large_orders::ordered(alloc, case, text),
-            TextKind::Plan => planning::planned(alloc, case, text),
             kind => Ok(plain_answer(alloc, kind, text)?),
         }
     }

@@ -1,55 +1,113 @@
 use Rattle.std.proofs.Common.{refl}
-use Rattle.group_loader.specs.Loading.{project_of}
-use Rattle.cm_top.specs.Meaning.{of_project}
-use Rattle.cm_base.proofs.FrontLemmas.{grows_none}
+use Rattle.std.specs.Prelude.{Ok, Err}
 use Rattle.cm_base.specs.Definitions.{Definitions}
-use Rattle.cm_top.proofs.Staying.{stays_failed, stays_printed}
-use Rattle.cm_top.proofs.Ending.{after_print, after_cut}
+use Rattle.cm_top.specs.Headline.{run_of}
+use Rattle.cm_top.specs.ProjectBuild.{prepared, store_over}
+use Rattle.cm_top.specs.declared.work.WorkFault.TheVariants as fault
+use Rattle.cm_top.proofs.Ending.{cut_off, does_printed, promised_failed, promised_printed, promised_wanting, stays_built}
 use Rattle.cm_top.proofs.run.run_build.Goals as goal
 
-pub returns-then-as_bytes-clause-means : goal.returns-then-as_bytes-clause-means
-returns-then-as_bytes-clause-means g c = λ files is text before.
-    let m = of_project g.C.Compiler.defines c.args.root.now files (project_of files c.args.root.now) in
-    after_cut m text (g.S.Sink.written c.args.out.now) (g.S.Sink.written c.args.out.now) (g.F.Folder.holds c.args.folder.now)
-    (g.C.Compiler.asked c.args.compiler.now) (g.C.Compiler.asked c.args.compiler.now)
-    (g.C.Compiler.asked_skeletons c.args.compiler.now) (g.C.Compiler.asked_skeletons c.args.compiler.now)
-    refl before (grows_none (g.C.Compiler.asked c.args.compiler.now) (g.C.Compiler.asked c.args.compiler.now) m.asked refl)
-    (grows_none (g.C.Compiler.asked_skeletons c.args.compiler.now) (g.C.Compiler.asked_skeletons c.args.compiler.now)
-    m.asked_skeletons refl)
-
-pub returns-in-Ok-clause-means : goal.returns-in-Ok-clause-means
-returns-in-Ok-clause-means g c = λ files is text before.
-    let m = of_project g.C.Compiler.defines c.args.root.now files (project_of files c.args.root.now) in
-    let works = c.in-Ok.ensures.works files is in
-    after_print m text (g.S.Sink.written c.args.out.now) (g.S.Sink.written c.print_report.new.out) (g.F.Folder.holds c.work.new.folder)
+pub returns-in-Ok-clause-does : goal.returns-in-Ok-clause-does
+returns-in-Ok-clause-does g c = λ files is text before.
+    let by : Definitions = g.C.Compiler.defines in
+    let ready = prepared by files c.args.defs.now c.args.root.now in
+    does_printed by files ready
+    (run_of text (g.S.Sink.written c.print_report.new.out) (g.F.Folder.holds c.work.new.folder)
     (g.C.Compiler.asked c.args.compiler.now) (g.C.Compiler.asked c.work.new.compiler)
-    (g.C.Compiler.asked_skeletons c.args.compiler.now) (g.C.Compiler.asked_skeletons c.work.new.compiler)
-    c.print_report.result c.in-Ok.report.status c.in-Ok.report.text works.status works.text before works.files works.asked
+    (g.C.Compiler.asked_skeletons c.args.compiler.now) (g.C.Compiler.asked_skeletons c.work.new.compiler))
+    (g.S.Sink.written c.args.out.now) c.print_report.result c.in-Ok.report (c.in-Ok.ensures.does files is) before
     (c.in-Ok.ensures.skeletons files is) c.print_report.ensures.prints
 
-pub returns-in-Err-Folder-clause-means : goal.returns-in-Err-Folder-clause-means
-returns-in-Err-Folder-clause-means g c = λ files is text before.
-    let m = of_project g.C.Compiler.defines c.args.root.now files (project_of files c.args.root.now) in
-    after_cut m text (g.S.Sink.written c.args.out.now) (g.S.Sink.written c.args.out.now) (g.F.Folder.holds c.work.new.folder)
-    (g.C.Compiler.asked c.args.compiler.now) (g.C.Compiler.asked c.work.new.compiler)
-    (g.C.Compiler.asked_skeletons c.args.compiler.now) (g.C.Compiler.asked_skeletons c.work.new.compiler)
-    refl before (c.in-Err-Folder.ensures.works files is) (c.in-Err-Folder.ensures.skeletons files is)
-
-pub returns-in-Err-NoMemory-clause-means : goal.returns-in-Err-NoMemory-clause-means
-returns-in-Err-NoMemory-clause-means g c = λ files is text before.
-    let m = of_project g.C.Compiler.defines c.args.root.now files (project_of files c.args.root.now) in
-    after_cut m text (g.S.Sink.written c.args.out.now) (g.S.Sink.written c.args.out.now) (g.F.Folder.holds c.work.new.folder)
-    (g.C.Compiler.asked c.args.compiler.now) (g.C.Compiler.asked c.work.new.compiler)
-    (g.C.Compiler.asked_skeletons c.args.compiler.now) (g.C.Compiler.asked_skeletons c.work.new.compiler)
-    refl before (c.in-Err-NoMemory.ensures.works files is) (c.in-Err-NoMemory.ensures.skeletons files is)
-
-pub returns-then-as_bytes-clause-stays : goal.returns-then-as_bytes-clause-stays
-returns-then-as_bytes-clause-stays g c = λ files is.
+pub returns-in-Ok-clause-promise : goal.returns-in-Ok-clause-promise
+returns-in-Ok-clause-promise g c = λ files is text before.
     let by : Definitions = g.C.Compiler.defines in
-    stays_failed by (of_project by c.args.root.now files (project_of files c.args.root.now)) (g.F.Folder.holds c.args.folder.now)
+    let ready = prepared by files c.args.defs.now c.args.root.now in
+    promised_printed by files ready
+    (run_of text (g.S.Sink.written c.print_report.new.out) (g.F.Folder.holds c.work.new.folder)
+    (g.C.Compiler.asked c.args.compiler.now) (g.C.Compiler.asked c.work.new.compiler)
+    (g.C.Compiler.asked_skeletons c.args.compiler.now) (g.C.Compiler.asked_skeletons c.work.new.compiler))
+    (g.S.Sink.written c.args.out.now) c.print_report.result c.in-Ok.report (c.in-Ok.ensures.does files is) before
+    (c.in-Ok.ensures.skeletons files is) c.print_report.ensures.prints
+
+pub returns-in-Err-Folder-clause-does : goal.returns-in-Err-Folder-clause-does
+returns-in-Err-Folder-clause-does g c = λ files is text before.
+    let by : Definitions = g.C.Compiler.defines in
+    let ready = prepared by files c.args.defs.now c.args.root.now in
+    cut_off by files ready
+    (run_of text (g.S.Sink.written c.args.out.now) (g.F.Folder.holds c.work.new.folder)
+    (g.C.Compiler.asked c.args.compiler.now) (g.C.Compiler.asked c.work.new.compiler)
+    (g.C.Compiler.asked_skeletons c.args.compiler.now) (g.C.Compiler.asked_skeletons c.work.new.compiler))
+    (g.S.Sink.written c.args.out.now) (store_over by) fault.Folder (rw c.in-Err-Folder.field-0-is at (c.in-Err-Folder.ensures.does files is)).over_store
+    before refl (c.in-Err-Folder.ensures.skeletons files is)
+
+pub returns-in-Err-NoMemory-clause-does : goal.returns-in-Err-NoMemory-clause-does
+returns-in-Err-NoMemory-clause-does g c = λ files is text before.
+    let by : Definitions = g.C.Compiler.defines in
+    let ready = prepared by files c.args.defs.now c.args.root.now in
+    cut_off by files ready
+    (run_of text (g.S.Sink.written c.args.out.now) (g.F.Folder.holds c.work.new.folder)
+    (g.C.Compiler.asked c.args.compiler.now) (g.C.Compiler.asked c.work.new.compiler)
+    (g.C.Compiler.asked_skeletons c.args.compiler.now) (g.C.Compiler.asked_skeletons c.work.new.compiler))
+    (g.S.Sink.written c.args.out.now) (store_over by) fault.NoMemory (rw c.in-Err-NoMemory.field-0-is at (c.in-Err-NoMemory.ensures.does files is)).over_store
+    before refl (c.in-Err-NoMemory.ensures.skeletons files is)
+
+pub returns-in-Err-Folder-clause-promise : goal.returns-in-Err-Folder-clause-promise
+returns-in-Err-Folder-clause-promise g c = λ files is text before.
+    let by : Definitions = g.C.Compiler.defines in
+    let ready = prepared by files c.args.defs.now c.args.root.now in
+    promised_failed by files ready
+    (run_of text (g.S.Sink.written c.args.out.now) (g.F.Folder.holds c.work.new.folder)
+    (g.C.Compiler.asked c.args.compiler.now) (g.C.Compiler.asked c.work.new.compiler)
+    (g.C.Compiler.asked_skeletons c.args.compiler.now) (g.C.Compiler.asked_skeletons c.work.new.compiler))
+    (g.S.Sink.written c.args.out.now) fault.Folder (rw c.in-Err-Folder.field-0-is at (c.in-Err-Folder.ensures.does files is)) before refl
+    (c.in-Err-Folder.ensures.skeletons files is)
+
+pub returns-in-Err-NoMemory-clause-promise : goal.returns-in-Err-NoMemory-clause-promise
+returns-in-Err-NoMemory-clause-promise g c = λ files is text before.
+    let by : Definitions = g.C.Compiler.defines in
+    let ready = prepared by files c.args.defs.now c.args.root.now in
+    promised_wanting by files ready
+    (run_of text (g.S.Sink.written c.args.out.now) (g.F.Folder.holds c.work.new.folder)
+    (g.C.Compiler.asked c.args.compiler.now) (g.C.Compiler.asked c.work.new.compiler)
+    (g.C.Compiler.asked_skeletons c.args.compiler.now) (g.C.Compiler.asked_skeletons c.work.new.compiler))
+    (g.S.Sink.written c.args.out.now) fault.NoMemory (rw c.in-Err-NoMemory.field-0-is at (c.in-Err-NoMemory.ensures.does files is)) before refl
+    (c.in-Err-NoMemory.ensures.skeletons files is)
+
+pub returns-in-Ok-clause-project : goal.returns-in-Ok-clause-project
+returns-in-Ok-clause-project g c = λ files is. (c.in-Ok.ensures.does files is).project
+
+pub returns-in-Err-Folder-clause-project : goal.returns-in-Err-Folder-clause-project
+returns-in-Err-Folder-clause-project g c = λ files is. (c.in-Err-Folder.ensures.does files is).project
+
+pub returns-in-Err-NoMemory-clause-project : goal.returns-in-Err-NoMemory-clause-project
+returns-in-Err-NoMemory-clause-project g c = λ files is. (c.in-Err-NoMemory.ensures.does files is).project
+
+pub returns-in-Ok-clause-frame : goal.returns-in-Ok-clause-frame
+returns-in-Ok-clause-frame g c = λ files is. (c.in-Ok.ensures.does files is).frame
 
 pub returns-in-Ok-clause-stays : goal.returns-in-Ok-clause-stays
 returns-in-Ok-clause-stays g c = λ files is.
     let by : Definitions = g.C.Compiler.defines in
-    stays_printed by (of_project by c.args.root.now files (project_of files c.args.root.now)) c.print_report.result
-    c.in-Ok.report (g.F.Folder.holds c.args.folder.now) (g.F.Folder.holds c.work.new.folder) (c.in-Ok.ensures.stays files is)
+    stays_built by files (prepared by files c.args.defs.now c.args.root.now) (Ok c.in-Ok.report) (g.F.Folder.holds c.work.new.folder)
+    (g.C.Compiler.asked c.args.compiler.now) (g.C.Compiler.asked c.work.new.compiler)
+    (c.in-Ok.ensures.does files is)
+
+pub returns-in-Err-Folder-clause-frame : goal.returns-in-Err-Folder-clause-frame
+returns-in-Err-Folder-clause-frame g c = λ files is. (c.in-Err-Folder.ensures.does files is).frame
+
+pub returns-in-Err-Folder-clause-stays : goal.returns-in-Err-Folder-clause-stays
+returns-in-Err-Folder-clause-stays g c = λ files is.
+    let by : Definitions = g.C.Compiler.defines in
+    stays_built by files (prepared by files c.args.defs.now c.args.root.now) (Err fault.Folder) (g.F.Folder.holds c.work.new.folder)
+    (g.C.Compiler.asked c.args.compiler.now) (g.C.Compiler.asked c.work.new.compiler)
+    (rw c.in-Err-Folder.field-0-is at (c.in-Err-Folder.ensures.does files is))
+
+pub returns-in-Err-NoMemory-clause-frame : goal.returns-in-Err-NoMemory-clause-frame
+returns-in-Err-NoMemory-clause-frame g c = λ files is. (c.in-Err-NoMemory.ensures.does files is).frame
+
+pub returns-in-Err-NoMemory-clause-stays : goal.returns-in-Err-NoMemory-clause-stays
+returns-in-Err-NoMemory-clause-stays g c = λ files is.
+    let by : Definitions = g.C.Compiler.defines in
+    stays_built by files (prepared by files c.args.defs.now c.args.root.now) (Err fault.NoMemory) (g.F.Folder.holds c.work.new.folder)
+    (g.C.Compiler.asked c.args.compiler.now) (g.C.Compiler.asked c.work.new.compiler)
+    (rw c.in-Err-NoMemory.field-0-is at (c.in-Err-NoMemory.ensures.does files is))

@@ -1,4 +1,0 @@
-pub mod Placing
-pub mod Planned
-pub mod Steps
-pub mod TableLemmas

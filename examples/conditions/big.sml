@@ -1,0 +1,1 @@
+structure Size = struct val n = 100 end

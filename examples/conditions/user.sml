@@ -1,0 +1,1 @@
+structure User = struct val n = Size.n end

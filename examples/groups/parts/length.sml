@@ -1,0 +1,1 @@
+structure Length = struct val n = 4 end

@@ -1,0 +1,1 @@
+structure Side = struct val n = Length.n end

@@ -1,0 +1,1 @@
+structure Square = struct val n = Side.n end

@@ -1,0 +1,1 @@
+structure Hidden = struct val n = One.n end

@@ -1,0 +1,1 @@
+structure One = struct val n = 1 end

@@ -1,0 +1,1 @@
+structure Two = struct val n = Hidden.n end
