@@ -4,6 +4,7 @@
 mod limits;
 mod lines;
 mod linking;
+mod loading;
 mod printing;
 mod run;
 mod status;

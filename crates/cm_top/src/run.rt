@@ -63,7 +63,6 @@ fn run_build<F: Folder, S: Sink, C: Compiler>(
     folder: &mut F,
     out: &mut S,
     compiler: &mut C,
-    tools: &mut Toolbox,
 ) -> Status
     ensures folder { HasCause (F.faults folder.old) (F.faults folder.new) (result ≡ Status.FolderFault) }
     ensures sink { HasCause (S.faults out.old) (S.faults out.new) (result ≡ Status.SinkFault) }
@@ -83,7 +82,7 @@ fn run_build<F: Folder, S: Sink, C: Compiler>(
     ensures stays { Told (F.holds folder.old) (λ files. Stays C.defines files
         (of_build (plain_over C.defines) files (prepared C.defines files defs.now root.now)) (F.holds folder.new)) }
 {
-    match work(alloc, defs, root, folder, compiler, tools) {
+    match work(alloc, defs, root, folder, compiler) {
         Ok(report) => print_report(alloc, out, &report),
         Err(WorkFault::Folder) => Status::FolderFault,
         Err(WorkFault::NoMemory) => Status::NoMemory,
@@ -97,7 +96,6 @@ fn run_command<F: Folder, S: Sink, C: Compiler>(
     folder: &mut F,
     out: &mut S,
     compiler: &mut C,
-    tools: &mut Toolbox,
 ) -> Status
     ensures folder { HasCause (F.faults folder.old) (F.faults folder.new) (result ≡ Status.FolderFault) }
     ensures sink { HasCause (S.faults out.old) (S.faults out.new) (result ≡ Status.SinkFault) }
@@ -118,7 +116,7 @@ fn run_command<F: Folder, S: Sink, C: Compiler>(
         (of_command (plain_over C.defines) C.defines files (Some command.now)) (F.holds folder.new)) }
 {
     match command {
-        Command::Build { defs, root } => run_build(alloc, defs, root, folder, out, compiler, tools),
+        Command::Build { defs, root } => run_build(alloc, defs, root, folder, out, compiler),
     }
 }
 
@@ -129,7 +127,6 @@ fn run_words<F: Folder, S: Sink, C: Compiler>(
     folder: &mut F,
     out: &mut S,
     compiler: &mut C,
-    tools: &mut Toolbox,
 ) -> Status
     ensures folder { HasCause (F.faults folder.old) (F.faults folder.new) (result ≡ Status.FolderFault) }
     ensures sink { HasCause (S.faults out.old) (S.faults out.new) (result ≡ Status.SinkFault) }
@@ -151,7 +148,7 @@ fn run_words<F: Folder, S: Sink, C: Compiler>(
         (C.asked_skeletons compiler.old) (C.asked_skeletons compiler.new)))) }
 {
     match read_words(alloc, words) {
-        Ok(Some(command)) => run_command(alloc, &command, folder, out, compiler, tools),
+        Ok(Some(command)) => run_command(alloc, &command, folder, out, compiler),
         Ok(None) => run_usage(alloc, folder, out, compiler),
         Err(NoMemory) => Status::NoMemory,
     }
@@ -199,7 +196,7 @@ pub fn run_cm<F: Folder, S: Sink, C: Compiler>(
         (meaning_of C.defines (map string_bytes words.now) files) result
         (Rose (F.faults folder.old) (F.faults folder.new)) (Rose (S.faults out.old) (S.faults out.new)))) }
 {
-    run_words(alloc, words, folder, out, compiler, tools)
+    run_words(alloc, words, folder, out, compiler)
 }
 
 /// `run_cm` over a folder and an output that never fail.

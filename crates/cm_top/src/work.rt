@@ -14,12 +14,12 @@ ghost use Rattle.cm_top.specs.ProjectBuild.{ending, of_planning, prepared};
 
 use crate::lines::{diag_text, report_text};
 use crate::linking::end;
+use crate::loading::load;
 use crate::status::Status;
 use cm_base::{Built, Compiler, Def, Diag, Fault, Folder, FolderFault, List, NoMemory, Text};
 use cm_description::Project;
 use cutoff_builder::{BuildFault, build};
-use group_loader::{LoadFault, load};
-use member_tools::Toolbox;
+use group_loader::LoadFault;
 use project_planning::{Plan, make_plan};
 use std::alloc::Global;
 
@@ -174,7 +174,6 @@ pub fn work<F: Folder, C: Compiler>(
     root: &Text,
     folder: &mut F,
     compiler: &mut C,
-    tools: &mut Toolbox,
 ) -> Result<Report, WorkFault>
     ensures cause { HasCause (F.faults folder.old) (F.faults folder.new) (result ≡ Err WorkFault.Folder) }
     ensures plain { IfOk result (λ report. IsReported report.status) }
@@ -185,7 +184,7 @@ pub fn work<F: Folder, C: Compiler>(
         (prepared C.defines files defs.now root.now).asked_skeletons
         (C.asked_skeletons compiler.old) (C.asked_skeletons compiler.new)) }
 {
-    match load(alloc, folder, tools, defs, root, false) {
+    match load(alloc, folder, defs, root) {
         Ok(project) => build_project(alloc, defs, folder, compiler, &project),
         Err(LoadFault::Diag(diag)) => Ok(refused(alloc, &diag)?),
         Err(LoadFault::Folder) => Err(WorkFault::Folder),
