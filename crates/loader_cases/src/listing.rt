@@ -42,59 +42,43 @@ fn option_word(word: &'static [u8], is_set: bool) -> &'static [u8] {
 }
 
 /// Adds the line of a unit: its name, its group, and the options that it has.
-fn push_unit(
-    alloc: Global,
-    out: &mut Vec<u8>,
-    project: &Project,
-    unit: &Unit,
-) -> Result<(), NoMemory> {
+fn push_unit(out: &mut Vec<u8>, project: &Project, unit: &Unit) -> Result<(), NoMemory> {
     let (nobasis, opaque) = match &unit.body {
         UnitBody::Source { options, .. } => (options.nobasis, options.opaque),
         UnitBody::Frozen { .. } => (false, false),
     };
-    let parts = [
-        Part::Text(unit.name.as_bytes()),
-        Part::Text(b" of "),
-        Part::Text(group_name(project, unit.group)),
-        Part::Text(option_word(b" nobasis", nobasis)),
-        Part::Text(option_word(b" opaque", opaque)),
-        Part::Text(b"\n"),
-    ];
-    push_parts(alloc, out, &parts)
+    push_all(out, unit.name.as_bytes())?;
+    push_all(out, b" of ")?;
+    push_all(out, group_name(project, unit.group))?;
+    push_all(out, option_word(b" nobasis", nobasis))?;
+    push_all(out, option_word(b" opaque", opaque))?;
+    push_all(out, b"\n")
 }
 
 /// The lines of all units.
 pub fn unit_lines(alloc: Global, project: &Project) -> Result<Text, NoMemory> {
     let mut out = Vec::new(alloc);
     for unit in project.units.as_slice() {
-        push_unit(alloc, &mut out, project, unit)?;
+        push_unit(&mut out, project, unit)?;
     }
     Ok(Text::from_vec(out))
 }
 
 /// Adds the line of a group: its kind and its name, its owner, and the groups among its members.
-fn push_group(
-    alloc: Global,
-    out: &mut Vec<u8>,
-    project: &Project,
-    group: &Group,
-) -> Result<(), NoMemory> {
+fn push_group(out: &mut Vec<u8>, project: &Project, group: &Group) -> Result<(), NoMemory> {
     let kind = if group.library {
         b"library ".as_slice()
     } else {
         b"group "
     };
-    let parts = [
-        Part::Text(kind),
-        Part::Text(group.file.as_bytes()),
-        Part::Text(b" of "),
-        Part::Text(group_name(project, group.owner)),
-        Part::Text(b":"),
-    ];
-    push_parts(alloc, out, &parts)?;
+    push_all(out, kind)?;
+    push_all(out, group.file.as_bytes())?;
+    push_all(out, b" of ")?;
+    push_all(out, group_name(project, group.owner))?;
+    push_all(out, b":")?;
     for member in group.members.as_slice() {
-        let parts = [Part::Text(b" "), Part::Text(group_name(project, *member))];
-        push_parts(alloc, out, &parts)?;
+        push_all(out, b" ")?;
+        push_all(out, group_name(project, *member))?;
     }
     push_all(out, b"\n")
 }
@@ -103,7 +87,7 @@ fn push_group(
 pub fn group_lines(alloc: Global, project: &Project) -> Result<Text, NoMemory> {
     let mut out = Vec::new(alloc);
     for group in project.groups.as_slice() {
-        push_group(alloc, &mut out, project, group)?;
+        push_group(&mut out, project, group)?;
     }
     Ok(Text::from_vec(out))
 }

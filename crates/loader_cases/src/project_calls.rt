@@ -14,7 +14,6 @@ use std::alloc::Global;
 #[derive(Drop)]
 pub struct ProjectCalls {
     files: Files,
-    tools: Toolbox,
     defs: List<Def>,
     root: Text,
     freezing: bool,
@@ -104,7 +103,6 @@ impl ProjectCalls {
     pub fn new(alloc: Global) -> Result<ProjectCalls, NoMemory> {
         Ok(ProjectCalls {
             files: Files::new(alloc),
-            tools: Toolbox::new(alloc),
             defs: List::new(alloc),
             root: Text::from_bytes(alloc, b"main.cm")?,
             freezing: false,
@@ -115,10 +113,11 @@ impl ProjectCalls {
     /// Loads the project.
     fn loaded(&mut self, alloc: Global) -> Result<Project, LoadFault> {
         self.files.begin();
+        let mut tools = Toolbox::new(alloc);
         load(
             alloc,
             &mut self.files.folder,
-            &mut self.tools,
+            &mut tools,
             &self.defs,
             &self.root,
             self.freezing,
