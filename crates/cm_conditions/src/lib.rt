@@ -25,3 +25,4 @@ pub use lexeme::{Lexeme, Mark, Operator, Strength};
 pub use line::{Line, LineBody};
 pub use printing::{print_condition, space_word};
 pub use read::read_condition;
+pub use words::is_name;

@@ -20,8 +20,9 @@ fn is_reserved(word: &[u8]) -> bool
         || word == b"defined".as_slice()
 }
 
-/// Whether a word is a name of conditions.
-pub(crate) fn is_name(word: &[u8]) -> bool
+/// Whether a word may be a name of conditions: it is no word of their grammar, and has no `'`. That its first byte is a
+/// letter and all others may stand in an identifier is what makes it a word.
+pub fn is_name(word: &[u8]) -> bool
     ensures { result ≡ is_name word.now }
 {
     !is_reserved(word) && !word.contains(&b'\'')

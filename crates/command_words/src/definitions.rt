@@ -3,33 +3,14 @@
 ghost use Rattle.std.specs.Prelude.{◌≡◌, ◌≤◌, ◌^◌, IfOk, MatchOption, length};
 ghost use Rattle.std.specs.List.{list_all};
 ghost use Rattle.cm_base.specs.ByteClasses.{is_digit, is_identifier_byte};
-ghost use Rattle.cm_conditions.specs.Grammar.{is_name, is_reserved};
+ghost use Rattle.cm_conditions.specs.Grammar.{is_name};
 ghost use Rattle.cm_conditions.specs.Lexemes.{number_from};
 ghost use Rattle.command_words.specs.Words.{begins_with_letter, is_defined_name, signed, are_digits, digits_value, is_sign, int_value, name_len, definition_at, definition_of, defined_once};
 
 use cm_base::{Def, List, NoMemory, Text, is_digit, is_identifier_byte, is_letter};
+use cm_conditions::is_name;
 use indexmap::IndexSet;
 use std::alloc::Global;
-
-/// Whether a word belongs to the grammar of conditions.
-#[tactic(auto, unfolding(cm_conditions::specs::Grammar::is_orelse, cm_conditions::specs::Grammar::is_andalso, cm_conditions::specs::Grammar::is_div, cm_conditions::specs::Grammar::is_mod, cm_conditions::specs::Grammar::is_not, cm_conditions::specs::Grammar::is_defined))]
-fn is_reserved(word: &[u8]) -> bool
-    ensures { result ≡ is_reserved word.now }
-{
-    word == b"orelse".as_slice()
-        || word == b"andalso".as_slice()
-        || word == b"div".as_slice()
-        || word == b"mod".as_slice()
-        || word == b"not".as_slice()
-        || word == b"defined".as_slice()
-}
-
-/// Whether a word is a name of conditions.
-fn is_name(word: &[u8]) -> bool
-    ensures { result ≡ is_name word.now }
-{
-    !is_reserved(word) && !word.contains(&b'\'')
-}
 
 /// Whether the first byte is a letter.
 fn begins_with_letter(word: &[u8]) -> bool

@@ -36,8 +36,8 @@ abbrev pub sees_basis : Project → ℕ → Bool
 sees_basis project u = option_map_or (λ (unit : ProjectUnit). shows_basis unit.body) (slice_get project.units u) false
 
 -- What is imported for a name that a unit uses. A name that isn't sure may come from an `open` or an `include`: one
--- provider is imported, and in any other case the elaborator is left to judge. A sure one is 23 where several units
--- are exported under it, no import where it is a built-in structure that the unit sees, and else 24.
+-- provider is imported, and in any other case the elaborator is left to judge. A sure one without a provider: under
+-- several units it is 23; a built-in structure, where the basis shows, needs no import; all else is 24.
 abbrev pub import_by : Bool → Place → Need → Found → Result (List Wanted) Diag
 import_by basis at need (found.One v) = Ok (record { name = need.spot.name; provider = v } ∷ [])
 import_by basis at need found.Several = if need.sure then Err (name_refused 23 at need.spot.name) else Ok []
