@@ -1,0 +1,4 @@
+pub mod Orders
+pub mod Ways
+pub mod Cycles
+pub mod Values

@@ -1,0 +1,10 @@
+pub mod Stepping
+pub mod Firsts
+pub mod Either
+pub mod Imported
+pub mod Clashes
+pub mod NameLists
+pub mod Exported
+pub mod Places
+pub mod Named
+pub mod OneNaming

@@ -1,0 +1,6 @@
+pub mod Steps
+pub mod Behind
+pub mod Importing
+pub mod Exporting
+pub mod Naming
+pub mod Laws
