@@ -1,0 +1,28 @@
+//! Cases of scripts and of generated projects: each kind of cases calls one, and compares what it answers.
+#![tactic(auto)]
+
+mod kind;
+mod steps;
+mod texts;
+
+use case_files::{Case, CaseFault, Kinds, Report, Wrong, run_cases};
+use case_texts::try_texts;
+use kind::kind_of;
+use std::alloc::Global;
+use std::process::ExitCode;
+
+/// The kinds of cases of this program.
+struct ScriptKinds;
+
+impl Kinds for ScriptKinds {
+    fn try_case(&self, alloc: Global, case: &Case, report: &mut Report) -> Result<(), CaseFault> {
+        match kind_of(case.kind.as_bytes()) {
+            Some(kind) => try_texts(alloc, &kind, (b"", b""), case, report),
+            None => Err(CaseFault::Wrong(case.line, Wrong::Kind)),
+        }
+    }
+}
+
+fn main(rt: HostRuntime) -> ExitCode {
+    ExitCode::from(run_cases(&rt, &ScriptKinds))
+}
