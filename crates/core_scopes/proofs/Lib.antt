@@ -1,0 +1,4 @@
+pub mod Tables
+pub mod Scoping
+pub mod Opening
+pub mod Pathing

@@ -1,0 +1,19 @@
+-- Bindings one by one: lists of entries with their names as rows. Only private functions cite this file.
+use Rattle.std.specs.Prelude.{◌++◌, List, map, reverse}
+use Rattle.sml_modules.specs.declared.id.EnvId.{EnvId}
+use Rattle.sml_modules.specs.declared.parts.NamedEnv.{NamedEnv}
+use Rattle.name_trails.specs.Trails.{Rows}
+use Rattle.core_scopes.specs.declared.made.NamedInScope.{NamedInScope}
+use Rattle.core_scopes.specs.declared.value.ValueInScope.{ValueInScope}
+use Rattle.core_scopes.specs.declared.written.InScope.{InScope}
+use Rattle.core_scopes.specs.Scopes.{Bindings, written_rows}
+
+abbrev pub env_rows : List NamedEnv → Rows EnvId
+env_rows entries = map (λ (e : NamedEnv). (e.name, e.env)) entries
+
+abbrev pub scope_rows : {V : Type 0} → List (NamedInScope V) → Rows (ValueInScope V)
+scope_rows {V} entries = map (λ (e : NamedInScope V). (e.name, e.entry)) entries
+
+-- written type variables are bound, the last of them first
+abbrev pub more_written : {V : Type 0} → List InScope → Bindings V → Bindings V
+more_written rows sc = record sc { written = sc.written ++ reverse (written_rows rows) }

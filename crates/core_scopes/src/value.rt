@@ -1,0 +1,28 @@
+//! Values in scope.
+
+ghost use Rattle.std.specs.Prelude.{◌≡◌, IfOk};
+
+use cm_base::NoMemory;
+use env_parts::copy_value;
+use semantic_objects::ValueEntry;
+use std::alloc::Global;
+
+/// A value in scope: an entry of an environment, or one that the unit itself made and whose scheme is still one of the
+/// table of types. Of which form that is, is left to who elaborates.
+#[derive(Drop)]
+pub enum ValueInScope<V> {
+    Entry(ValueEntry),
+    Own(V),
+}
+
+impl<V: Copy + Drop> ValueInScope<V> {
+    /// The same value.
+    pub fn copy(&self, alloc: Global) -> Result<ValueInScope<V>, NoMemory>
+        ensures { IfOk result (λ copy. copy ≡ self.now) }
+    {
+        match self {
+            ValueInScope::Entry(entry) => Ok(ValueInScope::Entry(copy_value(alloc, entry)?)),
+            ValueInScope::Own(own) => Ok(ValueInScope::Own(*own)),
+        }
+    }
+}
