@@ -1,0 +1,5 @@
+pub mod Instances
+pub mod Schemes
+pub mod Reaching
+pub mod Numbering
+pub mod Flattening

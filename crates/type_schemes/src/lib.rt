@@ -1,0 +1,13 @@
+//! Type schemes over a table of types: a type is closed over its variables, a scheme is read into the table with new
+//! variables in place of its own.
+#![tactic(auto)]
+
+mod close;
+mod flat;
+mod instances;
+mod number;
+mod places;
+mod reach;
+
+pub use close::generalise;
+pub use instances::instantiate;

@@ -1,0 +1,100 @@
+//! The variables that a type is closed over, with their numbers.
+
+ghost use Rattle.std.specs.Prelude.{◌≡◌, ◌∷◌, [], map, false, IfOk, OnOk};
+ghost use Rattle.unification.specs.Closing.{noticed};
+ghost use Rattle.type_nodes.specs.Tables.{state};
+ghost use Rattle.type_schemes.specs.Reaching.{variables_of, noticed_all};
+ghost use Rattle.type_schemes.specs.Numbering.{number_of, is_reached, AreNumbers, HasAllVariables};
+
+use crate::places::Places;
+use crate::reach::Reached;
+use cm_base::{List, NoMemory};
+use semantic_objects::TyId;
+use std::alloc::Global;
+use type_nodes::TypeBindings;
+
+/// Variables in the order of their numbers.
+#[derive(Drop)]
+pub(crate) struct Numbers {
+    pub(crate) variables: List<usize>,
+    numbers: Places,
+}
+
+impl Numbers {
+    /// No variable.
+    fn new(alloc: Global) -> Numbers
+        ensures numbers { AreNumbers result }
+        ensures none { result.variables ≡ [] }
+    {
+        Numbers {
+            variables: List::new(alloc),
+            numbers: Places::new(alloc),
+        }
+    }
+
+    /// The number of a variable.
+    pub(crate) fn of(&self, variable: usize) -> Option<usize>
+        requires { AreNumbers self.now }
+        ensures { result ≡ number_of variable self.now.variables }
+    {
+        self.numbers.of(variable)
+    }
+
+    /// Gives a variable the next number, if it has none.
+    fn notice(&mut self, variable: usize) -> Result<(), NoMemory>
+        requires { AreNumbers self.old }
+        ensures numbers { OnOk result (AreNumbers self.new) }
+        ensures variables { OnOk result (self.new.variables ≡ noticed false variable self.old.variables) }
+    {
+        match self.of(variable) {
+            Some(_) => Ok(()),
+            None => {
+                let number = self.variables.len();
+                self.variables.add(variable)?;
+                Ok(self.numbers.set(variable, number)?)
+            }
+        }
+    }
+
+    /// Gives a variable a number, unless it was reached from outside.
+    fn meet(&mut self, id: TyId, outer: &Reached) -> Result<(), NoMemory>
+        requires { AreNumbers self.old }
+        ensures numbers { OnOk result (AreNumbers self.new) }
+        ensures variables { OnOk result (
+            self.new.variables ≡ noticed_all (is_reached outer.now) (variables_of (id ∷ [])) self.old.variables
+            ) }
+    {
+        match id {
+            TyId::Variable(number) => match outer.variables.of(number) {
+                Some(_) => Ok(()),
+                None => Ok(self.notice(number)?),
+            },
+            TyId::Made(_) => Ok(()),
+        }
+    }
+
+    /// The mark of each variable, as it is now.
+    pub(crate) fn marks(&self, table: &TypeBindings, alloc: Global) -> Result<List<bool>, NoMemory>
+        requires { HasAllVariables table.now self.now.variables }
+        ensures { IfOk result (λ marks. marks ≡ map (state table.now).marks self.now.variables) }
+    {
+        let mut marks = List::new(alloc);
+        for variable in self.variables.as_slice() {
+            marks.add(table.is_marked(*variable))?;
+        }
+        Ok(marks)
+    }
+}
+
+/// Numbers the variables that were reached, but none that was reached from outside.
+pub(crate) fn number(alloc: Global, reached: &Reached, outer: &Reached) -> Result<Numbers, NoMemory>
+    ensures numbers { IfOk result AreNumbers }
+    ensures variables { IfOk result (λ numbers.
+        numbers.variables ≡ noticed_all (is_reached outer.now) (variables_of reached.now.ids) []) }
+{
+    let mut numbers = Numbers::new(alloc);
+    for id in reached.ids.as_slice() {
+        numbers.meet(*id, outer)?;
+    }
+    Ok(numbers)
+}
