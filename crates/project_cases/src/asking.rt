@@ -1,14 +1,14 @@
-//! Cases `ask`: the skeletons that a compiler of letters is asked for, of units that are lines `NAME SOURCE`. The first
-//! byte of a source is the structure that it defines, and one that begins with `!` is refused. A line `NAME` is a unit of a
-//! frozen library.
+//! Cases `ask`: the skeletons that a compiler of letters is asked for where there is no store, of units that are lines
+//! `NAME SOURCE`. The first byte of a source is the structure that it defines, and one that begins with `!` is
+//! refused. A line `NAME` is a unit of a frozen library.
 
 use case_files::{Part, push_parts};
-use case_scenes::Letters;
 use case_texts::{push_diag, words_of};
-use cm_base::{Fault, List, NoMemory, Options, Skeleton, Text};
+use cm_base::{List, NoMemory, Options, Skeleton, SureFolder, Text};
 use cm_description::{Project, Unit, UnitBody};
-use skeleton_asking::ask_skeletons;
+use skeleton_asking::{PlanFault, find_skeletons};
 use std::alloc::Global;
+use test_compilers::Letters;
 
 /// A source.
 fn source_body(source: &Text) -> Result<UnitBody, NoMemory> {
@@ -81,7 +81,7 @@ fn push_units(
 fn push_end(
     alloc: Global,
     out: &mut Vec<u8>,
-    end: &Result<List<Skeleton>, Fault>,
+    end: &Result<List<Skeleton>, PlanFault>,
 ) -> Result<(), NoMemory> {
     match end {
         Ok(skeletons) => {
@@ -91,8 +91,9 @@ fn push_end(
             ];
             push_parts(alloc, out, &parts)
         }
-        Err(Fault::Diag(diag)) => push_diag(alloc, out, diag),
-        Err(Fault::NoMemory) => Err(NoMemory),
+        Err(PlanFault::Diag(diag)) => push_diag(alloc, out, diag),
+        Err(PlanFault::Folder) => push_parts(alloc, out, &[Part::Text(b"the folder failed\n")]),
+        Err(PlanFault::NoMemory) => Err(NoMemory),
     }
 }
 
@@ -100,7 +101,8 @@ fn push_end(
 pub fn asked(alloc: Global, text: &Text) -> Result<Vec<u8>, NoMemory> {
     let project = project_of(alloc, text.as_bytes())?;
     let mut compiler = Letters::new(alloc);
-    let end = ask_skeletons(alloc, &mut compiler, &project);
+    let mut folder = SureFolder::new(alloc);
+    let end = find_skeletons(alloc, &mut folder, &mut compiler, &project);
     let mut out = Vec::new(alloc);
     push_end(alloc, &mut out, &end)?;
     push_units(

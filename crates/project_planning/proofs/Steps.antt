@@ -1,8 +1,10 @@
 -- The steps of a plan: what each refusal and each answer makes of it.
-use Rattle.std.proofs.Common.{◌≡◌, ◌∙◌, sym, ap, refl, subst, ℕ, List, [], ◌++◌, length, Some, None, append-nil}
-use Rattle.std.specs.Prelude.{Result, Ok, Err, IfOk, IsErrAnd}
-use Rattle.cm_base.specs.Calls.{Asks, Gives}
+use Rattle.std.proofs.Common.{◌≡◌, ◌∙◌, sym, ap, refl, subst, ℕ, List, None}
+use Rattle.std.specs.Prelude.{Result, Ok, Err, IsErrAnd}
+use Rattle.cm_base.specs.Calls.{Gives}
+use Rattle.cm_base.specs.Definitions.{Definitions}
 use Rattle.cm_base.specs.Diags.{◌>>=◌}
+use Rattle.cm_base.specs.Files.{Files}
 use Rattle.cm_base.specs.declared.diag.Diag.{Diag}
 use Rattle.cm_base.specs.declared.fault.Fault.{Fault}
 use Rattle.cm_base.specs.declared.fault.Fault.TheVariants as fault
@@ -12,12 +14,18 @@ use Rattle.cm_base.proofs.FrontLemmas.{grows_all}
 use Rattle.cm_description.specs.declared.loaded.Project.{Project}
 use Rattle.build_laws.specs.Planned.{HaveSkeletons}
 use Rattle.dependency_graph.specs.Order.{Placed}
-use Rattle.skeleton_asking.specs.Answers.{GivesSkeletons}
-use Rattle.skeleton_asking.specs.Skeletons.{Skeletons, skeletons_of}
+use Rattle.bin_store.specs.GoodStore.{IsGoodStore}
+use Rattle.skeleton_asking.specs.Answers.{FindsAll}
+use Rattle.skeleton_asking.specs.Faults.{of_fault}
+use Rattle.skeleton_asking.specs.Skeletons.{Skeletons, plain_over, skeletons_over}
+use Rattle.skeleton_asking.specs.declared.fault.PlanFault.{PlanFault}
+use Rattle.skeleton_asking.specs.declared.fault.PlanFault.TheVariants as plan_fault
+use Rattle.skeleton_asking.proofs.StoredSkeletons.{stored_same}
 use Rattle.visibility.specs.Naming.{names_of}
 use Rattle.visibility.specs.declared.names.Names.{Names}
 use Rattle.project_planning.specs.Buildable.{planned_units}
-use Rattle.project_planning.specs.Planning.{edges_of, in_order, plan_in, plan_of, plan_with, unit_names, unless_refused}
+use Rattle.project_planning.specs.Answers.{Plans}
+use Rattle.project_planning.specs.Planning.{edges_of, in_order, plain_plan, plan_in, plan_over, plan_with, planning_after, unit_names, unless_refused}
 use Rattle.project_planning.specs.declared.plan.Plan.{Plan}
 use Rattle.project_planning.proofs.Planned.{planned_have}
 
@@ -54,39 +62,54 @@ plan_found p skeletons defs names order found is =
 
 -- ---- after the skeletons
 
-pub refused_gives : (skel : List ℕ → List ℕ → Result Skeleton Diag) (p : Project) (defs : List Def) (e : Fault)
-    → GivesSkeletons (Err e) (skeletons_of skel p) → Gives {A = Plan} (Err e) (plan_of skel p defs).result
-refused_gives skel p defs (fault.Diag diag) is =
-    ap (λ o. unless_refused o (plan_with p defs (skeletons_of skel p).found)) is
-refused_gives skel p defs fault.NoMemory is = tt
+-- they were refused, or their turn was cut off
+pub refused : (p : Project) (defs : List Def) (all : Skeletons) (e : PlanFault) (old new : List (List ℕ))
+    → FindsAll (Err e) all old new → Plans (Err e) (planning_after p defs all) old new
+refused p defs all (plan_fault.Diag diag) old new finds =
+    record { gives = ap (λ o. unless_refused o (plan_with p defs all.found)) finds.gives; asks = finds.asks }
+refused p defs all plan_fault.Folder old new finds = record { gives = tt; asks = finds.asks }
+refused p defs all plan_fault.NoMemory old new finds = record { gives = tt; asks = finds.asks }
 
-pub refused_asks : (e : Fault) (old new asked : List (List ℕ)) → Asks {A = List Skeleton} (Err e) old new asked
-    → Asks {A = Plan} (Err e) old new asked
-refused_asks (fault.Diag diag) old new asked is = is
-refused_asks fault.NoMemory old new asked is = is
+-- where all are found the plan is made with them
+with_found : (p : Project) (defs : List Def) (all : Skeletons) (skeletons : List Skeleton) (r : Result Plan Diag)
+    → all.found ≡ skeletons → all.ended ≡ None → plan_with p defs skeletons ≡ r
+    → (planning_after p defs all).result ≡ r
+with_found p defs all skeletons r found ended is =
+    ap (λ o. unless_refused o (plan_with p defs all.found)) ended ∙ ap (plan_with p defs) found ∙ is
 
-pub planned_gives : (skel : List ℕ → List ℕ → Result Skeleton Diag) (p : Project) (defs : List Def)
-    (skeletons : List Skeleton) (r : Result Plan Fault) → (skeletons_of skel p).found ≡ skeletons
-    → (skeletons_of skel p).ended ≡ None → Gives r (plan_with p defs skeletons) → Gives r (plan_of skel p defs).result
-planned_gives skel p defs skeletons r found ended is =
-    let result = sym (ap (λ o. unless_refused o (plan_with p defs (skeletons_of skel p).found)) ended
-    ∙ ap (plan_with p defs) found) in
-    subst (Gives r) result is
+pub planned : (p : Project) (defs : List Def) (all : Skeletons) (skeletons : List Skeleton) (plan : Plan)
+    (old new : List (List ℕ)) → FindsAll (Ok skeletons) all old new → plan_with p defs skeletons ≡ Ok plan
+    → Plans (Ok plan) (planning_after p defs all) old new
+planned p defs all skeletons plan old new finds is =
+    record { gives = with_found p defs all skeletons (Ok plan) finds.gives.0 finds.gives.1 is; asks = finds.asks }
 
-pub planned_asks : (r : Result Plan Fault) (old new asked : List (List ℕ)) → new ≡ old ++ asked → Asks r old new asked
-planned_asks (Ok plan) old new asked is = is
-planned_asks (Err (fault.Diag diag)) old new asked is = is
-planned_asks (Err fault.NoMemory) old new asked is = grows_all old new asked is
+pub unplanned : (p : Project) (defs : List Def) (all : Skeletons) (skeletons : List Skeleton) (e : Fault)
+    (old new : List (List ℕ)) → FindsAll (Ok skeletons) all old new
+    → Gives {A = Plan} (Err e) (plan_with p defs skeletons)
+    → Plans (Err (of_fault e)) (planning_after p defs all) old new
+unplanned p defs all skeletons (fault.Diag diag) old new finds is =
+    record { gives = with_found p defs all skeletons (Err diag) finds.gives.0 finds.gives.1 is; asks = finds.asks }
+unplanned p defs all skeletons fault.NoMemory old new finds is =
+    record { gives = tt; asks = grows_all old new all.asked finds.asks }
 
-pub planned_count : (n : ℕ) (skeletons : List Skeleton) (r : Result Plan Fault) → length skeletons ≡ n
-    → IfOk r (λ (plan : Plan). plan.skeletons ≡ skeletons) → IfOk r (λ (plan : Plan). length plan.skeletons ≡ n)
-planned_count n skeletons (Ok plan) counted is = ap length is ∙ counted
-planned_count n skeletons (Err e) counted is = tt
+-- ---- over a good store
 
-pub planned_lawful : (skel : List ℕ → List ℕ → Result Skeleton Diag) (p : Project) (skeletons : List Skeleton)
-    (r : Result Plan Fault) → (skeletons_of skel p).found ≡ skeletons → (skeletons_of skel p).ended ≡ None
-    → IfOk r (λ (plan : Plan). plan.skeletons ≡ skeletons)
-    → IfOk r (λ (plan : Plan). HaveSkeletons skel (planned_units p plan))
-planned_lawful skel p skeletons (Ok plan) found ended is =
-    planned_have skel p plan.skeletons plan.wanted plan.order (found ∙ sym is) ended
-planned_lawful skel p skeletons (Err e) found ended is = tt
+-- what is found is what the compiler gives
+pub found_plain : {by : Definitions} {known : List (List ℕ)} {files : Files} (p : Project)
+    (r : Result (List Skeleton) PlanFault) (old new : List (List ℕ)) → IsGoodStore by known files
+    → FindsAll r (skeletons_over by.skel files p) old new → FindsAll r (plain_over by.skel files p) old new
+found_plain {by} {known} {files} p r old new good finds =
+    subst (λ (all : Skeletons). FindsAll r all old new) (stored_same by known files p good) finds
+
+-- so a plan has the compiler's skeletons
+pub planned_lawful : {by : Definitions} {known : List (List ℕ)} {files : Files} (p : Project)
+    (skeletons : List Skeleton) (plan : Plan) (old new : List (List ℕ)) → IsGoodStore by known files
+    → FindsAll (Ok skeletons) (skeletons_over by.skel files p) old new → plan.skeletons ≡ skeletons
+    → HaveSkeletons by.skel (planned_units p plan)
+planned_lawful {by} {known} {files} p skeletons plan old new good finds same =
+    let plain = found_plain p (Ok skeletons) old new good finds in
+    planned_have by.skel p plan.skeletons plan.wanted plan.order (plain.gives.0 ∙ sym same) plain.gives.1
+
+pub plan_same : (by : Definitions) (texts : List (List ℕ)) (files : Files) (project : Project) (defs : List Def)
+    → IsGoodStore by texts files → plan_over by.skel files project defs ≡ plain_plan by.skel files project defs
+plan_same by texts files project defs good = ap (planning_after project defs) (stored_same by texts files project good)

@@ -1,2 +1,4 @@
-pub mod Planning
+pub mod Answers
 pub mod Buildable
+pub mod Laws
+pub mod Planning

@@ -3,6 +3,7 @@
 -- cycle.
 use Rattle.std.specs.Prelude.{ℕ, List, map, Option, Some, None, Result, Ok, Err}
 use Rattle.cm_base.specs.Diags.{◌>>=◌}
+use Rattle.cm_base.specs.Files.{Files}
 use Rattle.cm_base.specs.declared.diag.Diag.{Diag}
 use Rattle.cm_base.specs.declared.record.Def.{Def}
 use Rattle.cm_base.specs.declared.record.Skeleton.{Skeleton}
@@ -13,7 +14,7 @@ use Rattle.visibility.specs.Naming.{names_of}
 use Rattle.visibility.specs.declared.names.Names.{Names}
 use Rattle.dependency_graph.specs.Order.{Placed}
 use Rattle.dependency_graph.specs.Ordered.{cycle_diag, ordered}
-use Rattle.skeleton_asking.specs.Skeletons.{Skeletons, skeletons_of}
+use Rattle.skeleton_asking.specs.Skeletons.{Skeletons, asked_over, skeletons_of, skeletons_over}
 use Rattle.project_planning.specs.declared.plan.Plan.{Plan}
 
 -- ---- the graph of units
@@ -71,3 +72,12 @@ planning_after project defs skeletons = record {
 -- the planning of a project over a compiler with these skeletons
 abbrev pub plan_of : (List ℕ → List ℕ → Result Skeleton Diag) → Project → List Def → Planning
 plan_of skel project defs = planning_after project defs (skeletons_of skel project)
+
+-- .. over files, whoever wrote them: with the skeletons that binfiles have of the same sources
+abbrev pub plan_over : (List ℕ → List ℕ → Result Skeleton Diag) → Files → Project → List Def → Planning
+plan_over skel files project defs = planning_after project defs (skeletons_over skel files project)
+
+-- the compiler's plan, where it is asked for those sources alone of which no binfile in these files was made
+abbrev pub plain_plan : (List ℕ → List ℕ → Result Skeleton Diag) → Files → Project → List Def → Planning
+plain_plan skel files project defs =
+    record { result = (plan_of skel project defs).result; asked = asked_over skel files project }

@@ -2,8 +2,10 @@
 #![tactic(auto)]
 
 mod graph;
+pub mod laws;
 mod plan;
 mod planning;
 
 pub use plan::Plan;
 pub use planning::{make_plan, plan_with};
+pub use skeleton_asking::PlanFault;

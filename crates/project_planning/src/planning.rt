@@ -1,17 +1,21 @@
-//! A project is planned: its skeletons are asked for, its names found, and its units ordered.
+//! A project is planned: its skeletons and its names are found, and its units ordered.
 
-ghost use Rattle.std.specs.Prelude.{◌≡◌, IfOk, length};
-ghost use Rattle.cm_base.specs.Calls.{Asks, Gives};
+ghost use Rattle.std.specs.Prelude.{◌≡◌, ℕ, Err, IfOk, List, length};
+ghost use Rattle.bin_store.specs.GoodStore.{IsGoodStore};
+ghost use Rattle.cm_base.specs.Calls.{Gives};
+ghost use Rattle.cm_base.specs.Causes.{HasCause};
+ghost use Rattle.cm_base.specs.Files.{Told};
 ghost use Rattle.cm_description.specs.WellFormed.{IsWellFormed};
 ghost use Rattle.build_laws.specs.Planned.{HaveSkeletons, NamesDiffer};
+ghost use Rattle.project_planning.specs.Answers.{Plans};
 ghost use Rattle.project_planning.specs.Buildable.{AreProvided, planned_units};
-ghost use Rattle.project_planning.specs.Planning.{plan_of, plan_with};
+ghost use Rattle.project_planning.specs.Planning.{plain_plan, plan_over, plan_with};
 
 use crate::graph::order_of;
 use crate::plan::Plan;
-use cm_base::{Compiler, Def, Fault, List, Skeleton};
+use cm_base::{Compiler, Def, Fault, Folder, List, Skeleton};
 use cm_description::Project;
-use skeleton_asking::ask_skeletons;
+use skeleton_asking::{PlanFault, find_skeletons};
 use std::alloc::Global;
 use visibility::all_names;
 
@@ -45,27 +49,38 @@ pub fn plan_with(
 
 /// The plan of a project, or the first refusal: the first refused skeleton in load order; then what is refused of
 /// names, group by group in the order in which their loading ended (22, 3, 4, 25, 23, 24); then a cycle of units (26).
-/// The compiler is asked for the skeletons of the source units in load order, and for none after a refused one. 2^32
-/// units are want of memory. A build takes the plan as it is: its lists have an entry for each unit, providers are
-/// units, and the units that it names in order have names that differ and the compiler's skeletons.
-pub fn make_plan<C: Compiler>(
+/// Skeletons come out of the binfiles that were made of the same sources; for the others the compiler is asked, in load
+/// order, and for none after a refused one. 2^32 units are want of memory. No file changes.
+///
+/// It is the plan over the store as it stands, whoever wrote it. From a good store it is the compiler's plan. A build
+/// takes it as it is: its lists have an entry for each unit, providers are units, and the units that it names in order
+/// have names that differ, and from a good store the compiler's skeletons.
+pub fn make_plan<F: Folder, C: Compiler>(
     alloc: Global,
+    folder: &mut F,
     compiler: &mut C,
     project: &Project,
     defs: &List<Def>,
-) -> Result<Plan, Fault>
+) -> Result<Plan, PlanFault>
     requires formed { IsWellFormed project.now }
-    ensures gives { Gives result (plan_of C.defines.skel project.now defs.now).result }
-    ensures asks { Asks result (C.asked_skeletons compiler.old) (C.asked_skeletons compiler.new)
-        (plan_of C.defines.skel project.now defs.now).asked }
+    ensures cause { HasCause (F.faults folder.old) (F.faults folder.new) (result ≡ Err PlanFault.Folder) }
+    ensures holds { F.holds folder.new ≡ F.holds folder.old }
+    ensures plans { Told (F.holds folder.old) (λ files. Plans result
+        (plan_over C.defines.skel files project.now defs.now)
+        (C.asked_skeletons compiler.old) (C.asked_skeletons compiler.new)) }
+    ensures plain { Told (F.holds folder.old) (λ files. (known : List (List ℕ)) → IsGoodStore C.defines known files
+        → Plans result (plain_plan C.defines.skel files project.now defs.now)
+        (C.asked_skeletons compiler.old) (C.asked_skeletons compiler.new)) }
     ensures same { C.asked compiler.new ≡ C.asked compiler.old }
     ensures order { IfOk result (λ plan. length plan.order ≡ length project.now.units) }
     ensures skeletons { IfOk result (λ plan. length plan.skeletons ≡ length project.now.units) }
     ensures wanted { IfOk result (λ plan. length plan.wanted ≡ length project.now.units) }
     ensures providers { IfOk result (λ plan. AreProvided project.now plan.wanted) }
     ensures apart { IfOk result (λ plan. NamesDiffer (planned_units project.now plan)) }
-    ensures lawful { IfOk result (λ plan. HaveSkeletons C.defines.skel (planned_units project.now plan)) }
+    ensures lawful { Told (F.holds folder.old) (λ files. (known : List (List ℕ)) → IsGoodStore C.defines known files
+        → IfOk result (λ plan. HaveSkeletons C.defines.skel (planned_units project.now plan))) }
 {
-    let skeletons = ask_skeletons(alloc, compiler, project)?;
-    plan_with(alloc, project, skeletons, defs)
+    let skeletons = find_skeletons(alloc, folder, compiler, project)?;
+    let plan = plan_with(alloc, project, skeletons, defs)?;
+    Ok(plan)
 }

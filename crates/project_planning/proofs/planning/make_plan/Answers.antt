@@ -1,45 +1,78 @@
-use Rattle.std.proofs.Common.{length}
-use Rattle.cm_base.specs.Calls.{Asks, Gives}
-use Rattle.skeleton_asking.specs.Skeletons.{skeletons_of}
-use Rattle.project_planning.specs.Planning.{plan_of}
-use Rattle.project_planning.proofs.Steps.{passed, planned_asks, planned_count, planned_gives, planned_lawful, refused_asks, refused_gives}
+use Rattle.std.specs.Prelude.{Ok, Err}
+use Rattle.skeleton_asking.specs.Faults.{of_fault}
+use Rattle.skeleton_asking.specs.Skeletons.{plain_over, skeletons_over}
+use Rattle.project_planning.specs.Answers.{Plans}
+use Rattle.project_planning.specs.Planning.{plain_plan, plan_over}
+use Rattle.project_planning.proofs.Steps.{found_plain, passed, planned, planned_lawful, refused, unplanned}
 use Rattle.project_planning.proofs.planning.make_plan.Goals as goal
 
-pub returns-in_err-skeletons-clause-gives : goal.returns-in_err-skeletons-clause-gives
-returns-in_err-skeletons-clause-gives g c =
-    let skel = g.C.Compiler.defines.skel in
-    passed c.from_residual.result c.in_err-skeletons.field-0.0
-    (λ r. Gives r (plan_of skel c.args.project.now c.args.defs.now).result) c.from_residual.ensures.1
-    (refused_gives skel c.args.project.now c.args.defs.now c.in_err-skeletons.field-0.0
-    c.in_err-skeletons.ensures.gives)
-
-pub returns-in_err-skeletons-clause-asks : goal.returns-in_err-skeletons-clause-asks
-returns-in_err-skeletons-clause-asks g c =
+pub returns-in_err-skeletons-clause-plans : goal.returns-in_err-skeletons-clause-plans
+returns-in_err-skeletons-clause-plans g c = λ files is.
     let skel = g.C.Compiler.defines.skel in
     let old = g.C.Compiler.asked_skeletons c.args.compiler.now in
-    let new = g.C.Compiler.asked_skeletons c.ask_skeletons.new.compiler in
-    let asked = (skeletons_of skel c.args.project.now).asked in
-    passed c.from_residual.result c.in_err-skeletons.field-0.0 (λ r. Asks r old new asked) c.from_residual.ensures.1
-    (refused_asks c.in_err-skeletons.field-0.0 old new asked c.in_err-skeletons.ensures.asks)
+    let new = g.C.Compiler.asked_skeletons c.find_skeletons.new.compiler in
+    passed c.from_residual.result c.in_err-skeletons.field-0.0
+    (λ r. Plans r (plan_over skel files c.args.project.now c.args.defs.now) old new) c.from_residual.ensures.1
+    (refused c.args.project.now c.args.defs.now (skeletons_over skel files c.args.project.now)
+    c.in_err-skeletons.field-0.0 old new (c.in_err-skeletons.ensures.finds files is))
 
-pub returns-clause-gives : goal.returns-clause-gives
-returns-clause-gives g c =
-    planned_gives g.C.Compiler.defines.skel c.args.project.now c.args.defs.now c.in_ok-skeletons.skeletons
-    c.plan_with.result c.in_ok-skeletons.ensures.gives.0 c.in_ok-skeletons.ensures.gives.1 c.plan_with.ensures.gives
-
-pub returns-clause-asks : goal.returns-clause-asks
-returns-clause-asks g c =
+pub returns-in_err-skeletons-clause-plain : goal.returns-in_err-skeletons-clause-plain
+returns-in_err-skeletons-clause-plain g c = λ files is known good.
     let skel = g.C.Compiler.defines.skel in
-    planned_asks c.plan_with.result (g.C.Compiler.asked_skeletons c.args.compiler.now)
-    (g.C.Compiler.asked_skeletons c.ask_skeletons.new.compiler) (skeletons_of skel c.args.project.now).asked
-    c.in_ok-skeletons.ensures.asks
+    let old = g.C.Compiler.asked_skeletons c.args.compiler.now in
+    let new = g.C.Compiler.asked_skeletons c.find_skeletons.new.compiler in
+    passed c.from_residual.result c.in_err-skeletons.field-0.0
+    (λ r. Plans r (plain_plan skel files c.args.project.now c.args.defs.now) old new) c.from_residual.ensures.1
+    (refused c.args.project.now c.args.defs.now (plain_over skel files c.args.project.now)
+    c.in_err-skeletons.field-0.0 old new
+    (found_plain c.args.project.now (Err c.in_err-skeletons.field-0.0) old new good
+    (c.in_err-skeletons.ensures.finds files is)))
 
-pub returns-clause-skeletons : goal.returns-clause-skeletons
-returns-clause-skeletons g c =
-    planned_count (length c.args.project.now.units) c.in_ok-skeletons.skeletons c.plan_with.result
-    c.in_ok-skeletons.ensures.count c.plan_with.ensures.skeletons
+pub returns-in_err-plan-clause-plans : goal.returns-in_err-plan-clause-plans
+returns-in_err-plan-clause-plans g c = λ files is.
+    let skel = g.C.Compiler.defines.skel in
+    let old = g.C.Compiler.asked_skeletons c.args.compiler.now in
+    let new = g.C.Compiler.asked_skeletons c.find_skeletons.new.compiler in
+    passed c.from_residual-in_err-plan.result (of_fault c.in_err-plan.field-0.0)
+    (λ r. Plans r (plan_over skel files c.args.project.now c.args.defs.now) old new)
+    c.from_residual-in_err-plan.ensures.1
+    (unplanned c.args.project.now c.args.defs.now (skeletons_over skel files c.args.project.now)
+    c.in_ok-skeletons.skeletons c.in_err-plan.field-0.0 old new (c.in_ok-skeletons.ensures.finds files is)
+    c.in_err-plan.ensures.gives)
+
+pub returns-in_err-plan-clause-plain : goal.returns-in_err-plan-clause-plain
+returns-in_err-plan-clause-plain g c = λ files is known good.
+    let skel = g.C.Compiler.defines.skel in
+    let old = g.C.Compiler.asked_skeletons c.args.compiler.now in
+    let new = g.C.Compiler.asked_skeletons c.find_skeletons.new.compiler in
+    passed c.from_residual-in_err-plan.result (of_fault c.in_err-plan.field-0.0)
+    (λ r. Plans r (plain_plan skel files c.args.project.now c.args.defs.now) old new)
+    c.from_residual-in_err-plan.ensures.1
+    (unplanned c.args.project.now c.args.defs.now (plain_over skel files c.args.project.now)
+    c.in_ok-skeletons.skeletons c.in_err-plan.field-0.0 old new
+    (found_plain c.args.project.now (Ok c.in_ok-skeletons.skeletons) old new good
+    (c.in_ok-skeletons.ensures.finds files is))
+    c.in_err-plan.ensures.gives)
+
+pub returns-clause-plans : goal.returns-clause-plans
+returns-clause-plans g c = λ files is.
+    planned c.args.project.now c.args.defs.now (skeletons_over g.C.Compiler.defines.skel files c.args.project.now)
+    c.in_ok-skeletons.skeletons c.in_ok-plan.plan (g.C.Compiler.asked_skeletons c.args.compiler.now)
+    (g.C.Compiler.asked_skeletons c.find_skeletons.new.compiler) (c.in_ok-skeletons.ensures.finds files is)
+    c.in_ok-plan.ensures.gives
+
+pub returns-clause-plain : goal.returns-clause-plain
+returns-clause-plain g c = λ files is known good.
+    let old = g.C.Compiler.asked_skeletons c.args.compiler.now in
+    let new = g.C.Compiler.asked_skeletons c.find_skeletons.new.compiler in
+    planned c.args.project.now c.args.defs.now (plain_over g.C.Compiler.defines.skel files c.args.project.now)
+    c.in_ok-skeletons.skeletons c.in_ok-plan.plan old new
+    (found_plain c.args.project.now (Ok c.in_ok-skeletons.skeletons) old new good
+    (c.in_ok-skeletons.ensures.finds files is))
+    c.in_ok-plan.ensures.gives
 
 pub returns-clause-lawful : goal.returns-clause-lawful
-returns-clause-lawful g c =
-    planned_lawful g.C.Compiler.defines.skel c.args.project.now c.in_ok-skeletons.skeletons c.plan_with.result
-    c.in_ok-skeletons.ensures.gives.0 c.in_ok-skeletons.ensures.gives.1 c.plan_with.ensures.skeletons
+returns-clause-lawful g c = λ files is known good.
+    planned_lawful c.args.project.now c.in_ok-skeletons.skeletons c.in_ok-plan.plan
+    (g.C.Compiler.asked_skeletons c.args.compiler.now) (g.C.Compiler.asked_skeletons c.find_skeletons.new.compiler) good
+    (c.in_ok-skeletons.ensures.finds files is) c.in_ok-plan.ensures.skeletons
