@@ -1,5 +1,5 @@
 -- The work of a command: what it does, from what the build of its units and its linking do.
-use Rattle.std.proofs.Common.{◌≡◌, ◌∙◌, sym, ap₂, subst, refl, ℕ, List, [], ◌++◌, Option, Some, None, append-nil}
+use Rattle.std.proofs.Common.{◌≡◌, ◌∙◌, sym, ap₂, subst, refl, inl, ℕ, List, [], ◌++◌, Option, Some, None, append-nil}
 use Rattle.std.specs.Prelude.{Result, Ok, Err, IsErrAnd}
 use Rattle.std.proofs.lemmas.List.Elements.{Contains-append_left}
 use Rattle.cm_base.specs.Definitions.{Definitions}
@@ -18,11 +18,12 @@ use Rattle.bin_store.proofs.GoodAfter.{store_is_good, store_more}
 use Rattle.build_laws.specs.CutBuild.{Cut, cut_build}
 use Rattle.build_laws.specs.Left.{KeepsProject, LeftByCut}
 use Rattle.build_laws.specs.PlainBuild.{plain_build}
-use Rattle.build_laws.specs.Planned.{interfaces_of, HaveSkeletons, NamesDiffer}
+use Rattle.build_laws.specs.Planned.{interfaces_of, NamesDiffer}
 use Rattle.cutoff_builder.specs.Answers.{Cuts}
 use Rattle.cutoff_builder.specs.Theorem.{Builds}
 use Rattle.cutoff_builder.specs.declared.builder.BuildFault.TheVariants as stop
-use Rattle.cm_top.specs.Answers.{AsksFor, Does, EndsSo, TouchesLinked, Works, WorksWell}
+use Rattle.cm_top.specs.Answers.{AsksFor, Does, EndsSo, IsOutside, LawfulFromGood, TouchesLinked, Works, WorksWell}
+use Rattle.cm_top.specs.Headline.{KeepsOthers}
 use Rattle.cm_top.specs.Lines.{report as report_text, diag_line}
 use Rattle.cm_top.specs.Meaning.{ended_in, ended_with, interfaces_in, linked_paths, paths_in, status_of, with_linked, written_paths}
 use Rattle.cm_top.specs.ProjectBuild.{built, ending, plain_over, store_over}
@@ -31,95 +32,116 @@ use Rattle.cm_top.specs.declared.work.Report.{Report}
 use Rattle.cm_top.specs.declared.work.WorkFault.{WorkFault}
 use Rattle.cm_top.proofs.Agreeing.{agrees}
 use Rattle.cm_top.proofs.Framing.{cut_frame, left_frame}
-use Rattle.cm_top.proofs.LinkLeaves.{link_good, link_keeps, link_outside}
+use Rattle.cm_top.proofs.LinkLeaves.{link_good, link_keeps, link_others}
 use Rattle.cm_top.proofs.Showing.{interfaces_marked}
+use Rattle.cm_top.proofs.TargetLeaves.{others_of}
 
 -- ---- where nothing is written
 
-same_project : (files : Files) (holds : Option Files) → holds ≡ Some files → KeepsProject files holds
-same_project files holds is = record { after = files; tells = is; kept = λ path outside. refl }
+same_project : (files : Files) (target : Option (List ℕ)) (holds : Option Files) → holds ≡ Some files
+    → KeepsOthers target files holds
+same_project files target holds is =
+    record { after = files; tells = is; kept = λ path outside apart. refl; last = λ path at. inl refl }
 
 still_good : (by : Definitions) (known more : List (List ℕ)) (files : Files) (holds : Option Files) → holds ≡ Some files
     → IsGoodStore by known files → StoreIsGood by (known ++ more) holds
 still_good by known more files holds is good =
     store_more (λ t h. Contains-append_left known more t h) (store_is_good is good)
 
-nothing_well : (by : Definitions) (files : Files) (cut : Cut) (result : Result Report WorkFault) (holds : Option Files)
-    (before after : List (List ℕ)) → holds ≡ Some files → Works result cut holds before after
-    → (known : List (List ℕ)) → IsGoodStore by known files → WorksWell by known files result cut holds before after
-nothing_well by files cut result holds before after is works known good = record {
+nothing_well : (by : Definitions) (files : Files) (target : Option (List ℕ)) (cut : Cut)
+    (result : Result Report WorkFault) (holds : Option Files) (before after : List (List ℕ)) → holds ≡ Some files
+    → Works target result cut holds before after → (known : List (List ℕ)) → IsGoodStore by known files
+    → WorksWell by known files target result cut holds before after
+nothing_well by files target cut result holds before after is works known good = record {
   works = works;
-  frame = keeps_same (Some files) holds (written_paths cut) is;
+  frame = keeps_same (Some files) holds (written_paths target cut) is;
   good = still_good by known (interfaces_in cut.units) files holds is good;
 }
 
 -- work that was cut off before its first unit
-cut_works : (cut : Cut) (fault : WorkFault) (holds : Option Files) (before : List (List ℕ))
-    → Works (Err fault) cut holds before before
-cut_works cut fault holds before = record { ends = tt; asks = grows_none before before cut.asked refl }
+cut_works : (target : Option (List ℕ)) (cut : Cut) (fault : WorkFault) (holds : Option Files) (before : List (List ℕ))
+    → Works target (Err fault) cut holds before before
+cut_works target cut fault holds before = record { ends = tt; asks = grows_none before before cut.asked refl }
 
-pub does_nothing : (by : Definitions) (files : Files) (units : Result (List PlannedUnit) Diag) (fault : WorkFault)
-    (holds : Option Files) (before : List (List ℕ)) → holds ≡ Some files → Does by files units (Err fault) holds before before
-does_nothing by files units fault holds before is = record {
-  over_store = cut_works (built (store_over by) files units) fault holds before;
-  frame = keeps_same (Some files) holds (written_paths (built (store_over by) files units)) is;
+pub does_nothing : (by : Definitions) (files : Files) (target : Option (List ℕ))
+    (over plain : Result (List PlannedUnit) Diag) (fault : WorkFault) (holds : Option Files) (before : List (List ℕ))
+    → holds ≡ Some files → Does by files target over plain (Err fault) holds before before
+does_nothing by files target over plain fault holds before is = record {
+  over_store = cut_works target (built (store_over by) files over) fault holds before;
+  frame = keeps_same (Some files) holds (written_paths target (built (store_over by) files over)) is;
   from_good = λ known apart good.
-      nothing_well by files (built (plain_over by) files units) (Err fault) holds before before is
-      (cut_works (built (plain_over by) files units) fault holds before) known good;
-  project = same_project files holds is;
+      nothing_well by files target (built (plain_over by) files plain) (Err fault) holds before before is
+      (cut_works target (built (plain_over by) files plain) fault holds before) known good;
+  project = same_project files target holds is;
 }
 
 -- a refusal before the first unit
-refused_works : (files : Files) (diag : Diag) (report : Report) (holds : Option Files) (before : List (List ℕ))
-    → holds ≡ Some files → report.status ≡ status.Diagnostic → report.text ≡ diag_line diag
-    → Works (Ok report) (ending [] (Some diag) files) holds before before
-refused_works files diag report holds before is stands says = record {
+refused_works : (files : Files) (target : Option (List ℕ)) (diag : Diag) (report : Report) (holds : Option Files)
+    (before : List (List ℕ)) → holds ≡ Some files → report.status ≡ status.Diagnostic → report.text ≡ diag_line diag
+    → Works target (Ok report) (ending [] (Some diag) files) holds before before
+refused_works files target diag report holds before is stands says = record {
   ends = record { status = stands; text = says; files = is };
   asks = sym (append-nil before);
 }
 
-pub does_refused : (by : Definitions) (files : Files) (units : Result (List PlannedUnit) Diag) (diag : Diag) (report : Report)
-    (holds : Option Files) (before : List (List ℕ)) → units ≡ Err diag → holds ≡ Some files
-    → report.status ≡ status.Diagnostic → report.text ≡ diag_line diag → Does by files units (Ok report) holds before before
-does_refused by files units diag report holds before refused is stands says =
-    subst (λ u. Does by files u (Ok report) holds before before) (sym refused)
-    (record {
-      over_store = refused_works files diag report holds before is stands says;
-      frame = keeps_same (Some files) holds (written_paths (ending [] (Some diag) files)) is;
-      from_good = λ known apart good.
-          nothing_well by files (ending [] (Some diag) files) (Ok report) holds before before is
-          (refused_works files diag report holds before is stands says) known good;
-      project = same_project files holds is;
-    })
+-- what is planned in a good store is what the compiler's skeletons give
+abbrev pub SameFromGood : Definitions → Files → Result (List PlannedUnit) Diag → Result (List PlannedUnit) Diag → Type 0
+SameFromGood by files plain same = (known : List (List ℕ)) → IsGoodStore by known files → plain ≡ same
 
--- the same work of units that are the same
-pub does_same : (by : Definitions) (files : Files) (units same : Result (List PlannedUnit) Diag)
-    (result : Result Report WorkFault) (holds : Option Files) (before after : List (List ℕ)) → units ≡ same
-    → Does by files same result holds before after → Does by files units result holds before after
-does_same by files units same result holds before after is does =
-    subst (λ u. Does by files u result holds before after) (sym is) does
+-- the work of units is that of the same units, which a good store's may be taken for
+pub does_same : (by : Definitions) (files : Files) (target : Option (List ℕ))
+    (over plain same : Result (List PlannedUnit) Diag) (result : Result Report WorkFault) (holds : Option Files)
+    (before after : List (List ℕ)) → over ≡ same → SameFromGood by files plain same
+    → Does by files target same same result holds before after → Does by files target over plain result holds before after
+does_same by files target over plain same result holds before after is from_good does = record {
+  over_store = subst (λ u. Works target result (built (store_over by) files u) holds before after) (sym is) does.over_store;
+  frame = subst (λ u. Keeps (Some files) holds (written_paths target (built (store_over by) files u))) (sym is) does.frame;
+  from_good = λ known apart good.
+      subst (λ u. HashesApart (known ++ interfaces_in (built (plain_over by) files u).units)
+      → WorksWell by known files target result (built (plain_over by) files u) holds before after)
+      (sym (from_good known good)) (λ apart'. does.from_good known apart' good) apart;
+  project = does.project;
+}
+
+pub does_refused : (by : Definitions) (files : Files) (target : Option (List ℕ))
+    (over plain : Result (List PlannedUnit) Diag) (diag : Diag) (report : Report) (holds : Option Files)
+    (before : List (List ℕ)) → over ≡ Err diag → SameFromGood by files plain (Err diag) → holds ≡ Some files
+    → report.status ≡ status.Diagnostic → report.text ≡ diag_line diag
+    → Does by files target over plain (Ok report) holds before before
+does_refused by files target over plain diag report holds before refused from_good is stands says =
+    does_same by files target over plain (Err diag) (Ok report) holds before before refused from_good
+    (record {
+      over_store = refused_works files target diag report holds before is stands says;
+      frame = keeps_same (Some files) holds (written_paths target (ending [] (Some diag) files)) is;
+      from_good = λ known apart good.
+          nothing_well by files target (ending [] (Some diag) files) (Ok report) holds before before is
+          (refused_works files target diag report holds before is stands says) known good;
+      project = same_project files target holds is;
+    })
 
 -- ---- a build that ended, and its linking
 
-ended_works : (cut : Cut) (units : List BuiltUnit) (ended : Option Diag) (between new : Option Files)
-    (result : Result Report WorkFault) (before after : List (List ℕ)) → cut.units ≡ units → cut.ended ≡ ended
-    → between ≡ Some cut.files → Told between (λ files. EndsSo result (ending units ended files) new)
-    → after ≡ before ++ cut.asked → Works result cut new before after
-ended_works cut units ended between new (Ok report) before after are stops is ends asked =
+ended_works : (target : Option (List ℕ)) (cut : Cut) (units : List BuiltUnit) (ended : Option Diag)
+    (between new : Option Files) (result : Result Report WorkFault) (before after : List (List ℕ)) → cut.units ≡ units
+    → cut.ended ≡ ended → between ≡ Some cut.files
+    → Told between (λ files. EndsSo target result (ending units ended files) new)
+    → after ≡ before ++ cut.asked → Works target result cut new before after
+ended_works target cut units ended between new (Ok report) before after are stops is ends asked =
     let so = ends cut.files is in
     record {
       ends = record {
         status = so.status ∙ ap₂ (λ e us. status_of (ended_with e us)) (sym stops) (sym are);
         text = so.text ∙ ap₂ (λ e us. report_text us (ended_with e us)) (sym stops) (sym are);
-        files = so.files ∙ ap₂ (λ e us. Some (with_linked (ended_with e us) us cut.files)) (sym stops) (sym are);
+        files = so.files ∙ ap₂ (λ e us. Some (with_linked target (ended_with e us) us cut.files)) (sym stops) (sym are);
       };
       asks = asked;
     }
-ended_works cut units ended between new (Err fault) before after are stops is ends asked =
+ended_works target cut units ended between new (Err fault) before after are stops is ends asked =
     record { ends = tt; asks = grows_all before after cut.asked asked }
 
-module _ (by : Definitions) (files : Files) (planned : List PlannedUnit) (before after : List (List ℕ))
-    (differ : NamesDiffer planned) (lawful : HaveSkeletons by.skel planned) where
+module _ (by : Definitions) (files : Files) (target : Option (List ℕ)) (outside : IsOutside target)
+    (planned : List PlannedUnit) (before after : List (List ℕ)) (differ : NamesDiffer planned)
+    (lawful : LawfulFromGood by files planned) where
   abbrev over : Cut
   over = store_over by files planned
 
@@ -145,93 +167,95 @@ module _ (by : Definitions) (files : Files) (planned : List PlannedUnit) (before
       → StoreIsGood by (known ++ interfaces_of (plain_build by.compiled planned).units) new
 
   -- over a good store the build is the plain build as it comes, so what holds of the one holds of the other
-  does_over : (result : Result Report WorkFault) (new : Option Files) → Works result over new before after
-      → Keeps (Some files) new (written_paths over) → LeavesGood new → KeepsProject files new
-      → Does by files (Ok planned) result new before after
-  does_over result new works frame leaves outside = record {
+  does_over : (result : Result Report WorkFault) (new : Option Files) → Works target result over new before after
+      → Keeps (Some files) new (written_paths target over) → LeavesGood new → KeepsOthers target files new
+      → Does by files target (Ok planned) (Ok planned) result new before after
+  does_over result new works frame leaves others = record {
     over_store = works;
     frame = frame;
     from_good = λ known apart good.
-        let same : over ≡ come = agrees by known files planned differ lawful (plain_apart known apart) good in
+        let same : over ≡ come = agrees by known files planned differ (lawful known good) (plain_apart known apart) good in
         record {
-          works = subst (λ cut. Works result cut new before after) same works;
-          frame = subst (λ cut. Keeps (Some files) new (written_paths cut)) same frame;
+          works = subst (λ cut. Works target result cut new before after) same works;
+          frame = subst (λ cut. Keeps (Some files) new (written_paths target cut)) same frame;
           good = shown_good known new (leaves known (plain_apart known apart) good);
         };
-    project = outside;
+    project = others;
   }
 
   -- a build that ended, and of which the linked program may have been touched
   ended_frame : (units : List BuiltUnit) (ended : Option Diag) (between new : Option Files) → over.units ≡ units
-      → over.ended ≡ ended → between ≡ Some over.files → TouchesLinked (ended_with ended units) between new
-      → Keeps (Some files) new (written_paths over)
+      → over.ended ≡ ended → between ≡ Some over.files → TouchesLinked target (ended_with ended units) between new
+      → Keeps (Some files) new (written_paths target over)
   ended_frame units ended between new are stops is touches =
       keeps_then
       (subst (λ o. Keeps (Some files) o (paths_in over.units)) (sym is) (cut_frame by.compiled planned files []))
-      (link_keeps (ended_in over) between new
-      (subst (λ f. TouchesLinked f between new) (ap₂ ended_with (sym stops) (sym are)) touches))
+      (link_keeps target (ended_in over) between new
+      (subst (λ f. TouchesLinked target f between new) (ap₂ ended_with (sym stops) (sym are)) touches))
 
   pub does_built : (built : Built) (between new : Option Files) (result : Result Report WorkFault)
       → Cuts (Ok built) by.compiled files planned (cut_build by.compiled files planned) between before after
       → Builds by files planned (Ok built) between before after → KeepsProject files between
-      → Told between (λ files. EndsSo result (ending built.units None files) new)
-      → TouchesLinked (ended_with None built.units) between new
-      → Does by files (Ok planned) result new before after
-  does_built built between new result cuts builds outside ends touches =
+      → Told between (λ files. EndsSo target result (ending built.units None files) new)
+      → TouchesLinked target (ended_with None built.units) between new
+      → Does by files target (Ok planned) (Ok planned) result new before after
+  does_built built between new result cuts builds kept ends touches =
       does_over result new
-      (ended_works over built.units None between new result before after cuts.leaves.0 cuts.leaves.1 cuts.leaves.2 ends
+      (ended_works target over built.units None between new result before after cuts.leaves.0 cuts.leaves.1 cuts.leaves.2 ends
       cuts.asks)
       (ended_frame built.units None between new cuts.leaves.0 cuts.leaves.1 cuts.leaves.2 touches)
-      (λ known apart good. link_good by (known ++ interfaces_of (plain_build by.compiled planned).units)
-      (ended_with None built.units) between new touches (builds known differ lawful apart good).good)
-      (link_outside files (ended_with None built.units) between new touches outside)
+      (λ known apart good. link_good by (known ++ interfaces_of (plain_build by.compiled planned).units) target
+      (ended_with None built.units) between new outside touches (builds known differ (lawful known good) apart good).good)
+      (link_others files target (ended_with None built.units) between new outside touches kept)
 
   pub does_stopped : (diag : Diag) (done : Built) (between new : Option Files) (result : Result Report WorkFault)
       → Cuts (Err (stop.Stop diag done)) by.compiled files planned (cut_build by.compiled files planned) between before after
       → Builds by files planned (Err (stop.Stop diag done)) between before after → KeepsProject files between
-      → Told between (λ files. EndsSo result (ending done.units (Some diag) files) new)
-      → TouchesLinked (ended_with (Some diag) done.units) between new
-      → Does by files (Ok planned) result new before after
-  does_stopped diag done between new result cuts builds outside ends touches =
+      → Told between (λ files. EndsSo target result (ending done.units (Some diag) files) new)
+      → TouchesLinked target (ended_with (Some diag) done.units) between new
+      → Does by files target (Ok planned) (Ok planned) result new before after
+  does_stopped diag done between new result cuts builds kept ends touches =
       does_over result new
-      (ended_works over done.units (Some diag) between new result before after cuts.leaves.0 cuts.leaves.1 cuts.leaves.2
+      (ended_works target over done.units (Some diag) between new result before after cuts.leaves.0 cuts.leaves.1 cuts.leaves.2
       ends cuts.asks)
       (ended_frame done.units (Some diag) between new cuts.leaves.0 cuts.leaves.1 cuts.leaves.2 touches)
-      (λ known apart good. link_good by (known ++ interfaces_of (plain_build by.compiled planned).units)
-      (ended_with (Some diag) done.units) between new touches (builds known differ lawful apart good).good)
-      (link_outside files (ended_with (Some diag) done.units) between new touches outside)
+      (λ known apart good. link_good by (known ++ interfaces_of (plain_build by.compiled planned).units) target
+      (ended_with (Some diag) done.units) between new outside touches (builds known differ (lawful known good) apart good).good)
+      (link_others files target (ended_with (Some diag) done.units) between new outside touches kept)
 
   -- a build that was cut off
   cut_written : (new : Option Files) → LeftByCut by.compiled files planned new
-      → Keeps (Some files) new (written_paths over)
+      → Keeps (Some files) new (written_paths target over)
   cut_written new left =
       keeps_wider (left_frame by.compiled files planned new left)
-      (λ q h. Contains-append_left (paths_in over.units) (linked_paths (ended_in over)) q h)
+      (λ q h. Contains-append_left (paths_in over.units) (linked_paths target (ended_in over)) q h)
 
   pub does_failed : (new : Option Files) (fault : WorkFault)
       → Cuts (Err stop.Folder) by.compiled files planned (cut_build by.compiled files planned) new before after
       → Builds by files planned (Err stop.Folder) new before after → KeepsProject files new
-      → Does by files (Ok planned) (Err fault) new before after
-  does_failed new fault cuts builds outside =
+      → Does by files target (Ok planned) (Ok planned) (Err fault) new before after
+  does_failed new fault cuts builds kept =
       does_over (Err fault) new (record { ends = tt; asks = cuts.asks }) (cut_written new cuts.leaves)
-      (λ known apart good. (builds known differ lawful apart good).good) outside
+      (λ known apart good. (builds known differ (lawful known good) apart good).good) (others_of target files new outside kept)
 
   pub does_wanting : (new : Option Files) (fault : WorkFault)
       → Cuts (Err stop.NoMemory) by.compiled files planned (cut_build by.compiled files planned) new before after
       → Builds by files planned (Err stop.NoMemory) new before after → KeepsProject files new
-      → Does by files (Ok planned) (Err fault) new before after
-  does_wanting new fault cuts builds outside =
+      → Does by files target (Ok planned) (Ok planned) (Err fault) new before after
+  does_wanting new fault cuts builds kept =
       does_over (Err fault) new (record { ends = tt; asks = cuts.asks }) (cut_written new cuts.leaves)
-      (λ known apart good. (builds known differ lawful apart good).good) outside
+      (λ known apart good. (builds known differ (lawful known good) apart good).good) (others_of target files new outside kept)
 
 -- ---- whatever the answer
 
 -- a call whose step was refused memory
-pub does_stopped_early : (by : Definitions) (files : Files) (units : Result (List PlannedUnit) Diag)
-    (result : Result Report WorkFault) (P : WorkFault → Type 0) (holds : Option Files) (before : List (List ℕ))
-    → IsErrAnd result P → holds ≡ Some files → Does by files units result holds before before
-does_stopped_early by files units (Ok report) P holds before failed is = absurd failed
-does_stopped_early by files units (Err fault) P holds before failed is = does_nothing by files units fault holds before is
+pub does_stopped_early : (by : Definitions) (files : Files) (target : Option (List ℕ))
+    (over plain : Result (List PlannedUnit) Diag) (result : Result Report WorkFault) (P : WorkFault → Type 0)
+    (holds : Option Files) (before : List (List ℕ)) → IsErrAnd result P → holds ≡ Some files
+    → Does by files target over plain result holds before before
+does_stopped_early by files target before_it plain (Ok report) P holds before failed is = absurd failed
+does_stopped_early by files target before_it plain (Err fault) P holds before failed is =
+    does_nothing by files target before_it plain fault holds before is
 
 -- what was asked for is all that is asked for, whatever was done then
 pub asks_all : (result : Result Report WorkFault) (asked before after : List (List ℕ)) → after ≡ before ++ asked

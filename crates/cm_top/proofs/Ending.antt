@@ -1,6 +1,6 @@
 -- How a command ends, from the work that was done and what was printed.
-use Rattle.std.proofs.Common.{◌≡◌, ◌≢◌, ◌∙◌, sym, ap, refl, inl, inr, arith, ℕ, List, [], ◌++◌, Option, Some, take, append-nil}
-use Rattle.std.specs.Prelude.{Result, Ok, Err}
+use Rattle.std.proofs.Common.{◌≡◌, ◌≢◌, ◌∙◌, sym, ap, refl, inl, inr, arith, ℕ, List, [], ◌++◌, Option, Some, None, take, append-nil}
+use Rattle.std.specs.Prelude.{Contains, Result, Ok, Err}
 use Rattle.std.proofs.lemmas.List.Elements.{Contains-append_left}
 use Rattle.cm_base.specs.Causes.{Rose}
 use Rattle.cm_base.specs.Definitions.{Definitions}
@@ -9,15 +9,27 @@ use Rattle.cm_base.specs.Fronts.{GrowsUpTo}
 use Rattle.cm_base.proofs.FrontLemmas.{grows_all, grows_none}
 use Rattle.cm_base.proofs.KeepingLemmas.{keeps_same}
 use Rattle.bin_store.proofs.GoodAfter.{store_is_good, store_more}
-use Rattle.build_laws.specs.Left.{KeepsProject}
-use Rattle.cm_top.specs.Answers.{Does, Prints, Works}
-use Rattle.cm_top.specs.Headline.{Completes, Ends, IsAsPromised, IsCutOff, IsMeaning, IsUsageEnd, Run, Stays}
-use Rattle.cm_top.specs.Meaning.{Meaning, of_build}
-use Rattle.cm_top.specs.ProjectBuild.{Builder, Prepared, built, plain_over, store_over}
+use Rattle.command_words.specs.declared.command.Command.{Command}
+use Rattle.cm_top.specs.Answers.{AsksFor, AsksFromGood, Does, Prints, Works}
+use Rattle.cm_top.specs.Headline.{Completes, Ends, FromGood, IsAsPromised, IsCutOff, IsCutShort, IsMeaning, IsUsageEnd, KeepsOthers, Run, Stays}
+use Rattle.cm_top.specs.Meaning.{Meaning, of_build, of_command, prints_last}
+use Rattle.cm_top.specs.ProjectBuild.{Builder, Prepared, Way, built, plain_over, store_over}
 use Rattle.cm_top.specs.declared.status.Status.{Status}
 use Rattle.cm_top.specs.declared.status.Status.TheVariants as status
 use Rattle.cm_top.specs.declared.work.Report.{Report}
 use Rattle.cm_top.specs.declared.work.WorkFault.{WorkFault}
+
+-- a command that prints all at its end may be cut off before
+pub nothing_printed : Contains prints_last []
+nothing_printed = (0, omega arith, refl)
+
+pub command_cut : (way : Way) (files : Files) (command : Option Command) → Contains (of_command way files command).cuts []
+command_cut way files None = nothing_printed
+command_cut way files (Some command) = nothing_printed
+
+pub cut_short : (m : Meaning) (run : Run) (printed : List ℕ) → Contains m.cuts printed → IsCutOff m printed run
+    → IsCutShort m run
+cut_short m run printed one off = record { printed = printed; one = one; cut = off }
 
 -- what was asked is all that is asked, and so a front of it
 module _ (m : Meaning) (run : Run) (old : Option (List ℕ)) where
@@ -40,16 +52,16 @@ module _ (m : Meaning) (run : Run) (old : Option (List ℕ)) where
   -- a command whose work was done ends as it means, or its printing was cut off
   pub after_print : (result plain : Status) (output : List ℕ) → plain ≡ m.status → output ≡ m.output
       → old ≡ Some run.text → run.holds ≡ Some m.files → run.asked_then ≡ run.asked ++ m.asked
-      → run.skeletons_then ≡ run.skeletons ++ m.asked_skeletons → Prints result plain old run.written output
-      → Ends result m run
-  after_print status.Ok plain output stands is before files asked skeletons prints =
+      → run.skeletons_then ≡ run.skeletons ++ m.asked_skeletons → Contains m.cuts []
+      → Prints result plain old run.written output → Ends result m run
+  after_print status.Ok plain output stands is before files asked skeletons quiet prints =
       whole status.Ok plain output stands is before files asked skeletons prints.0 prints.1
-  after_print status.Diagnostic plain output stands is before files asked skeletons prints =
+  after_print status.Diagnostic plain output stands is before files asked skeletons quiet prints =
       whole status.Diagnostic plain output stands is before files asked skeletons prints.0 prints.1
-  after_print status.Usage plain output stands is before files asked skeletons prints =
+  after_print status.Usage plain output stands is before files asked skeletons quiet prints =
       whole status.Usage plain output stands is before files asked skeletons prints.0 prints.1
-  after_print status.FolderFault plain output stands is before files asked skeletons prints = absurd prints
-  after_print status.SinkFault plain output stands is before files asked skeletons prints = (
+  after_print status.FolderFault plain output stands is before files asked skeletons quiet prints = absurd prints
+  after_print status.SinkFault plain output stands is before files asked skeletons quiet prints = (
     prints.0,
     cut (take prints.0 m.output)
         (prints.1 ∙ ap (told (λ written. written ++ take prints.0 output)) before
@@ -57,17 +69,17 @@ module _ (m : Meaning) (run : Run) (old : Option (List ℕ)) where
         (grows_all run.asked run.asked_then m.asked asked)
         (grows_all run.skeletons run.skeletons_then m.asked_skeletons skeletons),
   )
-  after_print status.NoMemory plain output stands is before files asked skeletons prints =
-      cut [] (prints ∙ before ∙ ap Some (sym (append-nil run.text)))
+  after_print status.NoMemory plain output stands is before files asked skeletons quiet prints =
+      cut_short m run [] quiet (cut [] (prints ∙ before ∙ ap Some (sym (append-nil run.text)))
       (grows_all run.asked run.asked_then m.asked asked)
-      (grows_all run.skeletons run.skeletons_then m.asked_skeletons skeletons)
-  after_print status.ToolFault plain output stands is before files asked skeletons prints = absurd prints
+      (grows_all run.skeletons run.skeletons_then m.asked_skeletons skeletons))
+  after_print status.ToolFault plain output stands is before files asked skeletons quiet prints = absurd prints
 
   -- a command whose work was cut off printed nothing
-  pub after_cut : run.written ≡ old → old ≡ Some run.text → GrowsUpTo run.asked run.asked_then m.asked
-      → GrowsUpTo run.skeletons run.skeletons_then m.asked_skeletons → IsCutOff m [] run
-  after_cut same before asked skeletons =
-      cut [] (same ∙ before ∙ ap Some (sym (append-nil run.text))) asked skeletons
+  pub after_cut : run.written ≡ old → old ≡ Some run.text → Contains m.cuts [] → GrowsUpTo run.asked run.asked_then m.asked
+      → GrowsUpTo run.skeletons run.skeletons_then m.asked_skeletons → IsCutShort m run
+  after_cut same before quiet asked skeletons =
+      cut_short m run [] quiet (cut [] (same ∙ before ∙ ap Some (sym (append-nil run.text))) asked skeletons)
 
 -- ---- where nothing is written
 
@@ -80,74 +92,93 @@ stays_still by files m holds is = record {
       store_more (λ t h. Contains-append_left known m.interfaces t h) (store_is_good is good);
 }
 
-pub same_outside : (files : Files) (holds : Option Files) → holds ≡ Some files → KeepsProject files holds
-same_outside files holds is = record { after = files; tells = is; kept = λ path outside. refl }
+pub same_outside : (target : Option (List ℕ)) (files : Files) (holds : Option Files) → holds ≡ Some files
+    → KeepsOthers target files holds
+same_outside target files holds is =
+    record { after = files; tells = is; kept = λ path outside apart. refl; last = λ path at. inl refl }
 
 -- nothing was done at all: want of memory
 pub nothing_done : (m : Meaning) (run : Run) (old : Option (List ℕ)) → run.written ≡ old → old ≡ Some run.text
-    → run.asked_then ≡ run.asked → run.skeletons_then ≡ run.skeletons → IsCutOff m [] run
-nothing_done m run old same before asked skeletons =
-    after_cut m run old same before (grows_none run.asked run.asked_then m.asked asked)
+    → run.asked_then ≡ run.asked → run.skeletons_then ≡ run.skeletons → Contains m.cuts [] → IsCutShort m run
+nothing_done m run old same before asked skeletons quiet =
+    after_cut m run old same before quiet (grows_none run.asked run.asked_then m.asked asked)
     (grows_none run.skeletons run.skeletons_then m.asked_skeletons skeletons)
 
 -- ---- builds
 
-module _ (by : Definitions) (files : Files) (ready : Prepared) (run : Run) (old : Option (List ℕ)) where
+-- what was prepared: over the store as it stands, and with the compiler's skeletons
+module _ (by : Definitions) (files : Files) (target : Option (List ℕ)) (over plain : Prepared) (run : Run)
+    (old : Option (List ℕ)) where
   -- a build whose report was printed, or whose printing was cut off
-  printed : (over : Builder) (result : Status) (report : Report)
-      → Works (Ok report) (built over files ready.units) run.holds run.asked run.asked_then → old ≡ Some run.text
+  printed : (builds : Builder) (ready : Prepared) (result : Status) (report : Report)
+      → Works target (Ok report) (built builds files ready.units) run.holds run.asked run.asked_then → old ≡ Some run.text
       → run.skeletons_then ≡ run.skeletons ++ ready.asked_skeletons
-      → Prints result report.status old run.written report.text → Ends result (of_build over files ready) run
-  printed over result report works before skeletons prints =
-      after_print (of_build over files ready) run old result report.status report.text works.ends.status works.ends.text
-      before works.ends.files works.asks skeletons prints
+      → Prints result report.status old run.written report.text → Ends result (of_build builds files target ready) run
+  printed builds ready result report works before skeletons prints =
+      after_print (of_build builds files target ready) run old result report.status report.text works.ends.status
+      works.ends.text before works.ends.files works.asks skeletons nothing_printed prints
 
   pub does_printed : (result : Status) (report : Report)
-      → Does by files ready.units (Ok report) run.holds run.asked run.asked_then → old ≡ Some run.text
-      → run.skeletons_then ≡ run.skeletons ++ ready.asked_skeletons
-      → Prints result report.status old run.written report.text → Ends result (of_build (store_over by) files ready) run
+      → Does by files target over.units plain.units (Ok report) run.holds run.asked run.asked_then → old ≡ Some run.text
+      → AsksFor (Ok report) over.asked_skeletons run.skeletons run.skeletons_then
+      → Prints result report.status old run.written report.text
+      → Ends result (of_build (store_over by) files target over) run
   does_printed result report does before skeletons prints =
-      printed (store_over by) result report does.over_store before skeletons prints
+      printed (store_over by) over result report does.over_store before skeletons prints
 
   pub promised_printed : (result : Status) (report : Report)
-      → Does by files ready.units (Ok report) run.holds run.asked run.asked_then → old ≡ Some run.text
-      → run.skeletons_then ≡ run.skeletons ++ ready.asked_skeletons
+      → Does by files target over.units plain.units (Ok report) run.holds run.asked run.asked_then → old ≡ Some run.text
+      → AsksFromGood by files (Ok report) plain.asked_skeletons run.skeletons run.skeletons_then
       → Prints result report.status old run.written report.text
-      → IsAsPromised by files (of_build (plain_over by) files ready) result run
+      → IsAsPromised by files (of_build (plain_over by) files target plain) result run
   promised_printed result report does before skeletons prints = record {
     ends = λ known apart good.
-        printed (plain_over by) result report (does.from_good known apart good).works before skeletons prints;
+        printed (plain_over by) plain result report (does.from_good known apart good).works before (skeletons known good)
+        prints;
   }
 
   -- a build that was cut off
-  pub cut_off : (over : Builder) (fault : WorkFault)
-      → Works (Err fault) (built over files ready.units) run.holds run.asked run.asked_then → old ≡ Some run.text
+  cut_off : (builds : Builder) (ready : Prepared) (fault : WorkFault)
+      → Works target (Err fault) (built builds files ready.units) run.holds run.asked run.asked_then → old ≡ Some run.text
       → run.written ≡ old → GrowsUpTo run.skeletons run.skeletons_then ready.asked_skeletons
-      → IsCutOff (of_build over files ready) [] run
-  cut_off over fault works before same skeletons =
-      after_cut (of_build over files ready) run old same before works.asks skeletons
+      → IsCutShort (of_build builds files target ready) run
+  cut_off builds ready fault works before same skeletons =
+      after_cut (of_build builds files target ready) run old same before nothing_printed works.asks skeletons
+
+  pub does_cut : (fault : WorkFault)
+      → Does by files target over.units plain.units (Err fault) run.holds run.asked run.asked_then → old ≡ Some run.text
+      → run.written ≡ old → AsksFor (Err fault) over.asked_skeletons run.skeletons run.skeletons_then
+      → IsCutShort (of_build (store_over by) files target over) run
+  does_cut fault does before same skeletons =
+      cut_off (store_over by) over fault does.over_store before same skeletons
+
+  -- .. as it is promised
+  promised_cut : (fault : WorkFault)
+      → Does by files target over.units plain.units (Err fault) run.holds run.asked run.asked_then → old ≡ Some run.text
+      → run.written ≡ old → AsksFromGood by files (Err fault) plain.asked_skeletons run.skeletons run.skeletons_then
+      → FromGood by files (of_build (plain_over by) files target plain)
+      (λ known. IsCutShort (of_build (plain_over by) files target plain) run)
+  promised_cut fault does before same skeletons = λ known apart good.
+      cut_off (plain_over by) plain fault (does.from_good known apart good).works before same (skeletons known good)
 
   pub promised_failed : (fault : WorkFault)
-      → Does by files ready.units (Err fault) run.holds run.asked run.asked_then → old ≡ Some run.text
-      → run.written ≡ old → GrowsUpTo run.skeletons run.skeletons_then ready.asked_skeletons
-      → IsAsPromised by files (of_build (plain_over by) files ready) status.FolderFault run
-  promised_failed fault does before same skeletons = record {
-    ends = λ known apart good. cut_off (plain_over by) fault (does.from_good known apart good).works before same skeletons;
-  }
+      → Does by files target over.units plain.units (Err fault) run.holds run.asked run.asked_then → old ≡ Some run.text
+      → run.written ≡ old → AsksFromGood by files (Err fault) plain.asked_skeletons run.skeletons run.skeletons_then
+      → IsAsPromised by files (of_build (plain_over by) files target plain) status.FolderFault run
+  promised_failed fault does before same skeletons = record { ends = promised_cut fault does before same skeletons }
 
   pub promised_wanting : (fault : WorkFault)
-      → Does by files ready.units (Err fault) run.holds run.asked run.asked_then → old ≡ Some run.text
-      → run.written ≡ old → GrowsUpTo run.skeletons run.skeletons_then ready.asked_skeletons
-      → IsAsPromised by files (of_build (plain_over by) files ready) status.NoMemory run
-  promised_wanting fault does before same skeletons = record {
-    ends = λ known apart good. cut_off (plain_over by) fault (does.from_good known apart good).works before same skeletons;
-  }
+      → Does by files target over.units plain.units (Err fault) run.holds run.asked run.asked_then → old ≡ Some run.text
+      → run.written ≡ old → AsksFromGood by files (Err fault) plain.asked_skeletons run.skeletons run.skeletons_then
+      → IsAsPromised by files (of_build (plain_over by) files target plain) status.NoMemory run
+  promised_wanting fault does before same skeletons = record { ends = promised_cut fault does before same skeletons }
 
 -- what a build leaves of the folder, whatever it answers
-pub stays_built : (by : Definitions) (files : Files) (ready : Prepared) (result : Result Report WorkFault)
-    (holds : Option Files) (before after : List (List ℕ)) → Does by files ready.units result holds before after
-    → Stays by files (of_build (plain_over by) files ready) holds
-stays_built by files ready result holds before after does = record {
+pub stays_built : (by : Definitions) (files : Files) (target : Option (List ℕ)) (over plain : Prepared)
+    (result : Result Report WorkFault) (holds : Option Files) (before after : List (List ℕ))
+    → Does by files target over.units plain.units result holds before after
+    → Stays by files (of_build (plain_over by) files target plain) holds
+stays_built by files target over plain result holds before after does = record {
   frame = λ known apart good. (does.from_good known apart good).frame;
   good = λ known apart good. (does.from_good known apart good).good;
 }

@@ -1,43 +1,56 @@
--- What linking leaves: the linked program's path is the only one that it writes, and it lies in the store.
-use Rattle.std.proofs.Common.{◌≡◌, ◌∙◌, ◌≢◌, sym, ap, subst, inl, inr, ℕ, List, Option, false}
+-- What linking leaves: the linked program's path and the target are the only ones that it writes; the one lies in the
+-- store, and the other outside.
+use Rattle.std.proofs.Common.{◌≡◌, ◌∙◌, sym, ap, subst, inl, inr, ℕ, List, ◌∷◌, Option, Some, None, false, cond, nat_lt, length}
 use Rattle.cm_base.specs.Definitions.{Definitions}
-use Rattle.cm_base.specs.Files.{Files, is_stored}
+use Rattle.cm_base.specs.Diags.{whole_file}
+use Rattle.cm_base.specs.Files.{Files}
 use Rattle.cm_base.specs.Keeping.{Keeps}
 use Rattle.cm_base.specs.declared.diag.Diag.{Diag}
-use Rattle.cm_base.proofs.KeepingLemmas.{keeps_same, keeps_touches}
+use Rattle.cm_base.specs.declared.record.BuiltUnit.{BuiltUnit}
+use Rattle.cm_base.proofs.KeepingLemmas.{keeps_same, keeps_then, keeps_touches}
 use Rattle.bin_store.specs.GoodStore.{StoreIsGood}
 use Rattle.bin_store.specs.Paths.{linked_path}
-use Rattle.bin_store.proofs.Elsewhere.{linked_stored}
 use Rattle.bin_store.proofs.GoodAfter.{store_same, store_after_linked}
 use Rattle.build_laws.specs.Left.{KeepsProject}
-use Rattle.cm_top.specs.Answers.{TouchesLinked}
-use Rattle.cm_top.specs.Meaning.{linked_paths}
+use Rattle.linker.specs.Linked.{linked_program}
+use Rattle.cm_top.specs.Answers.{IsOutside, TouchesLinked, WritesLinked}
+use Rattle.cm_top.specs.Headline.{KeepsOthers}
+use Rattle.cm_top.specs.declared.limits.TheConstants.{LINKED}
+use Rattle.cm_top.specs.Meaning.{link_fault, linked_paths, target_paths}
+use Rattle.cm_top.proofs.TargetLeaves.{others_same, target_good, target_keeps, target_others}
 
-pub link_keeps : (fault : Option Diag) (old new : Option Files) → TouchesLinked fault old new
-    → Keeps old new (linked_paths fault)
-link_keeps fault old new (inl same) = keeps_same old new (linked_paths fault) same
-link_keeps fault old new (inr touched) =
-    subst (λ f. Keeps old new (linked_paths f)) (sym touched.0) (keeps_touches touched.2)
+-- a program within its limit is no fault
+pub link_is_well : (units : List BuiltUnit) (file : List ℕ) → file ≡ linked_program units
+    → nat_lt LINKED (length file) ≡ false → link_fault units ≡ None
+unfolding link_fault
+link_is_well units file is short =
+    ap (λ long. cond long (Some (whole_file 12 linked_path)) None)
+    (ap (λ bytes. nat_lt LINKED (length bytes)) (sym is) ∙ short)
+
+wrote_keeps : (target : Option (List ℕ)) (bytes : List ℕ) (old new : Option Files) → WritesLinked target bytes old new
+    → Keeps old new (linked_path ∷ target_paths target)
+wrote_keeps target bytes old new wrote =
+    keeps_then (keeps_touches wrote.linked) (target_keeps target bytes wrote.between new wrote.added)
+
+pub link_keeps : (target : Option (List ℕ)) (fault : Option Diag) (old new : Option Files)
+    → TouchesLinked target fault old new → Keeps old new (linked_paths target fault)
+link_keeps target fault old new (inl same) = keeps_same old new (linked_paths target fault) same
+link_keeps target fault old new (inr left) =
+    subst (λ f. Keeps old new (linked_paths target f)) (sym left.well) (wrote_keeps target left.bytes old new left.writes)
 
 -- a good store stays good
-pub link_good : (by : Definitions) (texts : List (List ℕ)) (fault : Option Diag) (old new : Option Files)
-    → TouchesLinked fault old new → StoreIsGood by texts old → StoreIsGood by texts new
-link_good by texts fault old new (inl same) good = store_same same good
-link_good by texts fault old new (inr touched) good = store_after_linked by texts old new touched.1 touched.2 good
+pub link_good : (by : Definitions) (texts : List (List ℕ)) (target : Option (List ℕ)) (fault : Option Diag)
+    (old new : Option Files) → IsOutside target → TouchesLinked target fault old new → StoreIsGood by texts old
+    → StoreIsGood by texts new
+link_good by texts target fault old new outside (inl same) good = store_same same good
+link_good by texts target fault old new outside (inr left) good =
+    let wrote : WritesLinked target left.bytes old new = left.writes in
+    target_good by texts target left.bytes wrote.between new outside wrote.added
+    (store_after_linked by texts old wrote.between left.bytes wrote.linked good)
 
--- a path outside the store isn't the linked program's
-outside_apart : (path : List ℕ) → is_stored path ≡ false → path ≢ linked_path
-outside_apart path outside same = let at = ap is_stored same in let inside = linked_stored in absurd (cc (outside, inside, at))
-
--- the project stays as it was
-pub link_outside : (files : Files) (fault : Option Diag) (old new : Option Files) → TouchesLinked fault old new
-    → KeepsProject files old → KeepsProject files new
-link_outside files fault old new (inl same) kept =
-    record { after = kept.after; tells = same ∙ kept.tells; kept = kept.kept }
-link_outside files fault old new (inr touched) kept =
-    let left = touched.2.rest kept.after kept.tells in
-    record {
-      after = left.0;
-      tells = left.1;
-      kept = λ path outside. left.2 path (outside_apart path outside) ∙ kept.kept path outside;
-    }
+-- the project stays as it was, but for the target, which is written last
+pub link_others : (files : Files) (target : Option (List ℕ)) (fault : Option Diag) (old new : Option Files)
+    → IsOutside target → TouchesLinked target fault old new → KeepsProject files old → KeepsOthers target files new
+link_others files target fault old new outside (inl same) kept = others_same target files old new outside same kept
+link_others files target fault old new outside (inr left) kept =
+    target_others target files left.bytes old new outside left.writes kept

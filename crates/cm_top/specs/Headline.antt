@@ -1,12 +1,14 @@
 -- The program's promise: how a command ends, what it leaves and what was asked, in every case. The contract of `run_cm`
 -- is made of these and of the causes of a fault.
-use Rattle.std.specs.Prelude.{ℕ, ◌≡◌, ◌⊎◌, List, [], ◌++◌, Option, Some, take}
+use Rattle.std.specs.Prelude.{ℕ, ◌≡◌, ◌≢◌, ◌⊎◌, false, Contains, List, ◌++◌, Option, Some, None, take}
+use Rattle.std.specs.FinMap.{get}
 use Rattle.cm_base.specs.Definitions.{Definitions}
-use Rattle.cm_base.specs.Files.{Files}
+use Rattle.cm_base.specs.Files.{Files, is_stored}
 use Rattle.cm_base.specs.Fronts.{GrowsUpTo}
 use Rattle.cm_base.specs.Keeping.{Keeps}
 use Rattle.cm_bytes.specs.Hashes.{HashesApart}
 use Rattle.bin_store.specs.GoodStore.{IsGoodStore, StoreIsGood}
+use Rattle.bin_store.specs.Paths.{linked_path}
 use Rattle.cm_top.specs.Meaning.{Meaning}
 use Rattle.cm_top.specs.declared.status.Status.{Status}
 use Rattle.cm_top.specs.declared.status.Status.TheVariants as status
@@ -68,16 +70,21 @@ pub record IsCutOff (m : Meaning) (printed : List ℕ) (run : Run) : Type 0 wher
   pub asks : GrowsUpTo run.asked run.asked_then m.asked
   pub asks_skeletons : GrowsUpTo run.skeletons run.skeletons_then m.asked_skeletons
 
--- a command ends as it means, or it is cut off: before it prints, or where the output fails, after a front of its
--- output
+-- .. by a fault of the folder or for want of memory: before it prints, or between the steps of a session
+pub record IsCutShort (m : Meaning) (run : Run) : Type 0 where
+  pub printed : List ℕ
+  pub one : Contains m.cuts printed
+  pub cut : IsCutOff m printed run
+
+-- a command ends as it means, or it is cut off: so, or where the output fails, after a front of its output
 abbrev pub Ends : Status → Meaning → Run → Type 0
 Ends status.Ok m run = IsMeaning m status.Ok run
 Ends status.Diagnostic m run = IsMeaning m status.Diagnostic run
 Ends status.Usage m run = IsMeaning m status.Usage run
-Ends status.FolderFault m run = IsCutOff m [] run
+Ends status.FolderFault m run = IsCutShort m run
 Ends status.SinkFault m run = (n : ℕ) × IsCutOff m (take n m.output) run
-Ends status.NoMemory m run = IsCutOff m [] run
-Ends status.ToolFault m run = IsCutOff m [] run
+Ends status.NoMemory m run = IsCutShort m run
+Ends status.ToolFault m run = IsCutShort m run
 
 -- ---- from a good store
 
@@ -97,6 +104,26 @@ pub record Stays (by : Definitions) (files : Files) (m : Meaning) (holds : Optio
   pub frame : FromGood by files m (λ known. Keeps (Some files) holds m.paths)
   -- The store is good for what was known and for the command's own interfaces, so the next command starts well.
   pub good : FromGood by files m (λ known. StoreIsGood by (known ++ m.interfaces) holds)
+
+-- a path at which the linked program is written once it stands in the store: nothing stands there, or a front of it
+pub record FollowsLinked (path : List ℕ) (after : Files) : Type 0 where
+  pub bytes : List ℕ
+  pub linked : get after linked_path ≡ Some bytes
+  pub front : (get after path ≡ None) ⊎ ((n : ℕ) × (get after path ≡ Some (take n bytes)))
+
+-- Each path outside the store is as it was, but for the target of the command. That is as it was too, unless the linked
+-- program stands in the store.
+pub record KeepsOthers (target : Option (List ℕ)) (files : Files) (new : Option Files) : Type 0 where
+  pub after : Files
+  pub tells : new ≡ Some after
+  pub kept : (path : List ℕ) → is_stored path ≡ false → target ≢ Some path → get after path ≡ get files path
+  pub last : (path : List ℕ) → target ≡ Some path → (get after path ≡ get files path) ⊎ FollowsLinked path after
+
+-- each path outside the store is as it was, but for these
+pub record KeepsOutside (paths : List (List ℕ)) (files : Files) (new : Option Files) : Type 0 where
+  pub after : Files
+  pub tells : new ≡ Some after
+  pub kept : (path : List ℕ) → is_stored path ≡ false → (Contains paths path → ⊥) → get after path ≡ get files path
 
 -- ---- completeness
 

@@ -3,5 +3,8 @@ pub mod Faults
 pub mod Headline
 pub mod Lines
 pub mod Meaning
+pub mod Performing
 pub mod ProjectBuild
+pub mod Sessions
 pub mod Short
+pub mod Targets

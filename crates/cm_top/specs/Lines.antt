@@ -7,10 +7,22 @@ use Rattle.cm_base.specs.declared.diag.Place.{Place}
 use Rattle.cm_base.specs.declared.record.BuiltUnit.{BuiltUnit}
 use Rattle.cm_base.specs.declared.record.How.{How}
 use Rattle.cm_base.specs.declared.record.How.TheVariants as how
+use Rattle.cm_top.specs.declared.status.Status.{Status}
+use Rattle.cm_top.specs.declared.status.Status.TheVariants as status
 
 -- `error: usage`
 unfoldable pub usage_line : List ℕ
 usage_line = codes "error: usage" ++ (10 ∷ [])
+
+-- the line behind a command of a session that met no fault: its exit status. After a fault none is printed.
+abbrev pub status_line : Status → List ℕ
+status_line status.Ok = codes "[status 0]" ++ (10 ∷ [])
+status_line status.Diagnostic = codes "[status 1]" ++ (10 ∷ [])
+status_line status.Usage = codes "[status 2]" ++ (10 ∷ [])
+status_line status.FolderFault = []
+status_line status.SinkFault = []
+status_line status.NoMemory = []
+status_line status.ToolFault = []
 
 -- each name of a diagnostic stands behind a space
 abbrev pub spaced : List ℕ → List ℕ

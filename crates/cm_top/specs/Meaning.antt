@@ -1,7 +1,9 @@
 -- What a command means: the status, the output, the files afterwards, what the compiler is asked for, the interfaces of
--- the units that it builds, and the paths that it writes.
+-- the units that it builds, and the paths that it writes, with those of them outside the store. And what may be printed
+-- where a fault of the folder or want of memory cuts it off.
 use Rattle.std.specs.Prelude.{ℕ, nat_lt, List, [], ◌∷◌, ◌++◌, map, Option, Some, None, length, if◌then◌else◌}
 use Rattle.std.specs.List.{flat_map}
+use Rattle.std.specs.Option.{option_and_then}
 use Rattle.std.specs.FinMap.{insert}
 use Rattle.cm_base.specs.Definitions.{Definitions}
 use Rattle.cm_base.specs.Files.{Files}
@@ -16,32 +18,40 @@ use Rattle.build_laws.specs.CutBuild.{Cut}
 use Rattle.build_laws.specs.Storing.{unit_paths}
 use Rattle.command_words.specs.Words.{command_of}
 use Rattle.command_words.specs.declared.command.Command.{Command}
-use Rattle.command_words.specs.declared.command.Command.TheVariants as command
 use Rattle.cm_top.specs.declared.limits.TheConstants.{LINKED}
 use Rattle.cm_top.specs.declared.status.Status.{Status}
 use Rattle.cm_top.specs.declared.status.Status.TheVariants as status
 use Rattle.cm_top.specs.Lines.{usage_line, report}
-use Rattle.cm_top.specs.ProjectBuild.{Prepared, Builder, prepared, built, plain_over, store_over}
+use Rattle.cm_top.specs.ProjectBuild.{Prepared, Builder, Way, built, plain_way, store_way}
+use Rattle.cm_top.specs.Targets.{target_of, ready_of}
 
 pub record Meaning : Type 0 where
   pub status : Status
   pub output : List ℕ
+  pub cuts : List (List ℕ)
   pub files : Files
   pub asked : List (List ℕ)
   pub asked_skeletons : List (List ℕ)
   pub interfaces : List (List ℕ)
   pub paths : List (List ℕ)
+  pub outside : List (List ℕ)
+
+-- a command prints all at its end, so one that is cut off before has printed nothing
+abbrev pub prints_last : List (List ℕ)
+prints_last = [] ∷ []
 
 -- words that mean nothing
 abbrev pub usage : Files → Meaning
 usage files = record {
   status = status.Usage;
   output = usage_line;
+  cuts = prints_last;
   files = files;
   asked = [];
   asked_skeletons = [];
   interfaces = [];
   paths = [];
+  outside = [];
 }
 
 -- ---- linking
@@ -55,15 +65,25 @@ abbrev pub ended_with : Option Diag → List BuiltUnit → Option Diag
 ended_with (Some diag) units = Some diag
 ended_with None units = link_fault units
 
--- the linked program is written where no diagnostic comes
-abbrev pub with_linked : Option Diag → List BuiltUnit → Files → Files
-with_linked None units files = insert files linked_path (linked_program units)
-with_linked (Some diag) units files = files
+-- What success adds. A command may have a target, a path of the project: there the bytes are written too, each time.
+abbrev pub then_write : Option (List ℕ) → List ℕ → Files → Files
+then_write None bytes files = files
+then_write (Some path) bytes files = insert files path bytes
 
--- .. and then its path is written too
-abbrev pub linked_paths : Option Diag → List (List ℕ)
-linked_paths None = linked_path ∷ []
-linked_paths (Some diag) = []
+-- the linked program is written where no diagnostic comes, and then at the target
+abbrev pub with_linked : Option (List ℕ) → Option Diag → List BuiltUnit → Files → Files
+with_linked target None units files =
+    then_write target (linked_program units) (insert files linked_path (linked_program units))
+with_linked target (Some diag) units files = files
+
+-- .. at these paths
+abbrev pub target_paths : Option (List ℕ) → List (List ℕ)
+target_paths None = []
+target_paths (Some path) = path ∷ []
+
+abbrev pub linked_paths : Option (List ℕ) → Option Diag → List (List ℕ)
+linked_paths target None = linked_path ∷ target_paths target
+linked_paths target (Some diag) = []
 
 -- ---- builds
 
@@ -91,38 +111,45 @@ abbrev pub ended_in : Cut → Option Diag
 ended_in cut = ended_with cut.ended cut.units
 
 -- the paths that a build writes, its linking included
-abbrev pub written_paths : Cut → List (List ℕ)
-written_paths cut = paths_in cut.units ++ linked_paths (ended_in cut)
+abbrev pub written_paths : Option (List ℕ) → Cut → List (List ℕ)
+written_paths target cut = paths_in cut.units ++ linked_paths target (ended_in cut)
 
--- a build, after so many skeletons were asked for
-abbrev pub of_cut : List (List ℕ) → Cut → Meaning
-of_cut skeletons cut = record {
+-- a build with a target or none, after so many skeletons were asked for
+abbrev pub of_cut : Option (List ℕ) → List (List ℕ) → Cut → Meaning
+of_cut target skeletons cut = record {
   status = status_of (ended_in cut);
   output = report cut.units (ended_in cut);
-  files = with_linked (ended_in cut) cut.units cut.files;
+  cuts = prints_last;
+  files = with_linked target (ended_in cut) cut.units cut.files;
   asked = cut.asked;
   asked_skeletons = skeletons;
   interfaces = interfaces_in cut.units;
-  paths = written_paths cut;
+  paths = written_paths target cut;
+  outside = target_paths target;
 }
 
--- a build of what is prepared
-abbrev pub of_build : Builder → Files → Prepared → Meaning
-of_build over files ready = of_cut ready.asked_skeletons (built over files ready.units)
+-- a build of what is prepared: what every command means that builds
+abbrev pub of_build : Builder → Files → Option (List ℕ) → Prepared → Meaning
+of_build builds files target ready = of_cut target ready.asked_skeletons (built builds files ready.units)
 
 -- ---- commands
 
-abbrev pub of_command : Builder → Definitions → Files → Option Command → Meaning
-of_command over by files None = usage files
-of_command over by files (Some (command.Build defs root)) = of_build over files (prepared by files defs root)
+abbrev pub of_command : Way → Files → Option Command → Meaning
+of_command way files None = usage files
+of_command way files (Some command) =
+    of_build way.builds files (target_of files command) (ready_of (way.plans files) files command)
+
+-- the one path outside the store that words may write
+abbrev pub target_in : Files → List (List ℕ) → Option (List ℕ)
+target_in files words = option_and_then (target_of files) (command_of words)
 
 -- What the words mean in a folder, with a compiler of these two definitions. The files at entry say which units are
--- stale, and so which of them are compiled; what the build gives and leaves is the plain build's, which knows no
--- store.
+-- stale, and so which of them are compiled, and of which sources the compiler is asked for the skeletons. What is
+-- planned is by the compiler's skeletons, and what the build gives and leaves is the plain build's: they know no store.
 abbrev pub meaning_of : Definitions → List (List ℕ) → Files → Meaning
-meaning_of by words files = of_command (plain_over by) by files (command_of words)
+meaning_of by words files = of_command (plain_way by) files (command_of words)
 
 -- .. and what they do over a store as it stands, whoever wrote it. Over a good store, where no two differing interfaces
 -- share a hash, it is what they mean.
 abbrev pub doing_of : Definitions → List (List ℕ) → Files → Meaning
-doing_of by words files = of_command (store_over by) by files (command_of words)
+doing_of by words files = of_command (store_way by) files (command_of words)

@@ -1,5 +1,5 @@
--- What a command builds, and how a build of it goes: the plain build, which knows no store, as it comes over the store
--- at entry; or the build over a store as it stands.
+-- What a command builds, and how that goes: as a compiler and the plain build have it, which know no store, as it comes
+-- over the store at entry; or over a store as it stands.
 use Rattle.std.specs.Prelude.{ℕ, List, [], Option, Some, Result, Ok, Err, false}
 use Rattle.cm_base.specs.Definitions.{Definitions}
 use Rattle.cm_base.specs.Files.{Files}
@@ -10,7 +10,7 @@ use Rattle.cm_base.specs.declared.record.PlannedUnit.{PlannedUnit}
 use Rattle.cm_description.specs.declared.loaded.Project.{Project}
 use Rattle.project_loading.specs.Projects.{project_of}
 use Rattle.project_planning.specs.Buildable.{planned_units}
-use Rattle.project_planning.specs.Planning.{Planning, plan_of}
+use Rattle.project_planning.specs.Planning.{Planning, plain_plan, plan_over}
 use Rattle.project_planning.specs.declared.plan.Plan.{Plan}
 use Rattle.build_laws.specs.CutBuild.{Cut, cut_build}
 use Rattle.build_laws.specs.PlainBuild.{Build, compiled_units, plain_build}
@@ -38,13 +38,17 @@ abbrev pub of_planning : Project → Planning → Prepared
 of_planning project planning =
     record { units = units_of project planning.result; asked_skeletons = planning.asked }
 
-abbrev pub of_loading : Definitions → List Def → Result Project Diag → Prepared
-of_loading by defs (Err diag) = unloaded diag
-of_loading by defs (Ok project) = of_planning project (plan_of by.skel project defs)
+-- how a project is planned under definitions
+abbrev pub Planner : Type 0
+Planner = Project → List Def → Planning
+
+abbrev pub of_loading : Planner → List Def → Result Project Diag → Prepared
+of_loading plans defs (Err diag) = unloaded diag
+of_loading plans defs (Ok project) = of_planning project (plans project defs)
 
 -- .. of ROOT in a folder, under definitions
-abbrev pub prepared : Definitions → Files → List Def → List ℕ → Prepared
-prepared by files defs root = of_loading by defs (project_of files defs root false)
+abbrev pub prepared : Planner → Files → List Def → List ℕ → Prepared
+prepared plans files defs root = of_loading plans defs (project_of files defs root false)
 
 -- ---- how it is built
 
@@ -69,6 +73,19 @@ plain_over by files planned = coming files planned (plain_build by.compiled plan
 -- the build over a store as it stands
 abbrev pub store_over : Definitions → Builder
 store_over by files planned = cut_build by.compiled files planned
+
+-- How a command goes about its work over files: how it plans a project, and how it builds the units.
+pub record Way : Type 0 where
+  pub plans : Files → Planner
+  pub builds : Builder
+
+-- with the compiler's skeletons, of which it is asked for those alone that no binfile has; and by the plain build
+abbrev pub plain_way : Definitions → Way
+plain_way by = record { plans = plain_plan by.skel; builds = plain_over by }
+
+-- with the skeletons and the units of the store as it stands, whoever wrote it
+abbrev pub store_way : Definitions → Way
+store_way by = record { plans = plan_over by.skel; builds = store_over by }
 
 -- a build that ended so over files that have its units already
 abbrev pub ending : List BuiltUnit → Option Diag → Files → Cut

@@ -7,9 +7,13 @@ mod linking;
 mod loading;
 mod printing;
 mod run;
+mod script;
+mod sessions;
 mod status;
+mod targets;
 mod work;
 
-pub use command_words::{Command, read_words};
+pub use command_words::{Call, Command, read_call};
 pub use run::{run_cm, run_sure};
+pub use sessions::session;
 pub use status::Status;

@@ -5,20 +5,23 @@ ghost use Rattle.cm_base.specs.Causes.{HasCause, Rose};
 ghost use Rattle.cm_base.specs.Files.{Told};
 ghost use Rattle.cm_base.specs.Keeping.{Keeps};
 ghost use Rattle.bin_store.specs.GoodStore.{IsGoodStore};
-ghost use Rattle.build_laws.specs.Left.{KeepsProject};
 ghost use Rattle.cm_bytes.specs.Hashes.{HashesApart};
-ghost use Rattle.command_words.specs.Words.{command_of};
+ghost use Rattle.command_words.specs.Words.{call_of, command_of};
 ghost use Rattle.cm_top.specs.Answers.{IsReported, Prints};
-ghost use Rattle.cm_top.specs.Headline.{Completes, Ends, IsAsPromised, IsComplete, IsUsageEnd, Stays, run_of};
-ghost use Rattle.cm_top.specs.Meaning.{doing_of, meaning_of, of_build, of_command, usage};
-ghost use Rattle.cm_top.specs.ProjectBuild.{plain_over, prepared, store_over};
+ghost use Rattle.cm_top.specs.Headline.{Completes, Ends, IsAsPromised, IsComplete, IsUsageEnd, KeepsOthers, KeepsOutside, Stays, run_of};
+ghost use Rattle.cm_top.specs.Meaning.{doing_of, meaning_of, of_command, target_in, usage};
+ghost use Rattle.cm_top.specs.Performing.{LeavesAt};
+ghost use Rattle.cm_top.specs.ProjectBuild.{plain_way, store_way};
+ghost use Rattle.cm_top.specs.Sessions.{KeepsTarget, doing_of_call, meaning_of_call};
+ghost use Rattle.cm_top.specs.Targets.{target_of};
 
 use crate::lines::usage_text;
 use crate::printing::print;
+use crate::sessions::session;
 use crate::status::Status;
 use crate::work::{Report, WorkFault, work};
-use cm_base::{Compiler, Def, Folder, List, NoMemory, Sink, SureFolder, SureSink, Text};
-use command_words::{Command, read_words};
+use cm_base::{Compiler, Folder, NoMemory, Sink, SureFolder, SureSink, Text};
+use command_words::{Call, Command, read_call, read_words};
 use member_tools::Toolbox;
 use std::alloc::Global;
 
@@ -55,40 +58,6 @@ fn print_report<S: Sink>(alloc: Global, out: &mut S, report: &Report) -> Status
     print(alloc, out, report.text.as_bytes(), report.status)
 }
 
-/// Builds the project of ROOT under definitions and prints the report.
-fn run_build<F: Folder, S: Sink, C: Compiler>(
-    alloc: Global,
-    defs: &List<Def>,
-    root: &Text,
-    folder: &mut F,
-    out: &mut S,
-    compiler: &mut C,
-) -> Status
-    ensures folder { HasCause (F.faults folder.old) (F.faults folder.new) (result ≡ Status.FolderFault) }
-    ensures sink { HasCause (S.faults out.old) (S.faults out.new) (result ≡ Status.SinkFault) }
-    ensures usage { result ≢ Status.Usage }
-    ensures tool { result ≢ Status.ToolFault }
-    ensures does { Told (F.holds folder.old) (λ files. Told (S.written out.old) (λ text. Ends result
-        (of_build (store_over C.defines) files (prepared C.defines files defs.now root.now))
-        (run_of text (S.written out.new) (F.holds folder.new) (C.asked compiler.old) (C.asked compiler.new)
-        (C.asked_skeletons compiler.old) (C.asked_skeletons compiler.new)))) }
-    ensures promise { Told (F.holds folder.old) (λ files. Told (S.written out.old) (λ text. IsAsPromised C.defines files
-        (of_build (plain_over C.defines) files (prepared C.defines files defs.now root.now)) result
-        (run_of text (S.written out.new) (F.holds folder.new) (C.asked compiler.old) (C.asked compiler.new)
-        (C.asked_skeletons compiler.old) (C.asked_skeletons compiler.new)))) }
-    ensures frame { Told (F.holds folder.old) (λ files. Keeps (Some files) (F.holds folder.new)
-        (of_build (store_over C.defines) files (prepared C.defines files defs.now root.now)).paths) }
-    ensures project { Told (F.holds folder.old) (λ files. KeepsProject files (F.holds folder.new)) }
-    ensures stays { Told (F.holds folder.old) (λ files. Stays C.defines files
-        (of_build (plain_over C.defines) files (prepared C.defines files defs.now root.now)) (F.holds folder.new)) }
-{
-    match work(alloc, defs, root, folder, compiler) {
-        Ok(report) => print_report(alloc, out, &report),
-        Err(WorkFault::Folder) => Status::FolderFault,
-        Err(WorkFault::NoMemory) => Status::NoMemory,
-    }
-}
-
 /// Does what a command means.
 fn run_command<F: Folder, S: Sink, C: Compiler>(
     alloc: Global,
@@ -102,53 +71,101 @@ fn run_command<F: Folder, S: Sink, C: Compiler>(
     ensures usage { result ≢ Status.Usage }
     ensures tool { result ≢ Status.ToolFault }
     ensures does { Told (F.holds folder.old) (λ files. Told (S.written out.old) (λ text. Ends result
-        (of_command (store_over C.defines) C.defines files (Some command.now))
+        (of_command (store_way C.defines) files (Some command.now))
         (run_of text (S.written out.new) (F.holds folder.new) (C.asked compiler.old) (C.asked compiler.new)
         (C.asked_skeletons compiler.old) (C.asked_skeletons compiler.new)))) }
     ensures promise { Told (F.holds folder.old) (λ files. Told (S.written out.old) (λ text. IsAsPromised C.defines files
-        (of_command (plain_over C.defines) C.defines files (Some command.now)) result
+        (of_command (plain_way C.defines) files (Some command.now)) result
         (run_of text (S.written out.new) (F.holds folder.new) (C.asked compiler.old) (C.asked compiler.new)
         (C.asked_skeletons compiler.old) (C.asked_skeletons compiler.new)))) }
     ensures frame { Told (F.holds folder.old) (λ files. Keeps (Some files) (F.holds folder.new)
-        (of_command (store_over C.defines) C.defines files (Some command.now)).paths) }
-    ensures project { Told (F.holds folder.old) (λ files. KeepsProject files (F.holds folder.new)) }
+        (of_command (store_way C.defines) files (Some command.now)).paths) }
+    ensures project { Told (F.holds folder.old) (λ files. KeepsOthers (target_of files command.now) files
+        (F.holds folder.new)) }
     ensures stays { Told (F.holds folder.old) (λ files. Stays C.defines files
-        (of_command (plain_over C.defines) C.defines files (Some command.now)) (F.holds folder.new)) }
+        (of_command (plain_way C.defines) files (Some command.now)) (F.holds folder.new)) }
+    ensures leaves { Told (F.holds folder.old) (λ files. LeavesAt result C.defines files
+        (of_command (store_way C.defines) files (Some command.now))
+        (of_command (plain_way C.defines) files (Some command.now)) (F.holds folder.new)) }
 {
-    match command {
-        Command::Build { defs, root } => run_build(alloc, defs, root, folder, out, compiler),
+    match work(alloc, command, folder, compiler) {
+        Ok(report) => print_report(alloc, out, &report),
+        Err(WorkFault::Folder) => Status::FolderFault,
+        Err(WorkFault::NoMemory) => Status::NoMemory,
     }
 }
 
-/// Does what the words mean.
-fn run_words<F: Folder, S: Sink, C: Compiler>(
+/// Does the command that the words mean.
+pub(crate) fn run_words<F: Folder, S: Sink, C: Compiler>(
     alloc: Global,
-    words: &[String],
+    words: &[Text],
     folder: &mut F,
     out: &mut S,
     compiler: &mut C,
 ) -> Status
     ensures folder { HasCause (F.faults folder.old) (F.faults folder.new) (result ≡ Status.FolderFault) }
     ensures sink { HasCause (S.faults out.old) (S.faults out.new) (result ≡ Status.SinkFault) }
-    ensures usage { result ≡ Status.Usage → command_of (map string_bytes words.now) ≡ None }
-    ensures nothing { command_of (map string_bytes words.now) ≡ None → IsUsageEnd result }
+    ensures usage { result ≡ Status.Usage → command_of words.now ≡ None }
+    ensures nothing { command_of words.now ≡ None → IsUsageEnd result }
     ensures tool { result ≢ Status.ToolFault }
     ensures does { Told (F.holds folder.old) (λ files. Told (S.written out.old) (λ text. Ends result
-        (doing_of C.defines (map string_bytes words.now) files)
+        (doing_of C.defines words.now files)
         (run_of text (S.written out.new) (F.holds folder.new) (C.asked compiler.old) (C.asked compiler.new)
         (C.asked_skeletons compiler.old) (C.asked_skeletons compiler.new)))) }
     ensures frame { Told (F.holds folder.old) (λ files. Keeps (Some files) (F.holds folder.new)
-        (doing_of C.defines (map string_bytes words.now) files).paths) }
-    ensures project { Told (F.holds folder.old) (λ files. KeepsProject files (F.holds folder.new)) }
+        (doing_of C.defines words.now files).paths) }
+    ensures project { Told (F.holds folder.old) (λ files. KeepsOthers (target_in files words.now) files
+        (F.holds folder.new)) }
     ensures stays { Told (F.holds folder.old) (λ files. Stays C.defines files
-        (meaning_of C.defines (map string_bytes words.now) files) (F.holds folder.new)) }
+        (meaning_of C.defines words.now files) (F.holds folder.new)) }
+    ensures leaves { Told (F.holds folder.old) (λ files. LeavesAt result C.defines files
+        (doing_of C.defines words.now files) (meaning_of C.defines words.now files) (F.holds folder.new)) }
     ensures promise { Told (F.holds folder.old) (λ files. Told (S.written out.old) (λ text. IsAsPromised C.defines files
-        (meaning_of C.defines (map string_bytes words.now) files) result
+        (meaning_of C.defines words.now files) result
         (run_of text (S.written out.new) (F.holds folder.new) (C.asked compiler.old) (C.asked compiler.new)
         (C.asked_skeletons compiler.old) (C.asked_skeletons compiler.new)))) }
 {
     match read_words(alloc, words) {
         Ok(Some(command)) => run_command(alloc, &command, folder, out, compiler),
+        Ok(None) => run_usage(alloc, folder, out, compiler),
+        Err(NoMemory) => Status::NoMemory,
+    }
+}
+
+/// Does what the words of a call mean.
+fn run_call<F: Folder, S: Sink, C: Compiler>(
+    alloc: Global,
+    words: &[String],
+    folder: &mut F,
+    out: &mut S,
+    compiler: &mut C,
+    tools: &mut Toolbox,
+) -> Status
+    ensures folder { HasCause (F.faults folder.old) (F.faults folder.new) (result ≡ Status.FolderFault) }
+    ensures sink { HasCause (S.faults out.old) (S.faults out.new) (result ≡ Status.SinkFault) }
+    ensures usage { result ≡ Status.Usage → call_of (map string_bytes words.now) ≡ None }
+    ensures nothing { call_of (map string_bytes words.now) ≡ None → IsUsageEnd result }
+    ensures tool { result ≢ Status.ToolFault }
+    ensures does { Told (F.holds folder.old) (λ files. Told (S.written out.old) (λ text. Ends result
+        (doing_of_call C.defines (map string_bytes words.now) files)
+        (run_of text (S.written out.new) (F.holds folder.new) (C.asked compiler.old) (C.asked compiler.new)
+        (C.asked_skeletons compiler.old) (C.asked_skeletons compiler.new)))) }
+    ensures frame { Told (F.holds folder.old) (λ files. Keeps (Some files) (F.holds folder.new)
+        (doing_of_call C.defines (map string_bytes words.now) files).paths) }
+    ensures outside { Told (F.holds folder.old) (λ files. KeepsOutside
+        (doing_of_call C.defines (map string_bytes words.now) files).outside files (F.holds folder.new)) }
+    ensures project { Told (F.holds folder.old) (λ files. KeepsTarget (call_of (map string_bytes words.now)) files
+        (F.holds folder.new)) }
+    ensures stays { Told (F.holds folder.old) (λ files. Stays C.defines files
+        (meaning_of_call C.defines (map string_bytes words.now) files) (F.holds folder.new)) }
+    ensures promise { Told (F.holds folder.old) (λ files. Told (S.written out.old) (λ text. IsAsPromised C.defines files
+        (meaning_of_call C.defines (map string_bytes words.now) files) result
+        (run_of text (S.written out.new) (F.holds folder.new) (C.asked compiler.old) (C.asked compiler.new)
+        (C.asked_skeletons compiler.old) (C.asked_skeletons compiler.new)))) }
+{
+    match read_call(alloc, words) {
+        Ok(Some(Call::Single(command))) => run_command(alloc, &command, folder, out, compiler),
+        Ok(Some(Call::Session { file })) => session(alloc, &file, folder, out, compiler, tools),
         Ok(None) => run_usage(alloc, folder, out, compiler),
         Err(NoMemory) => Status::NoMemory,
     }
@@ -163,9 +180,9 @@ fn run_words<F: Folder, S: Sink, C: Compiler>(
 ///
 /// There a command whose folder and output met no failure ends with the meaning's status, or for want of memory.
 ///
-/// Over any store: it does what `doing_of` says; whatever the answer, each path that this doesn't write is as it was, and
-/// so is each one outside the store. `FolderFault` and `SinkFault` come only where the folder or the sink failed, and
-/// `Usage` only for words that mean nothing.
+/// Over any store: it does what `doing_of_call` says; whatever the answer, each path that this doesn't write is as it was,
+/// and so is each one outside the store but OUT of `link` and the paths of a session's edits. `FolderFault` and
+/// `SinkFault` come only where the folder or the sink failed, and `Usage` only for words that mean nothing.
 pub fn run_cm<F: Folder, S: Sink, C: Compiler>(
     alloc: Global,
     words: &[String],
@@ -176,27 +193,30 @@ pub fn run_cm<F: Folder, S: Sink, C: Compiler>(
 ) -> Status
     ensures folder { HasCause (F.faults folder.old) (F.faults folder.new) (result ≡ Status.FolderFault) }
     ensures sink { HasCause (S.faults out.old) (S.faults out.new) (result ≡ Status.SinkFault) }
-    ensures usage { result ≡ Status.Usage → command_of (map string_bytes words.now) ≡ None }
-    ensures nothing { command_of (map string_bytes words.now) ≡ None → IsUsageEnd result }
+    ensures usage { result ≡ Status.Usage → call_of (map string_bytes words.now) ≡ None }
+    ensures nothing { call_of (map string_bytes words.now) ≡ None → IsUsageEnd result }
     ensures tool { result ≢ Status.ToolFault }
     ensures does { Told (F.holds folder.old) (λ files. Told (S.written out.old) (λ text. Ends result
-        (doing_of C.defines (map string_bytes words.now) files)
+        (doing_of_call C.defines (map string_bytes words.now) files)
         (run_of text (S.written out.new) (F.holds folder.new) (C.asked compiler.old) (C.asked compiler.new)
         (C.asked_skeletons compiler.old) (C.asked_skeletons compiler.new)))) }
     ensures frame { Told (F.holds folder.old) (λ files. Keeps (Some files) (F.holds folder.new)
-        (doing_of C.defines (map string_bytes words.now) files).paths) }
-    ensures project { Told (F.holds folder.old) (λ files. KeepsProject files (F.holds folder.new)) }
+        (doing_of_call C.defines (map string_bytes words.now) files).paths) }
+    ensures outside { Told (F.holds folder.old) (λ files. KeepsOutside
+        (doing_of_call C.defines (map string_bytes words.now) files).outside files (F.holds folder.new)) }
+    ensures project { Told (F.holds folder.old) (λ files. KeepsTarget (call_of (map string_bytes words.now)) files
+        (F.holds folder.new)) }
     ensures stays { Told (F.holds folder.old) (λ files. Stays C.defines files
-        (meaning_of C.defines (map string_bytes words.now) files) (F.holds folder.new)) }
+        (meaning_of_call C.defines (map string_bytes words.now) files) (F.holds folder.new)) }
     ensures promise { Told (F.holds folder.old) (λ files. Told (S.written out.old) (λ text. IsAsPromised C.defines files
-        (meaning_of C.defines (map string_bytes words.now) files) result
+        (meaning_of_call C.defines (map string_bytes words.now) files) result
         (run_of text (S.written out.new) (F.holds folder.new) (C.asked compiler.old) (C.asked compiler.new)
         (C.asked_skeletons compiler.old) (C.asked_skeletons compiler.new)))) }
     ensures complete { Told (F.holds folder.old) (λ files. Told (S.written out.old) (λ text. Completes C.defines files
-        (meaning_of C.defines (map string_bytes words.now) files) result
+        (meaning_of_call C.defines (map string_bytes words.now) files) result
         (Rose (F.faults folder.old) (F.faults folder.new)) (Rose (S.faults out.old) (S.faults out.new)))) }
 {
-    run_words(alloc, words, folder, out, compiler)
+    run_call(alloc, words, folder, out, compiler, tools)
 }
 
 /// `run_cm` over a folder and an output that never fail.
@@ -209,9 +229,9 @@ pub fn run_sure<C: Compiler>(
     tools: &mut Toolbox,
 ) -> Status
     ensures { (known : List (List ℕ))
-        → HashesApart (known ++ (meaning_of C.defines (map string_bytes words.now) folder.old).interfaces)
+        → HashesApart (known ++ (meaning_of_call C.defines (map string_bytes words.now) folder.old).interfaces)
         → IsGoodStore C.defines known folder.old
-        → IsComplete result (meaning_of C.defines (map string_bytes words.now) folder.old) }
+        → IsComplete result (meaning_of_call C.defines (map string_bytes words.now) folder.old) }
 {
     run_cm(alloc, words, folder, out, compiler, tools)
 }

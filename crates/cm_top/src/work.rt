@@ -3,24 +3,28 @@
 ghost use Rattle.std.specs.Prelude.{◌≡◌, Err, IfOk, None, length};
 ghost use Rattle.cm_base.specs.Causes.{HasCause};
 ghost use Rattle.cm_base.specs.Files.{Told};
-ghost use Rattle.build_laws.specs.Planned.{HaveSkeletons, NamesDiffer};
+ghost use Rattle.build_laws.specs.Planned.{NamesDiffer};
 ghost use Rattle.cm_description.specs.WellFormed.{IsWellFormed};
 ghost use Rattle.project_planning.specs.Buildable.{AreProvided, planned_units};
-ghost use Rattle.project_planning.specs.Planning.{plan_of};
-ghost use Rattle.cm_top.specs.Answers.{IsReported, Does, EndsSo, AsksFor, TouchesLinked};
+ghost use Rattle.project_planning.specs.Planning.{plain_plan, plan_over};
+ghost use Rattle.cm_top.specs.Answers.{IsReported, Does, EndsSo, AsksFor, AsksFromGood, IsOutside, LawfulFromGood, TouchesLinked};
 ghost use Rattle.cm_top.specs.Lines.{diag_line};
 ghost use Rattle.cm_top.specs.Meaning.{ended_with, status_of};
 ghost use Rattle.cm_top.specs.ProjectBuild.{ending, of_planning, prepared};
+ghost use Rattle.cm_top.specs.Targets.{out_in, ready_of, ready_with, path_in, target_of};
 
 use crate::lines::{diag_text, report_text};
 use crate::linking::end;
 use crate::loading::load;
 use crate::status::Status;
-use cm_base::{Built, Compiler, Def, Diag, Fault, Folder, FolderFault, List, NoMemory, Text};
+use crate::targets::find_target;
+use cm_base::{Built, Compiler, Def, Diag, Folder, FolderFault, List, NoMemory, Text};
 use cm_description::Project;
+use command_words::Command;
 use cutoff_builder::{BuildFault, build};
 use group_loader::LoadFault;
 use project_planning::{Plan, make_plan};
+use skeleton_asking::PlanFault;
 use std::alloc::Global;
 
 /// What a command prints, and the status that it ends with.
@@ -85,20 +89,22 @@ fn status_of(ended: &Option<Diag>) -> Status
     }
 }
 
-/// The report of a build, after the linked program is written where no diagnostic comes.
+/// The report of a build, after the linked program is written where no diagnostic comes, at the target too.
 fn finish<F: Folder>(
     alloc: Global,
     folder: &mut F,
+    target: &Option<Text>,
     built: &Built,
     ended: Option<Diag>,
 ) -> Result<Report, WorkFault>
     ensures cause { HasCause (F.faults folder.old) (F.faults folder.new) (result ≡ Err WorkFault.Folder) }
     ensures plain { IfOk result (λ report. IsReported report.status) }
-    ensures ends { Told (F.holds folder.old) (λ files. EndsSo result (ending built.now.units ended files)
+    ensures ends { Told (F.holds folder.old) (λ files. EndsSo target.now result (ending built.now.units ended files)
         (F.holds folder.new)) }
-    ensures touches { TouchesLinked (ended_with ended built.now.units) (F.holds folder.old) (F.holds folder.new) }
+    ensures touches { TouchesLinked target.now (ended_with ended built.now.units) (F.holds folder.old)
+        (F.holds folder.new) }
 {
-    let ended = end(alloc, folder, built, ended)?;
+    let ended = end(alloc, folder, target, built, ended)?;
     let text = report_text(alloc, built.units.as_slice(), &ended)?;
     Ok(Report {
         status: status_of(&ended),
@@ -109,6 +115,7 @@ fn finish<F: Folder>(
 /// Builds the units of a plan in their order, links them and reports.
 fn build_plan<F: Folder, C: Compiler>(
     alloc: Global,
+    target: &Option<Text>,
     folder: &mut F,
     compiler: &mut C,
     project: &Project,
@@ -119,11 +126,11 @@ fn build_plan<F: Folder, C: Compiler>(
     requires wanted { length plan.now.wanted ≡ length project.now.units }
     requires providers { AreProvided project.now plan.now.wanted }
     requires apart { NamesDiffer (planned_units project.now plan.now) }
-    requires lawful { HaveSkeletons C.defines.skel (planned_units project.now plan.now) }
     ensures cause { HasCause (F.faults folder.old) (F.faults folder.new) (result ≡ Err WorkFault.Folder) }
     ensures plain { IfOk result (λ report. IsReported report.status) }
-    ensures does { Told (F.holds folder.old) (λ files. Does C.defines files
-        (Ok (planned_units project.now plan.now)) result (F.holds folder.new)
+    ensures does { IsOutside target.now → Told (F.holds folder.old) (λ files.
+        LawfulFromGood C.defines files (planned_units project.now plan.now) → Does C.defines files target.now
+        (Ok (planned_units project.now plan.now)) (Ok (planned_units project.now plan.now)) result (F.holds folder.new)
         (C.asked compiler.old) (C.asked compiler.new)) }
     ensures same { C.asked_skeletons compiler.new ≡ C.asked_skeletons compiler.old }
 {
@@ -136,8 +143,8 @@ fn build_plan<F: Folder, C: Compiler>(
         &plan.wanted,
         &plan.order,
     ) {
-        Ok(built) => finish(alloc, folder, &built, None),
-        Err(BuildFault::Stop { diag, done }) => finish(alloc, folder, &done, Some(diag)),
+        Ok(built) => finish(alloc, folder, target, &built, None),
+        Err(BuildFault::Stop { diag, done }) => finish(alloc, folder, target, &done, Some(diag)),
         Err(BuildFault::Folder) => Err(WorkFault::Folder),
         Err(BuildFault::NoMemory) => Err(WorkFault::NoMemory),
     }
@@ -147,6 +154,7 @@ fn build_plan<F: Folder, C: Compiler>(
 fn build_project<F: Folder, C: Compiler>(
     alloc: Global,
     defs: &List<Def>,
+    target: &Option<Text>,
     folder: &mut F,
     compiler: &mut C,
     project: &Project,
@@ -154,40 +162,108 @@ fn build_project<F: Folder, C: Compiler>(
     requires { IsWellFormed project.now }
     ensures cause { HasCause (F.faults folder.old) (F.faults folder.new) (result ≡ Err WorkFault.Folder) }
     ensures plain { IfOk result (λ report. IsReported report.status) }
-    ensures does { Told (F.holds folder.old) (λ files. Does C.defines files
-        (of_planning project.now (plan_of C.defines.skel project.now defs.now)).units result (F.holds folder.new)
-        (C.asked compiler.old) (C.asked compiler.new)) }
-    ensures skeletons { AsksFor result (plan_of C.defines.skel project.now defs.now).asked
-        (C.asked_skeletons compiler.old) (C.asked_skeletons compiler.new) }
+    ensures does { IsOutside target.now → Told (F.holds folder.old) (λ files. Does C.defines files target.now
+        (of_planning project.now (plan_over C.defines.skel files project.now defs.now)).units
+        (of_planning project.now (plain_plan C.defines.skel files project.now defs.now)).units
+        result (F.holds folder.new) (C.asked compiler.old) (C.asked compiler.new)) }
+    ensures skeletons { Told (F.holds folder.old) (λ files. AsksFor result
+        (plan_over C.defines.skel files project.now defs.now).asked
+        (C.asked_skeletons compiler.old) (C.asked_skeletons compiler.new)) }
+    ensures unread { Told (F.holds folder.old) (λ files. AsksFromGood C.defines files result
+        (plain_plan C.defines.skel files project.now defs.now).asked
+        (C.asked_skeletons compiler.old) (C.asked_skeletons compiler.new)) }
 {
-    match make_plan(alloc, compiler, project, defs) {
-        Ok(plan) => build_plan(alloc, folder, compiler, project, &plan),
-        Err(Fault::Diag(diag)) => Ok(refused(alloc, &diag)?),
-        Err(Fault::NoMemory) => Err(WorkFault::NoMemory),
+    match make_plan(alloc, folder, compiler, project, defs) {
+        Ok(plan) => build_plan(alloc, target, folder, compiler, project, &plan),
+        Err(PlanFault::Diag(diag)) => Ok(refused(alloc, &diag)?),
+        Err(PlanFault::Folder) => Err(WorkFault::Folder),
+        Err(PlanFault::NoMemory) => Err(WorkFault::NoMemory),
     }
 }
 
-/// Loads the project of ROOT under definitions and builds it, up to the report.
-pub fn work<F: Folder, C: Compiler>(
+/// Loads the project of ROOT under definitions and builds it, with a target or none, up to the report.
+fn build_root<F: Folder, C: Compiler>(
     alloc: Global,
     defs: &List<Def>,
     root: &Text,
+    target: &Option<Text>,
     folder: &mut F,
     compiler: &mut C,
 ) -> Result<Report, WorkFault>
     ensures cause { HasCause (F.faults folder.old) (F.faults folder.new) (result ≡ Err WorkFault.Folder) }
     ensures plain { IfOk result (λ report. IsReported report.status) }
-    ensures does { Told (F.holds folder.old) (λ files. Does C.defines files
-        (prepared C.defines files defs.now root.now).units result (F.holds folder.new)
-        (C.asked compiler.old) (C.asked compiler.new)) }
+    ensures does { IsOutside target.now → Told (F.holds folder.old) (λ files. Does C.defines files target.now
+        (prepared (plan_over C.defines.skel files) files defs.now root.now).units
+        (prepared (plain_plan C.defines.skel files) files defs.now root.now).units
+        result (F.holds folder.new) (C.asked compiler.old) (C.asked compiler.new)) }
     ensures skeletons { Told (F.holds folder.old) (λ files. AsksFor result
-        (prepared C.defines files defs.now root.now).asked_skeletons
+        (prepared (plan_over C.defines.skel files) files defs.now root.now).asked_skeletons
+        (C.asked_skeletons compiler.old) (C.asked_skeletons compiler.new)) }
+    ensures unread { Told (F.holds folder.old) (λ files. AsksFromGood C.defines files result
+        (prepared (plain_plan C.defines.skel files) files defs.now root.now).asked_skeletons
         (C.asked_skeletons compiler.old) (C.asked_skeletons compiler.new)) }
 {
     match load(alloc, folder, defs, root) {
-        Ok(project) => build_project(alloc, defs, folder, compiler, &project),
+        Ok(project) => build_project(alloc, defs, target, folder, compiler, &project),
         Err(LoadFault::Diag(diag)) => Ok(refused(alloc, &diag)?),
         Err(LoadFault::Folder) => Err(WorkFault::Folder),
         Err(LoadFault::NoMemory) => Err(WorkFault::NoMemory),
+    }
+}
+
+/// Builds the project of ROOT for `link`, whose target is found first.
+fn link_root<F: Folder, C: Compiler>(
+    alloc: Global,
+    defs: &List<Def>,
+    root: &Text,
+    out: &Text,
+    folder: &mut F,
+    compiler: &mut C,
+) -> Result<Report, WorkFault>
+    ensures cause { HasCause (F.faults folder.old) (F.faults folder.new) (result ≡ Err WorkFault.Folder) }
+    ensures plain { IfOk result (λ report. IsReported report.status) }
+    ensures does { Told (F.holds folder.old) (λ files. Does C.defines files (path_in (out_in files root.now out.now))
+        (ready_with (plan_over C.defines.skel files) files defs.now root.now (out_in files root.now out.now)).units
+        (ready_with (plain_plan C.defines.skel files) files defs.now root.now (out_in files root.now out.now)).units
+        result (F.holds folder.new) (C.asked compiler.old) (C.asked compiler.new)) }
+    ensures skeletons { Told (F.holds folder.old) (λ files. AsksFor result (ready_with (plan_over C.defines.skel files)
+        files defs.now root.now (out_in files root.now out.now)).asked_skeletons
+        (C.asked_skeletons compiler.old) (C.asked_skeletons compiler.new)) }
+    ensures unread { Told (F.holds folder.old) (λ files. AsksFromGood C.defines files result
+        (ready_with (plain_plan C.defines.skel files)
+        files defs.now root.now (out_in files root.now out.now)).asked_skeletons
+        (C.asked_skeletons compiler.old) (C.asked_skeletons compiler.new)) }
+{
+    match find_target(alloc, folder, root, out) {
+        Ok(path) => build_root(alloc, defs, root, &Some(path), folder, compiler),
+        Err(LoadFault::Diag(diag)) => Ok(refused(alloc, &diag)?),
+        Err(LoadFault::Folder) => Err(WorkFault::Folder),
+        Err(LoadFault::NoMemory) => Err(WorkFault::NoMemory),
+    }
+}
+
+/// Does the work of a command, up to its report.
+pub fn work<F: Folder, C: Compiler>(
+    alloc: Global,
+    command: &Command,
+    folder: &mut F,
+    compiler: &mut C,
+) -> Result<Report, WorkFault>
+    ensures cause { HasCause (F.faults folder.old) (F.faults folder.new) (result ≡ Err WorkFault.Folder) }
+    ensures plain { IfOk result (λ report. IsReported report.status) }
+    ensures does { Told (F.holds folder.old) (λ files. Does C.defines files (target_of files command.now)
+        (ready_of (plan_over C.defines.skel files) files command.now).units
+        (ready_of (plain_plan C.defines.skel files) files command.now).units
+        result (F.holds folder.new) (C.asked compiler.old) (C.asked compiler.new)) }
+    ensures skeletons { Told (F.holds folder.old) (λ files. AsksFor result
+        (ready_of (plan_over C.defines.skel files) files command.now).asked_skeletons
+        (C.asked_skeletons compiler.old) (C.asked_skeletons compiler.new)) }
+    ensures unread { Told (F.holds folder.old) (λ files. AsksFromGood C.defines files result
+        (ready_of (plain_plan C.defines.skel files) files command.now).asked_skeletons
+        (C.asked_skeletons compiler.old) (C.asked_skeletons compiler.new)) }
+{
+    match command {
+        Command::Build { defs, root } => { build_root(alloc, defs, root, &None, folder, compiler) }
+        Command::Link { defs, root, out } => { link_root(alloc, defs, root, out, folder, compiler) }
     }
 }

@@ -4,6 +4,9 @@
 --
 --     word     definitions   operands
 --     build    yes           ROOT
+--     link     yes           ROOT OUT
+--
+-- A call of the program is a command by itself, or a session: the word `session` and one operand, FILE.
 use Rattle.std.specs.Prelude.{ℕ, ◌==◌, ◌&&◌, ◌||◌, Bool, true, false, not, nat_eq, nat_lt, List, [], ◌∷◌, Option, Some, None, codes, length, map, take, drop, if◌then◌else◌, ℤ, pos, neg_ℤ}
 use Rattle.std.specs.List.{list_all, list_any, prefix_len}
 use Rattle.std.specs.Option.{option_map, option_and_then}
@@ -14,8 +17,10 @@ use Rattle.cm_conditions.specs.Arithmetic.{in_range}
 use Rattle.cm_conditions.specs.Grammar.{is_name}
 use Rattle.cm_conditions.specs.Lexemes.{number_from}
 use Rattle.command_words.specs.declared.arguments.Arguments.{Arguments}
+use Rattle.command_words.specs.declared.call.Call.{Call}
+use Rattle.command_words.specs.declared.call.Call.TheVariants.{Session, Single}
 use Rattle.command_words.specs.declared.command.Command.{Command}
-use Rattle.command_words.specs.declared.command.Command.TheVariants.{Build}
+use Rattle.command_words.specs.declared.command.Command.TheVariants.{Build, Link}
 use Rattle.command_words.specs.declared.command.Verb.{Verb}
 use Rattle.command_words.specs.declared.command.Verb.TheVariants as verb
 
@@ -111,17 +116,24 @@ arguments takes words = arguments_from takes false words
 
 -- the command that a word names
 unfoldable pub verb_of : List ℕ → Option Verb
-verb_of word = if pointwise nat_eq word (codes "build") then Some verb.Build else None
+verb_of word =
+    if pointwise nat_eq word (codes "build") then Some verb.Build
+    else (if pointwise nat_eq word (codes "link") then Some verb.Link else None)
 
 -- whether it takes definitions
 abbrev pub takes_definitions : Verb → Bool
 takes_definitions verb.Build = true
+takes_definitions verb.Link = true
 
 -- the command of these operands, where it has exactly so many
 abbrev pub with_operands : Verb → List Def → List (List ℕ) → Option Command
 with_operands verb.Build defs (root ∷ []) = Some (Build defs root)
 with_operands verb.Build defs [] = None
 with_operands verb.Build defs (root ∷ other ∷ more) = None
+with_operands verb.Link defs (root ∷ out ∷ []) = Some (Link defs root out)
+with_operands verb.Link defs [] = None
+with_operands verb.Link defs (root ∷ []) = None
+with_operands verb.Link defs (root ∷ out ∷ other ∷ more) = None
 
 -- .. of these arguments
 abbrev pub with_arguments : Verb → Arguments → Option Command
@@ -134,3 +146,25 @@ of_verb words verb = option_and_then (with_arguments verb) (arguments (takes_def
 abbrev pub command_of : List (List ℕ) → Option Command
 command_of [] = None
 command_of (word ∷ words) = option_and_then (of_verb words) (verb_of word)
+
+-- ---- calls
+
+-- the word that names a session
+unfoldable pub is_session : List ℕ → Bool
+is_session word = pointwise nat_eq word (codes "session")
+
+-- the session of these operands, where there is exactly one, the file of its script
+abbrev pub session_with : List (List ℕ) → Option Call
+session_with (file ∷ []) = Some (Session file)
+session_with [] = None
+session_with (file ∷ other ∷ more) = None
+
+-- .. of the words behind its word, none of which begins with `-`
+abbrev pub session_of : List (List ℕ) → Option Call
+session_of words = option_and_then (λ found. session_with found.operands) (arguments false words)
+
+-- what the words of a call mean: a session, or a command by itself, or nothing
+abbrev pub call_of : List (List ℕ) → Option Call
+call_of [] = None
+call_of (word ∷ words) =
+    if is_session word then session_of words else option_map (λ command. Single command) (command_of (word ∷ words))

@@ -1,6 +1,6 @@
 //! The words behind a command.
 
-ghost use Rattle.std.specs.Prelude.{◌≡◌, ◌&&◌, ℕ, true, false, List, ◌∷◌, IfOk, map, string_bytes};
+ghost use Rattle.std.specs.Prelude.{◌≡◌, ◌&&◌, ℕ, true, false, List, ◌∷◌, IfOk};
 ghost use Rattle.command_words.specs.Reading.{going_on, joined};
 ghost use Rattle.command_words.specs.Words.{arguments, arguments_from, begins_with_dash, is_definition_mark};
 
@@ -101,9 +101,9 @@ fn read_word(
 pub fn read_arguments(
     alloc: Global,
     takes: bool,
-    words: &[String],
+    words: &[Text],
 ) -> Result<Option<Arguments>, NoMemory>
-    ensures { IfOk result (λ found. found ≡ arguments takes (map string_bytes words.now)) }
+    ensures { IfOk result (λ found. found ≡ arguments takes words.now) }
 {
     let mut found = Arguments {
         defs: List::new(alloc),

@@ -9,13 +9,23 @@ use cm_base::{Def, List, Text};
 #[derive(Debug, Drop)]
 pub enum Command {
     /// Builds the project that a description leads to.
-    Build { defs: List<Def>, root: Text },
+    Build {
+        defs: List<Def>,
+        root: Text,
+    },
+    /// Builds it, and writes the linked program to the path OUT too.
+    Link {
+        defs: List<Def>,
+        root: Text,
+        out: Text,
+    },
 }
 
 /// A command as its first word names it.
 #[derive(Clone, Copy, Debug, PartialEq, Eq)]
 pub enum Verb {
     Build,
+    Link,
 }
 
 /// The command that a word names.
@@ -25,6 +35,8 @@ pub fn verb_of(word: &[u8]) -> Option<Verb>
 {
     if word == b"build".as_slice() {
         Some(Verb::Build)
+    } else if word == b"link".as_slice() {
+        Some(Verb::Link)
     } else {
         None
     }
@@ -35,7 +47,7 @@ pub fn takes_definitions(verb: Verb) -> bool
     ensures { result ≡ takes_definitions verb }
 {
     match verb {
-        Verb::Build => true,
+        Verb::Build | Verb::Link => true,
     }
 }
 
@@ -48,6 +60,13 @@ pub fn with_operands(verb: Verb, defs: List<Def>, operands: List<Text>) -> Optio
         Verb::Build => {
             let root = operands.pop()?;
             operands.is_empty().then_some(Command::Build { defs, root })
+        }
+        Verb::Link => {
+            let out = operands.pop()?;
+            let root = operands.pop()?;
+            operands
+                .is_empty()
+                .then_some(Command::Link { defs, root, out })
         }
     }
 }

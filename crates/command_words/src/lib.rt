@@ -2,9 +2,11 @@
 #![tactic(auto)]
 
 mod arguments;
+mod call;
 mod command;
 mod definitions;
 mod words;
 
+pub use call::{Call, read_call};
 pub use command::Command;
 pub use words::read_words;

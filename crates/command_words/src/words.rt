@@ -1,12 +1,12 @@
 //! Reading the words of a command line.
 
-ghost use Rattle.std.specs.Prelude.{◌≡◌, IfOk, map, string_bytes};
+ghost use Rattle.std.specs.Prelude.{◌≡◌, IfOk};
 ghost use Rattle.command_words.specs.Words.{command_of, of_verb, with_arguments};
 
 use crate::arguments::{Arguments, read_arguments};
 use crate::command::{Command, Verb, takes_definitions, verb_of, with_operands};
 use crate::definitions::are_defined_once;
-use cm_base::NoMemory;
+use cm_base::{NoMemory, Text};
 use std::alloc::Global;
 
 /// The command of these arguments, where no name is defined twice.
@@ -20,8 +20,8 @@ fn with_arguments(alloc: Global, verb: Verb, found: Arguments) -> Result<Option<
 }
 
 /// The command that the words behind a verb mean.
-fn of_verb(alloc: Global, words: &[String], verb: Verb) -> Result<Option<Command>, NoMemory>
-    ensures { IfOk result (λ command. command ≡ of_verb (map string_bytes words.now) verb) }
+fn of_verb(alloc: Global, words: &[Text], verb: Verb) -> Result<Option<Command>, NoMemory>
+    ensures { IfOk result (λ command. command ≡ of_verb words.now verb) }
 {
     match read_arguments(alloc, takes_definitions(verb), words)? {
         Some(found) => with_arguments(alloc, verb, found),
@@ -29,9 +29,9 @@ fn of_verb(alloc: Global, words: &[String], verb: Verb) -> Result<Option<Command
     }
 }
 
-/// The command that the words mean; none for a list of words that means nothing.
-pub fn read_words(alloc: Global, words: &[String]) -> Result<Option<Command>, NoMemory>
-    ensures { IfOk result (λ command. command ≡ command_of (map string_bytes words.now)) }
+/// The command that the words mean; none for a list of words that means no command, and for the words of a session.
+pub fn read_words(alloc: Global, words: &[Text]) -> Result<Option<Command>, NoMemory>
+    ensures { IfOk result (λ command. command ≡ command_of words.now) }
 {
     let Some((word, words)) = words.split_first() else {
         return Ok(None);

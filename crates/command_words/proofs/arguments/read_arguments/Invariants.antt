@@ -1,5 +1,4 @@
-use Rattle.std.proofs.Common.{◌≡◌, drop, map, false}
-use Rattle.std.specs.Prelude.{string_bytes}
+use Rattle.std.proofs.Common.{◌≡◌, drop, false}
 use Rattle.command_words.specs.Words.{arguments_from}
 use Rattle.command_words.specs.Reading.{joined}
 use Rattle.command_words.proofs.arguments.read_arguments.Given as goal
@@ -7,5 +6,5 @@ use Rattle.command_words.proofs.arguments.read_arguments.Given as goal
 -- what was found, before what the words that are left are, is what all words are
 abbrev pub invariant-loop-word : goal.invariant-loop-word
 invariant-loop-word l =
-    joined l.found (arguments_from l.takes l.due (map string_bytes (drop l.word-index l.words)))
-    ≡ arguments_from l.takes false (map string_bytes l.words)
+    joined l.found (arguments_from l.takes l.due (drop l.word-index l.words))
+    ≡ arguments_from l.takes false l.words
