@@ -1,0 +1,9 @@
+pub mod Sizes
+pub mod Putting
+pub mod Building
+pub mod Alone
+pub mod Linking
+pub mod Planned
+pub mod Meanings
+pub mod Keeping
+pub mod Histories
