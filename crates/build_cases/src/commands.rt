@@ -1,11 +1,11 @@
 //! Commands over a folder and an output in memory.
 
 use crate::player::Player;
+use case_commands::{run, status_word};
 use case_files::{CaseFault, Part, Section, push_parts};
 use case_scenes::{Answer, Files, Stage, counted, lines_of, look_at, look_of, unknown};
-use cm_base::{Compiler, Folder, List, MemSink, NoMemory, Sink, SureFolder, SureSink, Text};
-use cm_top::{Status, run_cm};
-use member_tools::Toolbox;
+use cm_base::{Compiler, List, MemSink, NoMemory, SureFolder, SureSink, Text};
+use cm_top::Status;
 use std::alloc::Global;
 use std::mem;
 
@@ -49,19 +49,6 @@ fn step_of(name: &[u8]) -> Option<Step> {
     None
 }
 
-/// The word for how a command ended.
-fn status_word(status: Status) -> &'static [u8] {
-    match status {
-        Status::Ok => b"ok",
-        Status::Diagnostic => b"diagnostic",
-        Status::Usage => b"usage",
-        Status::FolderFault => b"folder fault",
-        Status::SinkFault => b"sink fault",
-        Status::NoMemory => b"no memory",
-        Status::ToolFault => b"tool fault",
-    }
-}
-
 /// A word as a program is given it.
 fn string_of(alloc: Global, section: &Section, word: &Text) -> Result<String, CaseFault> {
     match String::from_utf8(Vec::from_slice(alloc, word.as_bytes())?) {
@@ -77,23 +64,6 @@ fn strings_of(alloc: Global, section: &Section, words: &[Text]) -> Result<Vec<St
         strings.push(string_of(alloc, section, word)?)?;
     }
     Ok(strings)
-}
-
-/// Runs a command. Want of memory is handed on.
-fn run<F: Folder, S: Sink, C: Compiler>(
-    alloc: Global,
-    words: &[String],
-    folder: &mut F,
-    out: &mut S,
-    compiler: &mut C,
-) -> Result<Status, NoMemory> {
-    let mut tools = Toolbox::new(alloc);
-    let status = run_cm(alloc, words, folder, out, compiler, &mut tools);
-    tools.close();
-    if status == Status::NoMemory {
-        return Err(NoMemory);
-    }
-    Ok(status)
 }
 
 /// What a command printed, and a line with how it ended where it didn't end well.

@@ -5,6 +5,8 @@
 pub enum Kind {
     /// Commands over a folder in memory, with a compiler of letters.
     Letters,
+    /// Commands over a folder in memory, with a compiler whose sources say what shows in their interface.
+    Seamed,
     /// Commands over a folder in memory, with the compiler of the program.
     Build,
     /// Calls of the folder and the output of the machine.
@@ -14,8 +16,9 @@ pub enum Kind {
 }
 
 /// The kinds with their names.
-const KINDS: [(&[u8], Kind); 4] = [
+const KINDS: [(&[u8], Kind); 5] = [
     (b"letters", Kind::Letters),
+    (b"seamed", Kind::Seamed),
     (b"build", Kind::Build),
     (b"machine", Kind::Machine),
     (b"call", Kind::Call),

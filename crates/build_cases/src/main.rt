@@ -9,13 +9,14 @@ mod player;
 mod words_of_call;
 
 use case_files::{Case, CaseFault, Kinds, Report, Wrong, run_cases};
-use case_scenes::{Letters, play};
+use case_scenes::play;
 use commands::Commands;
 use kind::{Kind, kind_of};
 use machine::try_on_machine;
 use sml_compiler::SmlCompiler;
 use std::alloc::Global;
 use std::process::ExitCode;
+use test_compilers::{Letters, Seamed};
 use words_of_call::WordsOfCall;
 
 /// The kinds of cases of this program.
@@ -28,6 +29,7 @@ impl Kinds for BuildKinds {
     fn try_case(&self, alloc: Global, case: &Case, report: &mut Report) -> Result<(), CaseFault> {
         match kind_of(case.kind.as_bytes()) {
             Some(Kind::Letters) => play(alloc, Commands::<Letters>::new(alloc)?, case, report),
+            Some(Kind::Seamed) => play(alloc, Commands::<Seamed>::new(alloc)?, case, report),
             Some(Kind::Build) => play(alloc, Commands::<SmlCompiler>::new(alloc)?, case, report),
             Some(Kind::Machine) => try_on_machine(self.rt, case, report),
             Some(Kind::Call) => play(alloc, WordsOfCall::new(alloc), case, report),

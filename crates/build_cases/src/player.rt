@@ -1,9 +1,10 @@
 //! The compilers that commands run with.
 
-use case_scenes::{Asked, Letters};
+use case_scenes::Asked;
 use cm_base::NoMemory;
 use sml_compiler::SmlCompiler;
 use std::alloc::Global;
+use test_compilers::{Letters, Seamed};
 
 /// A compiler that can be made anew, and tells what it was asked.
 pub trait Player {
@@ -17,6 +18,19 @@ pub trait Player {
 impl Player for Letters {
     fn begin(alloc: Global) -> Result<Letters, NoMemory> {
         Ok(Letters::new(alloc))
+    }
+
+    fn asked_of(&self) -> Asked<'_> {
+        Asked {
+            units: &self.asked,
+            skeletons: &self.asked_skeletons,
+        }
+    }
+}
+
+impl Player for Seamed {
+    fn begin(alloc: Global) -> Result<Seamed, NoMemory> {
+        Ok(Seamed::new(alloc))
     }
 
     fn asked_of(&self) -> Asked<'_> {

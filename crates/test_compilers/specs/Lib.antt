@@ -1,1 +1,4 @@
-pub mod Compiling
+pub mod LetterSources
+pub mod MarkedSources
+pub mod SeamedSources
+pub mod LetterSkeletons

@@ -1,8 +1,9 @@
 //! A compiler whose interfaces are the fronts of its sources.
 
-ghost use Rattle.std.specs.Prelude.{◌≡◌, ◌∷◌, [], ◌++◌, IfOk, OnOk, OnErr, take};
-ghost use Rattle.test_compilers.specs.Compiling.{is_given_text, is_refused, marked_interface};
+ghost use Rattle.std.specs.Prelude.{◌≡◌, IfOk, take};
+ghost use Rattle.test_compilers.specs.MarkedSources.{is_given_text, is_refused, marked_interface};
 
+use crate::asking::ask;
 use cm_base::{
     CompileFault, CompileInput, Compiled, Compiler, Diag, Given, List, NoMemory, Skeleton, Text,
 };
@@ -25,15 +26,6 @@ impl Marked {
             asked_skeletons: List::new(alloc),
         }
     }
-}
-
-/// Adds a unit at the end of what was asked.
-fn ask(asked: &mut List<Text>, unit: &Text) -> Result<(), NoMemory>
-    ensures ok { OnOk result (asked.new ≡ asked.old ++ unit.now ∷ []) }
-    ensures err { OnErr result (asked.new ≡ asked.old) }
-{
-    let name = unit.copy()?;
-    asked.add(name)
 }
 
 /// Whether the first interface that is given begins with `s`.
@@ -78,7 +70,7 @@ fn interface_of(alloc: Global, input: &CompileInput) -> Result<Text, NoMemory>
 
 impl Compiler for Marked {
     ghost use Rattle.std.specs.Prelude.{[], Ok};
-    ghost use Rattle.test_compilers.specs.Compiling.{marked_compiled};
+    ghost use Rattle.test_compilers.specs.MarkedSources.{marked_compiled};
 
     ghost defines = { record {
       skel = λ unit source. Ok (record { defined = []; free = [] });
