@@ -1,0 +1,4 @@
+pub mod Listing
+pub mod Changing
+pub mod Realising
+pub mod Promised
