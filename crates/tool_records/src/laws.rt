@@ -23,8 +23,8 @@ pub fn records_keep_good()
     ensures true_records { GoodRecordsAreTrue }
 {}
 
-/// The text that a tool of the usual sizes makes is short enough for its record to be whole: so a record that is written
-/// is found again, and no tool runs twice for the size of what it made.
+/// The text that a tool of the usual sizes makes is short enough for its record to be whole: so a record that is
+/// written is found again, and no tool runs twice for the size of what it made.
 pub fn small_runs_fit()
     ensures text { DerivedTextIsShort }
     ensures record { SmallRunsFit }

@@ -1,6 +1,6 @@
 //! Records in a folder: the whole one of a unit is read, and one is put.
 
-ghost use Rattle.std.specs.Prelude.{◌≡◌, Err, IfOk, OnOk};
+ghost use Rattle.std.specs.Prelude.{◌≡◌, ◌≤◌, Err, IfOk, OnOk, drop, length};
 ghost use Rattle.cm_base.specs.Files.{Told, told};
 ghost use Rattle.cm_base.specs.Causes.{HasCause};
 ghost use Rattle.bin_formats.specs.Format.{IsRecord};
@@ -15,27 +15,28 @@ use cm_base::{Folder, NoMemory, Text, put_file, read_front};
 use cm_bytes::Writer;
 use std::alloc::Global;
 
-// What stands behind `.cm/bin/` in the path of a unit's binfile.
-fn unit_part<'a>(path: &'a Text, _unit: &Text) -> &'a [u8]
-    requires { path.now ≡ paths.bin_path _unit.now }
-    ensures { result.now ≡ paths.unit_path _unit.now }
+// What stands behind `.cm/bin/` in the path of a binfile.
+fn unit_part(path: &[u8]) -> &[u8]
+    requires { 8 ≤ length path.now }
+    ensures { result.now ≡ drop 8 path.now }
 {
-    &path.as_bytes()[8..]
+    &path[8..]
 }
 
 /// Where the record of a unit's tool stands: below `.cm/tool/` as the unit's binfile stands below `.cm/bin/`.
+#[tactic(auto, using(crate::proofs::Paths::unit_part, crate::proofs::Paths::beside_is_long))]
 pub fn tool_path(alloc: Global, unit: &Text) -> Result<Text, NoMemory>
     ensures { IfOk result (λ path. path ≡ paths.tool_path unit.now) }
 {
     let beside = bin_path(alloc, unit)?;
     let mut path = Writer::new(alloc);
     path.raw(b".cm/tool/")?;
-    path.raw(unit_part(&beside, unit))?;
+    path.raw(unit_part(beside.as_bytes()))?;
     Ok(path.finish())
 }
 
-/// The record of a unit. `None` exactly where none stands whole at its place: where no file is there, where it is longer
-/// than a record may be, where its bytes are no record, or where they are another unit's.
+/// The record of a unit. `None` exactly where none stands whole at its place: where no file is there, where it is
+/// longer than a record may be, where its bytes are no record, or where they are another unit's.
 pub fn get_record<F: Folder>(
     alloc: Global,
     folder: &mut F,

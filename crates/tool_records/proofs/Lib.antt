@@ -1,0 +1,5 @@
+pub mod Finding
+pub mod Paths
+pub mod Records
+pub mod Sizes
+pub mod Storing
