@@ -1,0 +1,4 @@
+pub mod Embedding
+pub mod Lines
+pub mod Modules
+pub mod Rules

@@ -1,0 +1,4 @@
+pub mod Bundled
+pub mod Embedding
+pub mod Lines
+pub mod Rules
