@@ -1,0 +1,1 @@
+structure B = struct val y = A.x end
