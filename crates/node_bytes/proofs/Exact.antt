@@ -135,13 +135,13 @@ content_takes f step law (Shape.part next) begun bytes content nodes rest ready 
 -- ---- a node
 
 -- a node that stands whole under a number
-spelled_known : (f : Format) (begun : Begun) (x : Node) (k : ℕ) → number_of begun x ≡ Some k
+pub spelled_known : (f : Format) (begun : Begun) (x : Node) (k : ℕ) → number_of begun x ≡ Some k
     → spelled f begun x ≡ record { bytes = f.back ∷ u32_of k; nodes = [] }
 spelled_known f begun (Node.node tag content) k e =
     ap (λ (o : Option ℕ). spelled_as f o (Node.node tag content) (spelled_content f (begun ++ None ∷ []) content)) e
 
 -- a new one
-spelled_new : (f : Format) (begun : Begun) (tag : ℕ) (content : Content)
+pub spelled_new : (f : Format) (begun : Begun) (tag : ℕ) (content : Content)
     → number_of begun (Node.node tag content) ≡ None
     → spelled f begun (Node.node tag content)
     ≡ spelled_as f None (Node.node tag content) (spelled_content f (begun ++ None ∷ []) content)

@@ -1,6 +1,11 @@
 pub mod Again
 pub mod Examples
 pub mod Exact
+pub mod Going
+pub mod Moves
 pub mod Numbers
+pub mod Rows
+pub mod Runs
 pub mod Same
 pub mod Shapes
+pub mod Steps

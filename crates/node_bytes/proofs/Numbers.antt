@@ -103,7 +103,7 @@ AreOnce [] = Unit {0}
 AreOnce (None ∷ begun) = AreOnce begun
 AreOnce (Some y ∷ begun) = (stands begun y ≡ false) × AreOnce begun
 
-stands_at : (begun : Begun) (k : ℕ) (x : Node) → node_of begun k ≡ Some x → stands begun x ≡ true
+pub stands_at : (begun : Begun) (k : ℕ) (x : Node) → node_of begun k ≡ Some x → stands begun x ≡ true
 stands_at [] k x e = absurd (cc)
 stands_at (None ∷ begun) zero x e = absurd (cc)
 stands_at (None ∷ begun) (suc k) x e = stands_at begun k x e

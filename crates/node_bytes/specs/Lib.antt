@@ -1,8 +1,11 @@
 pub mod Examples
 pub mod Formats
+pub mod Going
 pub mod Interfaces
 pub mod Laws
 pub mod Nodes
 pub mod Reading
 pub mod Shapes
 pub mod Spelling
+pub mod Tables
+pub mod Writing

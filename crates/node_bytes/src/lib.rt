@@ -2,4 +2,11 @@
 //! one spelling.
 #![tactic(auto)]
 
+mod fault;
 pub mod laws;
+mod table;
+mod write;
+
+pub use fault::WriteFault;
+pub use table::{Item, Row};
+pub use write::write_node;
