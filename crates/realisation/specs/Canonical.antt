@@ -1,8 +1,8 @@
--- The canonical form of what a unit defines. Its own type names are numbered from 0 by their first occurrence in the walk
--- of all that it defines, and the bound names of each signature and functor by their first occurrence in it, a functor's
--- further ones after those of its parameter; names that don't occur are gone. So are the variables of schemes that don't
--- occur, and the others are numbered by first occurrence. Arities, equality, the order of arguments of type functions,
--- and all other names stay.
+-- The canonical form of what a unit defines. Its own type names are numbered from 0 by their first occurrence in the
+-- walk of all that it defines, and the bound names of each signature and functor by their first occurrence in it, a
+-- functor's further ones after those of its parameter; names that don't occur are gone. So are the variables of schemes
+-- that don't occur, and the others are numbered by first occurrence. Arities, equality, the order of arguments of type
+-- functions, and all other names stay.
 use Rattle.std.specs.Prelude.{ℕ, ◌+◌, List, filter, length, map, Bool, ◌&&◌, not, cond}
 use Rattle.semantic_objects.specs.declared.name.Owner.TheVariants as owner
 use Rattle.semantic_objects.specs.declared.name.TyName.{TyName}

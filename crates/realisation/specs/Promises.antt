@@ -8,8 +8,8 @@ use Rattle.unification.specs.Instances.{IsInstance}
 use Rattle.realisation.specs.Names.{names_in_env, is_listed}
 use Rattle.realisation.specs.Realised.{Realisation, realised, realised_scheme, both, realised_ty, KeepsEquality}
 
--- what is put for names that don't occur changes nothing; realisations that agree on those that occur give the same; two
--- of them, one after the other, are one; and a type that is realised is an instance of the scheme that is realised
+-- what is put for names that don't occur changes nothing; realisations that agree on those that occur give the same;
+-- two of them, one after the other, are one; and a type that is realised is an instance of the scheme that is realised
 pub record RealisesTypes : Type 0 where
   pub untouched : (φ : Realisation) (env : Env)
       → ((name : TyName) → is_listed name (names_in_env env) ≡ true → φ name ≡ None) → realised φ env ≡ env

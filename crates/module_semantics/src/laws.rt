@@ -1,0 +1,9 @@
+//! The laws of matching, so that crates above have them from a call.
+
+ghost use Rattle.module_semantics.specs.Promises.{MatchesByRules};
+
+/// What matching gives, the rules allow.
+#[tactic(auto, using(crate::proofs::Promised::by_rules))]
+pub fn matching_is_by_the_rules()
+    ensures { MatchesByRules }
+{}
