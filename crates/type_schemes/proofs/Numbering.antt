@@ -13,7 +13,7 @@ use Rattle.unification.proofs.Closing.{found_all, found_only, found_same}
 use Rattle.type_nodes.specs.Tables.{Table, whole, whole_all}
 use Rattle.type_schemes.specs.declared.reach.Reached.{Reached}
 use Rattle.type_schemes.specs.declared.number.Numbers.{Numbers}
-use Rattle.type_schemes.specs.Schemes.{is_kept, closed_variables}
+use Rattle.type_schemes.specs.Schemes.{is_kept, closed_variables, all_variables}
 use Rattle.type_schemes.specs.Reaching.{place_in, variables_of, noticed_all, found, IsReached}
 use Rattle.type_schemes.specs.Numbering.{number_of, is_reached, AreNumbers, HasAllVariables}
 use Rattle.type_schemes.proofs.Noticing.{noticed_among, noticed_only}
@@ -125,3 +125,16 @@ pub numbers_closed : (t : Table) (outer r none : Reached) (kept : List TyId) (a 
 numbers_closed t outer r none kept a vs h f e g k = k ∙ g (is_reached outer)
     ∙ ap (λ z. found_in (is_reached outer) (whole t a) (noticed_all (is_reached outer) (variables_of z) [])) e
     ∙ found_same (is_reached outer) (is_kept t kept) (whole t a) [] (λ n o. reached_is t outer kept h f n)
+
+-- all variables
+nothing_reached : (t : Table) (none : Reached) (v : ℕ) → IsReached t none → none.ids ≡ [] → is_reached none v ≡ false
+nothing_reached t none v h e = either_way (is_reached none v)
+    (λ r. option_place (place_in none.variables v) r (λ p k.
+    let l : slice_get [] p ≡ Some (id.Variable v) = sym (ap (λ z. slice_get z p) e) ∙ h.variables v p k in absurd (cc)))
+    (λ r. r)
+
+pub numbers_all : (t : Table) (r none : Reached) (ids : List TyId) (vs : List ℕ) → IsReached t none → none.ids ≡ []
+    → ((k : ℕ → Bool) → found k r ≡ found_in_all k (whole_all t ids) [])
+    → vs ≡ noticed_all (is_reached none) (variables_of r.ids) [] → vs ≡ all_variables t ids
+numbers_all t r none ids vs h e f k = k ∙ f (is_reached none)
+    ∙ found_same (is_reached none) no_variable_kept (as_type (whole_all t ids)) [] (λ n o. nothing_reached t none n h e)

@@ -11,3 +11,4 @@ mod reach;
 
 pub use close::generalise;
 pub use instances::instantiate;
+pub use number::variables_in;

@@ -3,11 +3,12 @@
 ghost use Rattle.std.specs.Prelude.{◌≡◌, ◌∷◌, [], map, false, IfOk, OnOk};
 ghost use Rattle.unification.specs.Closing.{noticed};
 ghost use Rattle.type_nodes.specs.Tables.{state};
+ghost use Rattle.type_schemes.specs.Schemes.{HaveAll, all_variables};
 ghost use Rattle.type_schemes.specs.Reaching.{variables_of, noticed_all};
 ghost use Rattle.type_schemes.specs.Numbering.{number_of, is_reached, AreNumbers, HasAllVariables};
 
 use crate::places::Places;
-use crate::reach::Reached;
+use crate::reach::{Reached, reach};
 use cm_base::{List, NoMemory};
 use semantic_objects::TyId;
 use std::alloc::Global;
@@ -97,4 +98,19 @@ pub(crate) fn number(alloc: Global, reached: &Reached, outer: &Reached) -> Resul
         numbers.meet(*id, outer)?;
     }
     Ok(numbers)
+}
+
+/// The variables that stand in what some ids stand for, by first occurrence.
+pub fn variables_in(
+    table: &TypeBindings,
+    alloc: Global,
+    ids: &[TyId],
+) -> Result<List<usize>, NoMemory>
+    requires { HaveAll table.now ids.now }
+    ensures { IfOk result (λ variables. variables ≡ all_variables table.now ids.now) }
+{
+    let reached = reach(table, alloc, ids)?;
+    let nothing = Reached::new(alloc);
+    let numbers = number(alloc, &reached, &nothing)?;
+    Ok(numbers.variables)
 }
