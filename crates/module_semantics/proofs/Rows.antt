@@ -43,7 +43,8 @@ abbrev var_ty : List ℕ → ℕ → TyPhrase
 var_ty text n = TyPhrase.Var (name text n) (at n)
 
 abbrev val_spec : List ℕ → ℕ → TyPhrase → SpecPhrase
-val_spec text n ty = SpecPhrase.Vals ((let desc : ValPhrase = record { name = name text n; ty = ty } in desc) ∷ []) (at n)
+val_spec text n ty =
+    SpecPhrase.Vals ((let desc : ValPhrase = record { name = name text n; ty = ty } in desc) ∷ []) (at n)
 
 abbrev desc : List Name → List ℕ → ℕ → TypeDescPhrase
 desc tyvars text n = record { tyvars = tyvars; name = name text n }
@@ -151,7 +152,8 @@ sig_1 : of (sig_end (type_spec [] (codes "t") 10 ∷ val_spec (codes "v") 16 (co
 sig_1 = refl
 
 -- sig type t datatype t = A end
-sig_2 : of (sig_end (type_spec [] (codes "t") 10 ∷ datatype_spec (codes "t") 21 (con_bind (codes "A") 25 None ∷ []) ∷ []))
+sig_2 : of (sig_end (type_spec [] (codes "t") 10
+    ∷ datatype_spec (codes "t") 21 (con_bind (codes "A") 25 None ∷ []) ∷ []))
     ≡ refused 40 21 []
 sig_2 = refl
 

@@ -2,9 +2,9 @@
 -- Standard ML (Revised), section 5.7, and matching as a relation, sections 5.4 to 5.6.
 --
 -- A phrase begins at one number and ends at another: the type names that are made in it, those that the signature will
--- bind, have the numbers between. A signature is open here, as in inference; rule 65 closes it. Rule 78 is of `sharing`.
--- That what rule 64 makes is well formed isn't asked: a function that is no name may be put for a datatype's name, whose
--- constructors stay.
+-- bind, have the numbers between. A signature is open here, as in inference; rule 65 closes it. Rules 81 and 82 are those
+-- of datatypes of the core, and rule 78 is of `sharing`. That what rule 64 makes is well formed isn't asked: a function
+-- that is no name may be put for a datatype's name, whose constructors stay.
 use Rattle.std.specs.Prelude.{◌≡◌, ℕ, suc, ◌+◌, List, [], ◌∷◌, ◌++◌, length, map, Some, None, Bool, true, false}
 use Rattle.sml_trees.specs.declared.name.At.{At}
 use Rattle.sml_trees.specs.declared.name.Name.{Name}
@@ -227,8 +227,8 @@ EnrichesItem s env (Item.ValueItem path want) =
 abbrev pub Enriches : State → Env → Env → Type 0
 Enriches s env want = AllItems (EnrichesItem s env) (items want)
 
--- an environment matches a signature by a realisation: it enriches the signature's realised environment. The Definition,
--- section 5.6
+-- an environment matches a signature by a realisation: it enriches the signature's realised environment. The
+-- Definition, section 5.6
 pub record Matches (s : State) (env : Env) (sig : Signature) (φ : Realisation) : Type 0 where
   pub realises : Realises s sig φ
   pub enriches : Enriches s env (realised φ sig.env)

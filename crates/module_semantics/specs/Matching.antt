@@ -17,8 +17,8 @@
 --     a structure: 36
 --     a type: 36; 35; 37 where the type function is another one, or where it is specified with constructors and what is
 --       found hasn't the same ones
---     a value: 36; 37 where what is found isn't at least as general, or where a constructor or an exception is specified
---       and what is found isn't one
+--     a value: 36; 37 where what is found isn't at least as general, or where a constructor or an exception is
+--       specified and what is found hasn't this status
 -- 36 and 37 have the long name from the signature's root.
 use Rattle.std.specs.Prelude.{ℕ, List, [], ◌∷◌, ◌++◌, Option, Some, None, Err, Bool, true, false, ◌&&◌, not, cond, eqb}
 use Rattle.std.specs.Option.{is_none}

@@ -1,7 +1,7 @@
 -- What signature expressions and specifications mean, with the first diagnostic. The Definition, rules 62 to 84.
 --
--- A signature is inferred open: what it binds are names of the unit, with numbers from the next one on. It is finished by
--- `closed`. Signatures have no type of a limited size.
+-- A signature is inferred open: what it binds are names of the unit, with numbers from the next one on. It is finished
+-- by `closed`. Signatures have no type of a limited size.
 --
 -- The order in which parts are inferred and checks asked. Each check is named by its diagnostic. 40 is asked of a name
 -- that the signature specifies already, whatever specified it; structures, types and values are three kinds of names.

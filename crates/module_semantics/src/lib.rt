@@ -4,4 +4,4 @@
 
 mod laws;
 
-pub use laws::matching_is_by_the_rules;
+pub use laws::{matching_is_by_the_rules, matching_is_unique};
