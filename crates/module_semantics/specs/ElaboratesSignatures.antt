@@ -2,9 +2,9 @@
 -- Standard ML (Revised), section 5.7, and matching as a relation, sections 5.4 to 5.6.
 --
 -- A phrase begins at one number and ends at another: the type names that are made in it, those that the signature will
--- bind, have the numbers between. A signature is open here, as in inference; rule 65 closes it. Rules 81 and 82 are those
--- of datatypes of the core, and rule 78 is of `sharing`. That what rule 64 makes is well formed isn't asked: a function
--- that is no name may be put for a datatype's name, whose constructors stay.
+-- bind, have the numbers between. A signature is open here, as in inference; rule 65 closes it. Rules 81 and 82 are
+-- those of datatypes of the core, and rule 78 is of `sharing`. That what rule 64 makes is well formed isn't asked: a
+-- function that is no name may be put for a datatype's name, whose constructors stay.
 use Rattle.std.specs.Prelude.{◌≡◌, ℕ, suc, ◌+◌, List, [], ◌∷◌, ◌++◌, length, map, Some, None, Bool, true, false}
 use Rattle.sml_trees.specs.declared.name.At.{At}
 use Rattle.sml_trees.specs.declared.name.Name.{Name}
