@@ -7,3 +7,5 @@ pub mod Pairing
 pub mod Sizing
 pub mod Looking
 pub mod Sorting
+pub mod Covering
+pub mod Freezing

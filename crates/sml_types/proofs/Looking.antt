@@ -20,8 +20,9 @@ use Rattle.semantic_objects.specs.declared.name.TyName.{TyName}
 use Rattle.sml_types.specs.declared.look.Look.{Look}
 use Rattle.sml_types.specs.declared.look.Look.TheVariants as look
 use Rattle.sml_types.specs.declared.look.LookField.{LookField}
-use Rattle.sml_types.specs.Unifying.{Extends}
-use Rattle.sml_types.specs.Looking.{labels_of, ids_of, HasAll, LooksRecord, AreSorted, IsRecordType, IsLook}
+use Rattle.type_schemes.specs.Instances.{Extends}
+use Rattle.type_schemes.specs.Schemes.{HaveAll}
+use Rattle.sml_types.specs.Looking.{labels_of, ids_of, LooksRecord, AreSorted, IsRecordType, IsLook}
 use Rattle.sml_types.proofs.Frames.{part_has}
 use Rattle.sml_types.proofs.Solving.{take_whole}
 
@@ -33,6 +34,7 @@ extends_variable t b = record {
     nodes = take_whole t.nodes;
     trail = take_whole t.trail;
   };
+  trail = refl;
   types = λ a h. refl;
   ids = λ a h. id_more _ _ _ _ a (let k : length (t.births ++ b ∷ []) ≡ length t.births + 1 = length_snoc t.births b in
       omega (arith, k)) (omega arith) h;
@@ -45,6 +47,7 @@ extends_node t x = record {
     nodes = take-append_seam t.nodes (x ∷ []);
     trail = take_whole t.trail;
   };
+  trail = refl;
   types = λ a h. type_front t.nodes (x ∷ []) (length t.births) a h;
   ids = λ a h. id_more _ _ _ _ a (omega arith)
       (let k : length (t.nodes ++ x ∷ []) ≡ length t.nodes + 1 = length_snoc t.nodes x in omega (arith, k)) h;
@@ -70,8 +73,8 @@ each_all : (P : TyId → Type 0) (ids : List TyId) → All P ids → (i : ℕ) (
 each_all P ids h i a e = subst P (get_or_from_slice_get ids i a a e) (h i a (slice_get_within ids i a e))
 
 pub sorted_has : (t : Table) (fields : List LookField) (labels : List (List ℕ)) (ids : List TyId) → AreSorted fields labels ids
-    → HasAll t (ids_of fields) → HasAll t ids
-sorted_has t fields labels ids s h = subst (HasAll t) (sym s.ids_are) (each_all (Has t) (ids_of s.sorted)
+    → HaveAll t (ids_of fields) → HaveAll t ids
+sorted_has t fields labels ids s h = subst (HaveAll t) (sym s.ids_are) (each_all (Has t) (ids_of s.sorted)
     (All-map-IsPermutation (λ (f : LookField). f.part) (Has t) fields s.sorted s.permutation (all_each (Has t) (ids_of fields) h)))
 
 length_map : {A B : Type 0} (f : A → B) (xs : List A) → length (map f xs) ≡ length xs
@@ -79,7 +82,7 @@ length_map f [] = refl
 length_map f (x ∷ xs) = (let k : length (map f xs) ≡ length xs = length_map f xs in omega (arith, k))
 
 pub sorted_node : (t : Table) (fields : List LookField) (labels : List (List ℕ)) (ids : List TyId) → AreSorted fields labels ids
-    → HasAll t (ids_of fields) → IsNode (store_of t) (record { symbol = symbol.Record labels; parts = ids })
+    → HaveAll t (ids_of fields) → IsNode (store_of t) (record { symbol = symbol.Record labels; parts = ids })
 sorted_node t fields labels ids s h = record {
   parts = sorted_has t fields labels ids s h;
   counted = ap length s.ids_are ∙ length_map (λ (f : LookField). f.part) s.sorted
@@ -101,7 +104,7 @@ record_is t fields given labels parts ids u g p s e = record {
 }
 
 -- what a node looks like
-pub node_has : (t : Table) (i : ℕ) (x : Node) → IsKept t → slice_get t.nodes i ≡ Some x → HasAll t x.parts
+pub node_has : (t : Table) (i : ℕ) (x : Node) → IsKept t → slice_get t.nodes i ≡ Some x → HaveAll t x.parts
 node_has t i x k e j a f = part_has t i j x a k.made e f
 
 pub looks_record : (t : Table) (i : ℕ) (x : Node) (labels : List (List ℕ)) (fields : List LookField) → IsKept t
@@ -110,7 +113,7 @@ pub looks_record : (t : Table) (i : ℕ) (x : Node) (labels : List (List ℕ)) (
 looks_record t i x labels fields k e s l p = record {
   is = node_whole t i x k.made e ∙ ap₂ (λ c is. Ty.Made c (whole_all t is)) (s ∙ ap symbol.Record (sym l)) (sym p);
   rising = subst AreRising (sym l) (subst HasRisingLabels s (k.made.each i x e).rising);
-  has = subst (HasAll t) (sym p) (node_has t i x k e);
+  has = subst (HaveAll t) (sym p) (node_has t i x k e);
 }
 
 two_parts : (ps : List TyId) (a b : TyId) → length ps ≡ 2 → slice_get ps 0 ≡ Some a → slice_get ps 1 ≡ Some b
@@ -122,18 +125,18 @@ two_parts (x ∷ y ∷ z ∷ ps) a b l h k = absurd (omega (arith, l))
 
 pub looks_arrow : (t : Table) (i : ℕ) (x : Node) (from to : TyId) → IsKept t → slice_get t.nodes i ≡ Some x
     → x.symbol ≡ symbol.Arrow → slice_get x.parts 0 ≡ Some from → slice_get x.parts 1 ≡ Some to
-    → (whole t (id.Made i) ≡ Ty.Made symbol.Arrow (whole_all t (from ∷ to ∷ []))) × HasAll t (from ∷ to ∷ [])
+    → (whole t (id.Made i) ≡ Ty.Made symbol.Arrow (whole_all t (from ∷ to ∷ []))) × HaveAll t (from ∷ to ∷ [])
 looks_arrow t i x from to k e s a b =
     let n : length x.parts ≡ 2 = (k.made.each i x e).counted ∙ ap part_count s in
     let p : x.parts ≡ from ∷ to ∷ [] = two_parts x.parts from to n a b in
-    (node_whole t i x k.made e ∙ ap₂ (λ c is. Ty.Made c (whole_all t is)) s p, subst (HasAll t) p (node_has t i x k e))
+    (node_whole t i x k.made e ∙ ap₂ (λ c is. Ty.Made c (whole_all t is)) s p, subst (HaveAll t) p (node_has t i x k e))
 
 pub looks_name : (t : Table) (i : ℕ) (x : Node) (name copy : TyName) (args : List TyId) → IsKept t
     → slice_get t.nodes i ≡ Some x → x.symbol ≡ symbol.Name name → copy ≡ name → args ≡ x.parts
-    → (whole t (id.Made i) ≡ Ty.Made (symbol.Name copy) (whole_all t args)) × HasAll t args
+    → (whole t (id.Made i) ≡ Ty.Made (symbol.Name copy) (whole_all t args)) × HaveAll t args
 looks_name t i x name copy args k e s c p = (
   node_whole t i x k.made e ∙ ap₂ (λ c is. Ty.Made c (whole_all t is)) (s ∙ ap symbol.Name (sym c)) (sym p),
-  subst (HasAll t) (sym p) (node_has t i x k e),
+  subst (HaveAll t) (sym p) (node_has t i x k e),
 )
 
 -- ids that stand for the same type look the same

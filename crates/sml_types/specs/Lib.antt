@@ -5,3 +5,4 @@ pub mod Occurring
 pub mod Requiring
 pub mod Sizing
 pub mod Pairs
+pub mod Covering

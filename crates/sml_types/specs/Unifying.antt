@@ -1,10 +1,9 @@
 -- What calls of a table answer, and what they leave. That unification is most general, or refuses where no unifier
 -- exists, is the claim of The Definition of Standard ML (Revised), section 4.12.
 use Rattle.std.specs.Prelude.{◌≡◌, ◌≤◌, length, take, Some, Result, Ok, Err}
-use Rattle.semantic_objects.specs.declared.name.TyId.{TyId}
 use Rattle.unification.specs.Types.{Ty, State}
 use Rattle.unification.specs.Unification.{Fault, Answer, Solves, LeavesRigid, MakesEqual, IsMostGeneral}
-use Rattle.type_nodes.specs.Tables.{Table, Has, type_of, IsFrontOf}
+use Rattle.type_nodes.specs.Tables.{Table, Has}
 use Rattle.sml_types.specs.declared.fault.TypeFault.{TypeFault}
 use Rattle.sml_types.specs.declared.fault.TypeFault.TheVariants as fault
 
@@ -45,9 +44,3 @@ IsMostGeneralFor u v s (Err (fault.Clash a b)) r = (p : State) → Solves p s �
 IsMostGeneralFor u v s (Err (fault.Circular a b)) r = (p : State) → Solves p s → LeavesRigid p s → MakesEqual u v p → ⊥
 IsMostGeneralFor u v s (Err (fault.NotEquality a)) r = (p : State) → Solves p s → LeavesRigid p s → MakesEqual u v p → ⊥
 IsMostGeneralFor u v s (Err fault.NoMemory) r = Unit {0}
-
--- nothing is taken back, ids stay ids, and stay what they were made as
-pub record Extends (old new : Table) : Type 0 where
-  pub front : IsFrontOf old new
-  pub types : (a : TyId) → Has old a → type_of new a ≡ type_of old a
-  pub ids : (a : TyId) → Has old a → Has new a

@@ -1,27 +1,34 @@
 //! The table of types.
 
-ghost use Rattle.std.specs.Prelude.{◌≡◌, ◌↔◌, ◌∷◌, [], length, true, false, IsTrue, IfOk, OnErr};
+ghost use Rattle.std.specs.Prelude.{◌≡◌, ◌↔◌, ◌∷◌, ◌++◌, [], length, true, false, IsTrue, IfOk, OnErr};
 ghost use Rattle.semantic_objects.specs.declared.symbol.Symbol.TheVariants as symbol;
 ghost use Rattle.semantic_objects.specs.Symbols.{AreDiffering};
 ghost use Rattle.unification.specs.Types.{Ty, size};
 ghost use Rattle.unification.specs.Unification.{unify_in, depth};
-ghost use Rattle.unification.specs.Instances.{with_variable};
+ghost use Rattle.unification.specs.Instances.{with_variable, instance};
+ghost use Rattle.unification.specs.Generality.{IsOf};
+ghost use Rattle.unification.specs.Fitting.{IsSchemeOf};
 ghost use Rattle.type_nodes.specs.Nodes.{IsNode};
 ghost use Rattle.type_nodes.specs.Tables.{Has, store_of, state, whole, type_of, types_of, with_variable_of, IsFrontOf};
 ghost use Rattle.type_nodes.specs.Facts.{capped};
-ghost use Rattle.sml_types.specs.Looking.{HasAll, IsLook, IsRecordType};
-ghost use Rattle.sml_types.specs.Unifying.{Grown, Sought, NamesOwn, IsMostGeneralFor, Extends};
+ghost use Rattle.type_schemes.specs.Instances.{Extends, births_of};
+ghost use Rattle.type_schemes.specs.Schemes.{HaveAll, closed_scheme};
+ghost use Rattle.sml_types.specs.Covering.{CoversIn};
+ghost use Rattle.sml_types.specs.Looking.{IsLook, IsRecordType};
+ghost use Rattle.sml_types.specs.Unifying.{Grown, Sought, NamesOwn, IsMostGeneralFor};
 
+use crate::covers::covers;
 use crate::fault::TypeFault;
 use crate::look::{Look, copied, fields_of, look_at};
 use crate::record::in_order;
 use crate::size::tree_size;
 use crate::unify::unify_below;
 use cm_base::{List, NoMemory, Text};
-use semantic_objects::{Symbol, TyId, TyName};
+use semantic_objects::{Scheme, Symbol, TyId, TyName};
 use std::alloc::Global;
 use std::marker::Model;
 use type_nodes::{Birth, Mark, Node, TypeBindings};
+use type_schemes::{generalise, instantiate};
 
 /// Types with variables, and what stands for these.
 #[derive(Drop)]
@@ -129,7 +136,7 @@ impl TypeTable {
 
     /// A type name with its arguments.
     pub fn con(&mut self, name: &TyName, args: &List<TyId>) -> Result<TyId, NoMemory>
-        requires args { HasAll self.old args.now }
+        requires args { HaveAll self.old args.now }
         requires counted { length args.now ≡ name.now.arity }
         ensures made { IfOk result (λ id. type_of self.new id ≡ Ty.Made (symbol.Name name.now) (types_of self.old args.now)) }
         ensures has { IfOk result (Has self.new) }
@@ -144,7 +151,7 @@ impl TypeTable {
 
     /// A record type of as many parts as differing labels, with its fields in the byte order of the labels.
     pub fn record_type(&mut self, labels: &List<Text>, parts: &List<TyId>) -> Result<TyId, NoMemory>
-        requires parts { HasAll self.old parts.now }
+        requires parts { HaveAll self.old parts.now }
         requires counted { length parts.now ≡ length labels.now }
         requires differing { AreDiffering labels.now }
         ensures made { IfOk result (λ id. IsRecordType self.old labels.now parts.now (type_of self.new id)) }
@@ -195,6 +202,45 @@ impl TypeTable {
         }
     }
 
+    /// The scheme of what an id stands for, closed over its variables but for those that stand in what an id of `kept`
+    /// stands for: they are numbered by first occurrence, each with the mark that it has now, and all others stay free.
+    /// Rigid variables are closed as others are.
+    pub fn generalise(&mut self, ty: TyId, kept: &List<TyId>) -> Result<Scheme, NoMemory>
+        requires has { Has self.old ty }
+        requires kept { HaveAll self.old kept.now }
+        ensures scheme { IfOk result (λ scheme. scheme ≡ closed_scheme self.old kept.now ty) }
+        ensures of { IfOk result (IsSchemeOf (state self.old)) }
+        ensures same { self.new ≡ self.old }
+    {
+        self.bindings.is_kept();
+        Ok(generalise(&self.bindings, self.alloc, ty, kept)?)
+    }
+
+    /// An instance of a scheme: one new variable for each mark, in the order of the marks and with the mark, and the
+    /// scheme's type with these in place of its own variables. A scheme in which a variable is free that the table
+    /// doesn't have is refused as want of memory is.
+    pub fn instantiate(&mut self, scheme: &Scheme) -> Result<TyId, NoMemory>
+        ensures made { IfOk result (λ id. type_of self.new id ≡ (instance scheme.now (state self.old)).0) }
+        ensures has { IfOk result (Has self.new) }
+        ensures births { IfOk result (λ id. self.new.births ≡ self.old.births ++ births_of scheme.now.marks) }
+        ensures state { IfOk result (λ id. state self.new ≡ (instance scheme.now (state self.old)).1) }
+        ensures extends { IfOk result (λ id. Extends self.old self.new) }
+        ensures refused { OnErr result (self.new ≡ self.old) }
+    {
+        instantiate(&mut self.bindings, self.alloc, scheme)
+    }
+
+    /// Whether every instance of the second scheme is one of the first, where variables that are free in them stand for
+    /// themselves alone. Both are schemes of this table.
+    pub fn covers(&mut self, general: &Scheme, special: &Scheme) -> Result<bool, NoMemory>
+        requires general { IsOf (state self.old) general.now.body }
+        requires special { IsOf (state self.old) special.now.body }
+        ensures covers { IfOk result (λ covers. IsTrue covers ↔ CoversIn self.old general.now special.now) }
+        ensures same { self.new ≡ self.old }
+    {
+        covers(&mut self.bindings, self.alloc, general, special)
+    }
+
     /// Remembers the table as it stands.
     pub fn mark(&self) -> Mark
         ensures { result ≡ self.now }
@@ -213,7 +259,7 @@ impl TypeTable {
 
 /// How deep unification goes.
 #[tactic(auto, unfolding(unification::specs::Unification::depth))]
-fn deepest() -> usize
+pub(crate) fn deepest() -> usize
     ensures { result ≡ depth }
 {
     usize::MAX

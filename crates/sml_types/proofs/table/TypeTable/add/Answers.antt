@@ -1,7 +1,7 @@
 use Rattle.std.proofs.Common.{subst, ap, ◌∙◌}
 use Rattle.unification.specs.Types.{Ty}
 use Rattle.type_nodes.specs.Tables.{types_of, with_node_of}
-use Rattle.sml_types.specs.Unifying.{Extends}
+use Rattle.type_schemes.specs.Instances.{Extends}
 use Rattle.sml_types.proofs.Looking.{new_type, extends_node, extends_to}
 use Rattle.sml_types.proofs.table.TypeTable.add.Goals as goal
 

@@ -1,0 +1,6 @@
+use Rattle.std.proofs.Common.{◌<◌, refl, arith}
+use Rattle.sml_types.proofs.Freezing.{follows_same}
+use Rattle.sml_types.proofs.covers.freeze_below.Goals as goal
+
+pub freeze-requires : goal.freeze-requires
+freeze-requires c = (let k = c.if-variable-own.true in let l = c.requires in omega (arith, k, l))
