@@ -22,9 +22,9 @@ use Rattle.core_scopes.specs.declared.made.Made.{Made}
 use Rattle.core_scopes.specs.declared.made.NamedInScope.{NamedInScope}
 use Rattle.core_scopes.specs.declared.written.InScope.{InScope}
 use Rattle.core_scopes.specs.Scopes.{Bindings, entry_of, first_entry, written_rows, structures_seen, types_seen, values_seen, seen, written_of, AreEnvs, IsScopeOf}
-use Rattle.core_scopes.specs.Marks.{IsFrontOf, Becomes, value_rows, IsMadeSince}
+use Rattle.core_scopes.specs.Marks.{IsFrontOf, Becomes, value_rows, env_of_made, IsMadeSince}
 use Rattle.core_scopes.specs.Opened.{Opens}
-use Rattle.core_scopes.specs.Listed.{env_rows, scope_rows}
+use Rattle.core_scopes.specs.Listed.{env_rows, scope_rows, more_made}
 use Rattle.core_scopes.specs.Promises.{StaysInScope, FrontsGoOn}
 use Rattle.core_scopes.proofs.Tables.{or_held, entry_or, entry_over, entry_under, all_append, all_at_once}
 
@@ -443,71 +443,89 @@ since : {A : Type 0} (past now : List A) → take (length past) now ≡ past →
 since past now h =
     sym (take-append-drop (length past) now) ∙ ap (λ z. z ++ drop (length past) now) h
 
+envs_of : (g : Graph) (list : List NamedEnv) → HasEnvs g list → AreEnvs g (env_rows list)
+envs_of g [] h = tt
+envs_of g (e ∷ es) h = (h.0, envs_of g es h.1)
+
+-- lists behind what was bound before
+module _ {V : Type 0} (past now : Bindings V) (made : Made V) (w : Rows TyId)
+    (h : Grows past now (env_rows made.structures) (type_rows made.types) (scope_rows made.values) w) where
+  structs : (g : Graph) → with_all (map_rows (env_at g) (env_rows made.structures)) (structures_seen g past)
+      ≡ with_all (table_of (structures_of (with_all (structure_rows g made.structures) [])))
+      (table_of (structures_of (structures_seen g past)))
+  structs g =
+      ap (λ rows. with_all rows (structures_seen g past)) (sym (struct_rows g made.structures))
+      ∙ at_once (structure_rows g made.structures) (structures_seen g past)
+      ∙ ap (λ rows. with_all rows (structures_seen g past))
+      (sym (tables_back (with_all (structure_rows g made.structures) [])))
+      ∙ ap (with_all (table_of (structures_of (with_all (structure_rows g made.structures) []))))
+      (sym (tables_back (structures_seen g past)))
+
+  vals : (g : Graph) (read : V → ValueEntry)
+      → with_all (map_rows (entry_of read) (scope_rows made.values)) (values_seen g read past)
+      ≡ with_all (with_all (value_rows read made.values) []) (values_seen g read past)
+  vals g read =
+      ap (λ rows. with_all rows (values_seen g read past)) (sym (val_rows read made.values))
+      ∙ at_once (value_rows read made.values) (values_seen g read past)
+
+  pub grown_made : (g : Graph) (read : V → ValueEntry)
+      → seen g read now ≡ modified_by (seen g read past) (env_of_made g read made)
+  grown_made g read =
+      grown_seen past now (env_rows made.structures) (type_rows made.types) (scope_rows made.values) w h g read
+      ∙ ap (λ z. env_of z (with_all (type_rows made.types) (types_seen g past))
+      (with_all (map_rows (entry_of read) (scope_rows made.values)) (values_seen g read past)))
+      (structs g)
+      ∙ ap (λ z. env_of (with_all (table_of (structures_of (with_all (structure_rows g made.structures) [])))
+      (table_of (structures_of (structures_seen g past)))) z
+      (with_all (map_rows (entry_of read) (scope_rows made.values)) (values_seen g read past)))
+      (at_once (type_rows made.types) (types_seen g past))
+      ∙ ap (λ z. env_of (with_all (table_of (structures_of (with_all (structure_rows g made.structures) [])))
+      (table_of (structures_of (structures_seen g past))))
+      (with_all (with_all (type_rows made.types) []) (types_seen g past)) z) (vals g read)
+
 pub made_is : {V : Type 0} (past now : Bindings V) (made : Made V) → IsFrontOf past now
     → env_rows made.structures ≡ drop (length past.structures) now.structures
     → type_rows made.types ≡ drop (length past.types) now.types
     → scope_rows made.values ≡ drop (length past.values) now.values → IsMadeSince past now made
 made_is {V} past now made front ss ts vs = record {
-  seen = λ g read.
-      grown_seen past now s t v w h g read
-      ∙ ap (λ z. env_of z (with_all t (types_seen g past))
-      (with_all (map_rows (entry_of read) v) (values_seen g read past)))
-      (structs g)
-      ∙ ap (λ z. env_of (with_all (table_of (structures_of (with_all (structure_rows g made.structures) [])))
-      (table_of (structures_of (structures_seen g past)))) z
-      (with_all (map_rows (entry_of read) v) (values_seen g read past))) (typs g)
-      ∙ ap (λ z. env_of (with_all (table_of (structures_of (with_all (structure_rows g made.structures) [])))
-      (table_of (structures_of (structures_seen g past))))
-      (with_all (with_all (type_rows made.types) []) (types_seen g past)) z) (vals g read);
+  seen = λ g read. grown_made past now made w h g read;
   there = λ g there. has_envs g made.structures
-      (subst (AreEnvs g) (sym ss) (envs_behind g past.structures s (subst (AreEnvs g) h.structures there.structures)));
+      (envs_behind g past.structures (env_rows made.structures) (subst (AreEnvs g) h.structures there.structures));
 }
   where
-    s : Rows EnvId
-    s = drop (length past.structures) now.structures
-
-    t : Rows TypeStr
-    t = drop (length past.types) now.types
-
-    v : Rows (ValueInScope V)
-    v = drop (length past.values) now.values
-
     w : Rows TyId
     w = drop (length past.written) now.written
 
-    h : Grows past now s t v w
+    h : Grows past now (env_rows made.structures) (type_rows made.types) (scope_rows made.values) w
     h = record {
       below = front.below;
-      structures = since past.structures now.structures front.structures;
-      types = since past.types now.types front.types;
-      values = since past.values now.values front.values;
+      structures = since past.structures now.structures front.structures ∙ ap (λ z. past.structures ++ z) (sym ss);
+      types = since past.types now.types front.types ∙ ap (λ z. past.types ++ z) (sym ts);
+      values = since past.values now.values front.values ∙ ap (λ z. past.values ++ z) (sym vs);
       written = since past.written now.written front.written;
     }
 
-    structs : (g : Graph) → with_all (map_rows (env_at g) s) (structures_seen g past)
-        ≡ with_all (table_of (structures_of (with_all (structure_rows g made.structures) [])))
-        (table_of (structures_of (structures_seen g past)))
-    structs g =
-        ap (λ rows. with_all rows (structures_seen g past))
-        (ap (map_rows (env_at g)) (sym ss) ∙ sym (struct_rows g made.structures))
-        ∙ at_once (structure_rows g made.structures) (structures_seen g past)
-        ∙ ap (λ rows. with_all rows (structures_seen g past))
-        (sym (tables_back (with_all (structure_rows g made.structures) [])))
-        ∙ ap (with_all (table_of (structures_of (with_all (structure_rows g made.structures) []))))
-        (sym (tables_back (structures_seen g past)))
-
-    typs : (g : Graph) → with_all t (types_seen g past)
-        ≡ with_all (with_all (type_rows made.types) []) (types_seen g past)
-    typs g =
-        ap (λ rows. with_all rows (types_seen g past)) (sym ts) ∙ at_once (type_rows made.types) (types_seen g past)
-
-    vals : (g : Graph) (read : V → ValueEntry)
-        → with_all (map_rows (entry_of read) v) (values_seen g read past)
-        ≡ with_all (with_all (value_rows read made.values) []) (values_seen g read past)
-    vals g read =
-        ap (λ rows. with_all rows (values_seen g read past))
-        (ap (map_rows (entry_of read)) (sym vs) ∙ sym (val_rows read made.values))
-        ∙ at_once (value_rows read made.values) (values_seen g read past)
+-- lists that are bound
+pub made_bound : {V : Type 0} (old new : Bindings V) (made : Made V) → old.hidden ≤ length old.written
+    → new ≡ more_made made old → (g : Graph) → HasEnvs g made.structures
+    → Becomes g old new (λ read. modified_by (seen g read old) (env_of_made g read made)) (written_of old)
+made_bound {V} old new made kept is g there = record {
+  seen = λ read. grown_made old new made [] h g read;
+  written = same_written old new kept h.below (ap (λ (sc : Bindings V). sc.written) is)
+      (ap (λ (sc : Bindings V). sc.hidden) is);
+  front = grown_front old new (env_rows made.structures) (type_rows made.types) (scope_rows made.values) [] h kept;
+  there = grown_there old new (env_rows made.structures) (type_rows made.types) (scope_rows made.values) [] h g
+      (envs_of g made.structures there);
+}
+  where
+    h : Grows old new (env_rows made.structures) (type_rows made.types) (scope_rows made.values) []
+    h = record {
+      below = ap (λ (sc : Bindings V). sc.below) is;
+      structures = ap (λ (sc : Bindings V). sc.structures) is;
+      types = ap (λ (sc : Bindings V). sc.types) is;
+      values = ap (λ (sc : Bindings V). sc.values) is;
+      written = nothing_more old.written new.written (ap (λ (sc : Bindings V). sc.written) is);
+    }
 
 -- ---- what is looked up
 

@@ -1,4 +1,3 @@
-pub mod LongNames
 pub mod Scopes
 pub mod Marks
 pub mod Codes

@@ -2,7 +2,9 @@
 use Rattle.std.specs.Prelude.{◌++◌, List, map, reverse}
 use Rattle.sml_modules.specs.declared.id.EnvId.{EnvId}
 use Rattle.sml_modules.specs.declared.parts.NamedEnv.{NamedEnv}
+use Rattle.sml_modules.specs.Graphs.{type_rows}
 use Rattle.name_trails.specs.Trails.{Rows}
+use Rattle.core_scopes.specs.declared.made.Made.{Made}
 use Rattle.core_scopes.specs.declared.made.NamedInScope.{NamedInScope}
 use Rattle.core_scopes.specs.declared.value.ValueInScope.{ValueInScope}
 use Rattle.core_scopes.specs.declared.written.InScope.{InScope}
@@ -17,3 +19,11 @@ scope_rows {V} entries = map (λ (e : NamedInScope V). (e.name, e.entry)) entrie
 -- written type variables are bound, the last of them first
 abbrev pub more_written : {V : Type 0} → List InScope → Bindings V → Bindings V
 more_written rows sc = record sc { written = sc.written ++ reverse (written_rows rows) }
+
+-- all of some lists is bound
+abbrev pub more_made : {V : Type 0} → Made V → Bindings V → Bindings V
+more_made made sc = record sc {
+  structures = sc.structures ++ env_rows made.structures;
+  types = sc.types ++ type_rows made.types;
+  values = sc.values ++ scope_rows made.values;
+}

@@ -1,16 +1,18 @@
-//! What was bound in a scope, as lists from which an environment is made.
+//! What was bound in a scope, as lists from which an environment is made, or which are bound in another scope.
 
-ghost use Rattle.std.specs.Prelude.{◌≡◌, drop, map, IfOk};
-ghost use Rattle.sml_modules.specs.Graphs.{type_rows};
-ghost use Rattle.core_scopes.specs.Scopes.{Bindings};
-ghost use Rattle.core_scopes.specs.Marks.{mark_of, IsFrontOf, IsMadeSince};
-ghost use Rattle.core_scopes.specs.Listed.{env_rows, scope_rows};
+ghost use Rattle.std.specs.Prelude.{◌≡◌, ◌++◌, length, take, drop, map, IfOk, OnOk, OnErr};
+ghost use Rattle.semantic_objects.specs.Environments.{modified_by};
+ghost use Rattle.sml_modules.specs.Graphs.{Graph, HasEnvs, type_rows};
+ghost use Rattle.core_scopes.specs.Scopes.{Bindings, seen, written_of};
+ghost use Rattle.core_scopes.specs.Marks.{mark_of, env_of_made, IsFrontOf, IsMadeSince, Becomes};
+ghost use Rattle.core_scopes.specs.Listed.{env_rows, scope_rows, more_made};
 
 use crate::mark::ScopeMark;
 use crate::scope::Scope;
 use crate::value::ValueInScope;
 use cm_base::{List, NoMemory, Text};
 use env_parts::copy_type;
+use name_trails::NameTrail;
 use semantic_objects::TypeStr;
 use sml_modules::{EnvId, NamedEnv, NamedType};
 use std::alloc::Global;
@@ -86,6 +88,45 @@ fn list_values<V: Copy + Drop>(
     Ok(list)
 }
 
+/// Binds structures in their order. After want of memory some of them may be bound.
+fn bind_structures(trail: &mut NameTrail<EnvId>, entries: List<NamedEnv>) -> Result<(), NoMemory>
+    ensures ok { OnOk result (trail.new ≡ trail.old ++ env_rows entries) }
+    ensures kept { take (length trail.old) trail.new ≡ trail.old }
+{
+    for entry in entries.into_vec() {
+        let NamedEnv { name, env } = entry;
+        trail.bind(name, env)?;
+    }
+    Ok(())
+}
+
+/// Binds type structures in their order. After want of memory some of them may be bound.
+fn bind_types(trail: &mut NameTrail<TypeStr>, entries: List<NamedType>) -> Result<(), NoMemory>
+    ensures ok { OnOk result (trail.new ≡ trail.old ++ type_rows entries) }
+    ensures kept { take (length trail.old) trail.new ≡ trail.old }
+{
+    for named in entries.into_vec() {
+        let NamedType { name, entry } = named;
+        trail.bind(name, entry)?;
+    }
+    Ok(())
+}
+
+/// Binds values in their order. After want of memory some of them may be bound.
+fn bind_values<V: Drop>(
+    trail: &mut NameTrail<ValueInScope<V>>,
+    entries: List<NamedInScope<V>>,
+) -> Result<(), NoMemory>
+    ensures ok { OnOk result (trail.new ≡ trail.old ++ scope_rows entries) }
+    ensures kept { take (length trail.old) trail.new ≡ trail.old }
+{
+    for named in entries.into_vec() {
+        let NamedInScope { name, entry } = named;
+        trail.bind(name, entry)?;
+    }
+    Ok(())
+}
+
 impl<V: Copy + Drop> Scope<V> {
     /// What was bound since a mark, in as many steps as there were bindings. Of two of one name the later counts.
     pub fn made_since(&self, since: ScopeMark) -> Result<Made<V>, NoMemory>
@@ -100,5 +141,37 @@ impl<V: Copy + Drop> Scope<V> {
             types: list_types(self.alloc, types)?,
             values: list_values(self.alloc, values)?,
         })
+    }
+
+    /// Binds all of some lists. After want of memory some of it may be bound.
+    fn bind_lists(&mut self, made: Made<V>) -> Result<(), NoMemory>
+        ensures ok { OnOk result (self.new ≡ more_made made self.old) }
+        ensures kept { IsFrontOf self.old self.new }
+    {
+        let Made {
+            structures,
+            types,
+            values,
+        } = made;
+        bind_structures(&mut self.structures, structures)?;
+        bind_types(&mut self.types, types)?;
+        bind_values(&mut self.values, values)
+    }
+
+    /// Binds what was made, in as many steps as there are entries: what a `local` shows, once what it hides is taken
+    /// back. Want of memory leaves the scope as it was.
+    pub fn bind_made(&mut self, made: Made<V>) -> Result<(), NoMemory>
+        ensures ok { OnOk result ((g : Graph) → HasEnvs g made.structures → Becomes g self.old self.new
+            (λ read. modified_by (seen g read self.old) (env_of_made g read made)) (written_of self.old)) }
+        ensures err { OnErr result (self.new ≡ self.old) }
+    {
+        let before = self.mark();
+        match self.bind_lists(made) {
+            Ok(()) => Ok(()),
+            Err(NoMemory) => {
+                self.leave(before);
+                Err(NoMemory)
+            }
+        }
     }
 }

@@ -5,7 +5,7 @@ ghost use Rattle.std.specs.Option.{option_map};
 ghost use Rattle.semantic_objects.specs.declared.entry.ValueEntry.{ValueEntry};
 ghost use Rattle.semantic_objects.specs.Environments.{structures, types, values};
 ghost use Rattle.sml_modules.specs.Graphs.{env_at, HasEnv, FindsEnv};
-ghost use Rattle.core_scopes.specs.LongNames.{found_at};
+ghost use Rattle.static_semantics.specs.Inferring.{found_at};
 ghost use Rattle.core_scopes.specs.Scopes.{seen, entry_of, IsScopeOf};
 ghost use Rattle.core_scopes.specs.Paths.{led_on};
 

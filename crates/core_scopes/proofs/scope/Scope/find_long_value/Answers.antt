@@ -1,7 +1,7 @@
 use Rattle.std.proofs.Common.{◌∙◌, sym, Some, None}
 use Rattle.semantic_objects.specs.Environments.{structures, values}
 use Rattle.sml_modules.specs.Graphs.{env_at}
-use Rattle.core_scopes.specs.LongNames.{found_at}
+use Rattle.static_semantics.specs.Inferring.{found_at}
 use Rattle.core_scopes.specs.Scopes.{seen}
 use Rattle.core_scopes.proofs.Pathing.{if_ok, finds_is, any_reading, none_before, some_before, long_one, long_found, long_none}
 use Rattle.core_scopes.proofs.scope.Scope.find_long_value.Goals as goal
