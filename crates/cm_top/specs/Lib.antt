@@ -1,6 +1,8 @@
 pub mod Answers
 pub mod Faults
+pub mod Generating
 pub mod Headline
+pub mod InTurn
 pub mod Lines
 pub mod Meaning
 pub mod Performing

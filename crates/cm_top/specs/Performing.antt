@@ -36,7 +36,7 @@ IsStepEnd status.SinkFault = Unit {0}
 IsStepEnd status.NoMemory = Unit {0}
 IsStepEnd status.ToolFault = ⊥
 
--- .. of a session: never that its words mean nothing
+-- .. of a session, and of a generated project: never that its words mean nothing
 abbrev pub IsSessionEnd : Status → Type 0
 IsSessionEnd status.Ok = Unit {0}
 IsSessionEnd status.Diagnostic = Unit {0}
@@ -62,13 +62,16 @@ edit_end (Ok done) = status.Ok
 edit_end (Err folder.Failed) = status.FolderFault
 edit_end (Err folder.NoMemory) = status.NoMemory
 
--- where no fault came, the folder holds the files of the meaning
-pub record Leaves (by : Definitions) (files : Files) (doing meant : Meaning) (holds : Option Files) : Type 0 where
+-- where no fault came, it ends with the status of the meaning, and the folder holds its files
+pub record Leaves (end : Status) (by : Definitions) (files : Files) (doing meant : Meaning) (holds : Option Files)
+    : Type 0 where
+  pub ends : end ≡ doing.status
   pub does : holds ≡ Some doing.files
+  pub promise_ends : FromGood by files meant (λ known. end ≡ meant.status)
   pub promise : FromGood by files meant (λ known. holds ≡ Some meant.files)
 
 abbrev pub LeavesAt : Status → Definitions → Files → Meaning → Meaning → Option Files → Type 0
-LeavesAt end by files doing meant holds = IsPlain end → Leaves by files doing meant holds
+LeavesAt end by files doing meant holds = IsPlain end → Leaves end by files doing meant holds
 
 -- what is done over a store as it stands, and what is meant, each by the files at entry
 pub record Performs (by : Definitions) (doing meant : Files → Meaning) (end : Status) (before after : State) : Type 0 where

@@ -11,10 +11,12 @@ use Rattle.project_loading.specs.Projects.{anchors_of, command_place, root_name,
 use Rattle.session_scripts.specs.Scripts.{script_of}
 use Rattle.session_scripts.specs.declared.step.Step.{Step}
 use Rattle.session_scripts.specs.declared.step.Step.TheVariants as step
-use Rattle.command_words.specs.Words.{call_of, command_of}
+use Rattle.command_words.specs.Words.{call_of}
 use Rattle.command_words.specs.declared.call.Call.{Call}
 use Rattle.command_words.specs.declared.call.Call.TheVariants as call
-use Rattle.cm_top.specs.Headline.{KeepsOthers}
+use Rattle.cm_top.specs.Generating.{files_of, generating}
+use Rattle.cm_top.specs.Headline.{KeepsOthers, KeepsOutside}
+use Rattle.cm_top.specs.InTurn.{at_end, edit, then_command}
 use Rattle.cm_top.specs.Lines.{diag_line, status_line}
 use Rattle.cm_top.specs.Meaning.{Meaning, of_command, prints_last, usage}
 use Rattle.cm_top.specs.ProjectBuild.{Way, plain_way, store_way}
@@ -44,19 +46,13 @@ IsLawful (step.Command words) = Unit {0}
 
 -- ---- steps
 
--- an edit at this path that leaves these files
-abbrev pub edit : List ℕ → Files → Meaning
-edit path files = record {
-  status = status.Ok;
-  output = [];
-  cuts = prints_last;
-  files = files;
-  asked = [];
-  asked_skeletons = [];
-  interfaces = [];
-  paths = path ∷ [];
-  outside = path ∷ [];
-}
+-- What the words of a command mean that stands in a script: a command by itself, or a generated project. A session is
+-- none of these; no script that is read has one.
+abbrev pub of_line : Way → Files → Option Call → Meaning
+of_line way files None = usage files
+of_line way files (Some (call.Single command)) = of_command way files (Some command)
+of_line way files (Some (call.Gen n)) = generating way n files
+of_line way files (Some (call.Session file)) = usage files
 
 -- A command within a session: how it ended is printed behind its output, and the session goes on. It may be cut off as
 -- it is by itself, or between its output and that line.
@@ -76,36 +72,7 @@ reported m = record {
 abbrev pub of_step : Way → Files → Step → Meaning
 of_step way files (step.Write path content) = edit path (insert files path content)
 of_step way files (step.Remove path) = edit path (remove files path)
-of_step way files (step.Command words) = reported (of_command way files (command_of words))
-
--- where no step is left
-abbrev pub at_end : Files → Meaning
-at_end files = record {
-  status = status.Ok;
-  output = [];
-  cuts = prints_last;
-  files = files;
-  asked = [];
-  asked_skeletons = [];
-  interfaces = [];
-  paths = [];
-  outside = [];
-}
-
--- One behind the other: all of both, and the status and the files of the last. It is cut off within the first, or with
--- the first whole within the others.
-abbrev pub then_command : Meaning → Meaning → Meaning
-then_command first rest = record {
-  status = rest.status;
-  output = first.output ++ rest.output;
-  cuts = first.cuts ++ map (λ printed. first.output ++ printed) rest.cuts;
-  files = rest.files;
-  asked = first.asked ++ rest.asked;
-  asked_skeletons = first.asked_skeletons ++ rest.asked_skeletons;
-  interfaces = first.interfaces ++ rest.interfaces;
-  paths = first.paths ++ rest.paths;
-  outside = first.outside ++ rest.outside;
-}
+of_step way files (step.Command words) = reported (of_line way files (call_of words))
 
 abbrev pub play : Way → List Step → Files → Meaning
 play way [] files = at_end files
@@ -136,6 +103,7 @@ of_script way files (Ok steps) = play way steps files
 abbrev pub of_call : Way → Files → Option Call → Meaning
 of_call way files None = usage files
 of_call way files (Some (call.Single command)) = of_command way files (Some command)
+of_call way files (Some (call.Gen n)) = generating way n files
 of_call way files (Some (call.Session file)) = of_script way files (script_in files file)
 
 -- What the words of a call mean in a folder, and what they do over a store as it stands: as `meaning_of` and `doing_of`
@@ -146,8 +114,10 @@ meaning_of_call by words files = of_call (plain_way by) files (call_of words)
 abbrev pub doing_of_call : Definitions → List (List ℕ) → Files → Meaning
 doing_of_call by words files = of_call (store_way by) files (call_of words)
 
--- a command by itself changes nothing outside the store but its target, and that only once the linked program stands
+-- a command by itself changes nothing outside the store but its target, and that only once the linked program stands;
+-- and a generated project nothing there but its files
 abbrev pub KeepsTarget : Option Call → Files → Option Files → Type 0
 KeepsTarget None files new = KeepsOthers None files new
 KeepsTarget (Some (call.Single command)) files new = KeepsOthers (target_of files command) files new
+KeepsTarget (Some (call.Gen n)) files new = KeepsOutside (files_of n) files new
 KeepsTarget (Some (call.Session file)) files new = Unit {0}

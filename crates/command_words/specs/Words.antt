@@ -6,8 +6,9 @@
 --     build    yes           ROOT
 --     link     yes           ROOT OUT
 --
--- A call of the program is a command by itself, or a session: the word `session` and one operand, FILE.
-use Rattle.std.specs.Prelude.{ℕ, ◌==◌, ◌&&◌, ◌||◌, Bool, true, false, not, nat_eq, nat_lt, List, [], ◌∷◌, Option, Some, None, codes, length, map, take, drop, if◌then◌else◌, ℤ, pos, neg_ℤ}
+-- A call of the program is a command by itself; or a generated project: the word `gen` and one operand, N, which is
+-- digits with a value from 1 to 2,000; or a session: the word `session` and one operand, FILE.
+use Rattle.std.specs.Prelude.{ℕ, ◌≤◌, ◌==◌, ◌&&◌, ◌||◌, Bool, true, false, not, nat_eq, nat_lt, List, [], ◌∷◌, Option, Some, None, codes, length, map, take, drop, if◌then◌else◌, ℤ, pos, neg_ℤ}
 use Rattle.std.specs.List.{list_all, list_any, prefix_len}
 use Rattle.std.specs.Option.{option_map, option_and_then}
 use lib.Pointwise.{pointwise}
@@ -18,7 +19,7 @@ use Rattle.cm_conditions.specs.Grammar.{is_name}
 use Rattle.cm_conditions.specs.Lexemes.{number_from}
 use Rattle.command_words.specs.declared.arguments.Arguments.{Arguments}
 use Rattle.command_words.specs.declared.call.Call.{Call}
-use Rattle.command_words.specs.declared.call.Call.TheVariants.{Session, Single}
+use Rattle.command_words.specs.declared.call.Call.TheVariants.{Gen, Session, Single}
 use Rattle.command_words.specs.declared.command.Command.{Command}
 use Rattle.command_words.specs.declared.command.Command.TheVariants.{Build, Link}
 use Rattle.command_words.specs.declared.command.Verb.{Verb}
@@ -149,6 +150,28 @@ command_of (word ∷ words) = option_and_then (of_verb words) (verb_of word)
 
 -- ---- calls
 
+-- N: digits with a value from 1 to 2,000
+abbrev pub is_unit_count : ℕ → Bool
+is_unit_count n = nat_lt 0 n && nat_lt n 2001
+
+abbrev pub unit_count : List ℕ → Option ℕ
+unit_count word =
+    if are_digits word && is_unit_count (number_from 0 word) then Some (number_from 0 word) else None
+
+-- the word that names a generated project
+unfoldable pub is_gen : List ℕ → Bool
+is_gen word = pointwise nat_eq word (codes "gen")
+
+-- the project of these operands, where there is exactly one, the number of its units
+abbrev pub gen_with : List (List ℕ) → Option Call
+gen_with (word ∷ []) = option_map (λ n. Gen n) (unit_count word)
+gen_with [] = None
+gen_with (word ∷ other ∷ more) = None
+
+-- .. of the words behind its word, none of which begins with `-`
+abbrev pub gen_of : List (List ℕ) → Option Call
+gen_of words = option_and_then (λ found. gen_with found.operands) (arguments false words)
+
 -- the word that names a session
 unfoldable pub is_session : List ℕ → Bool
 is_session word = pointwise nat_eq word (codes "session")
@@ -163,8 +186,17 @@ session_with (file ∷ other ∷ more) = None
 abbrev pub session_of : List (List ℕ) → Option Call
 session_of words = option_and_then (λ found. session_with found.operands) (arguments false words)
 
--- what the words of a call mean: a session, or a command by itself, or nothing
+-- what the words of a call mean: a session, a generated project, or a command by itself, or nothing
 abbrev pub call_of : List (List ℕ) → Option Call
 call_of [] = None
 call_of (word ∷ words) =
-    if is_session word then session_of words else option_map (λ command. Single command) (command_of (word ∷ words))
+    if is_session word then session_of words
+    else (if is_gen word then gen_of words
+    else option_map (λ command. Single command) (command_of (word ∷ words)))
+
+-- the units of a generated project are as many as its word may say
+abbrev pub HasUnitCount : Option Call → Type 0
+HasUnitCount None = Unit {0}
+HasUnitCount (Some (Single command)) = Unit {0}
+HasUnitCount (Some (Gen n)) = (1 ≤ n) × (n ≤ 2000)
+HasUnitCount (Some (Session file)) = Unit {0}
