@@ -38,7 +38,7 @@ fn is_defined_name(name: &[u8]) -> bool
 
 /// The number that digits are, where it has 64 bits without a sign.
 #[tactic(auto, using(cm_conditions::proofs::LexingSteps::numbers))]
-fn number_of(digits: &[u8]) -> Option<u64>
+pub fn number_of(digits: &[u8]) -> Option<u64>
     ensures { MatchOption result (2 ^ 64 ≤ number_from 0 digits.now) (λ n. n ≡ number_from 0 digits.now) }
 {
     let mut number = 0u64;
@@ -77,7 +77,7 @@ fn all_digits(bytes: &[u8]) -> bool
 
 /// Whether bytes are digits, of which there is one at least.
 #[tactic(auto, unfolding(crate::specs::Words::are_digits))]
-fn are_digits(bytes: &[u8]) -> bool
+pub fn are_digits(bytes: &[u8]) -> bool
     ensures { result ≡ are_digits bytes.now }
 {
     0 < bytes.len() && all_digits(bytes)
