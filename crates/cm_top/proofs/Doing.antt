@@ -24,7 +24,7 @@ use Rattle.cutoff_builder.specs.Theorem.{Builds}
 use Rattle.cutoff_builder.specs.declared.builder.BuildFault.TheVariants as stop
 use Rattle.cm_top.specs.Answers.{AsksFor, Does, EndsSo, IsOutside, LawfulFromGood, TouchesLinked, Works, WorksWell}
 use Rattle.cm_top.specs.Headline.{KeepsOthers}
-use Rattle.cm_top.specs.Lines.{report as report_text, diag_line}
+use Rattle.cm_top.specs.Lines.{report as report_text, diag_line, last_line}
 use Rattle.cm_top.specs.Meaning.{ended_in, ended_with, interfaces_in, linked_paths, paths_in, status_of, with_linked, written_paths}
 use Rattle.cm_top.specs.ProjectBuild.{built, ending, plain_over, store_over}
 use Rattle.cm_top.specs.declared.status.Status.TheVariants as status
@@ -78,9 +78,9 @@ does_nothing by files target over plain fault holds before is = record {
 -- a refusal before the first unit
 refused_works : (files : Files) (target : Option (List ℕ)) (diag : Diag) (report : Report) (holds : Option Files)
     (before : List (List ℕ)) → holds ≡ Some files → report.status ≡ status.Diagnostic → report.text ≡ diag_line diag
-    → Works target (Ok report) (ending [] (Some diag) files) holds before before
-refused_works files target diag report holds before is stands says = record {
-  ends = record { status = stands; text = says; files = is };
+    → report.last ≡ diag_line diag → Works target (Ok report) (ending [] (Some diag) files) holds before before
+refused_works files target diag report holds before is stands says last = record {
+  ends = record { status = stands; text = says; last = last; files = is };
   asks = sym (append-nil before);
 }
 
@@ -106,16 +106,16 @@ does_same by files target over plain same result holds before after is from_good
 pub does_refused : (by : Definitions) (files : Files) (target : Option (List ℕ))
     (over plain : Result (List PlannedUnit) Diag) (diag : Diag) (report : Report) (holds : Option Files)
     (before : List (List ℕ)) → over ≡ Err diag → SameFromGood by files plain (Err diag) → holds ≡ Some files
-    → report.status ≡ status.Diagnostic → report.text ≡ diag_line diag
+    → report.status ≡ status.Diagnostic → report.text ≡ diag_line diag → report.last ≡ diag_line diag
     → Does by files target over plain (Ok report) holds before before
-does_refused by files target over plain diag report holds before refused from_good is stands says =
+does_refused by files target over plain diag report holds before refused from_good is stands says last =
     does_same by files target over plain (Err diag) (Ok report) holds before before refused from_good
     (record {
-      over_store = refused_works files target diag report holds before is stands says;
+      over_store = refused_works files target diag report holds before is stands says last;
       frame = keeps_same (Some files) holds (written_paths target (ending [] (Some diag) files)) is;
       from_good = λ known apart good.
           nothing_well by files target (ending [] (Some diag) files) (Ok report) holds before before is
-          (refused_works files target diag report holds before is stands says) known good;
+          (refused_works files target diag report holds before is stands says last) known good;
       project = same_project files target holds is;
     })
 
@@ -132,6 +132,7 @@ ended_works target cut units ended between new (Ok report) before after are stop
       ends = record {
         status = so.status ∙ ap₂ (λ e us. status_of (ended_with e us)) (sym stops) (sym are);
         text = so.text ∙ ap₂ (λ e us. report_text us (ended_with e us)) (sym stops) (sym are);
+        last = so.last ∙ ap₂ (λ e us. last_line us (ended_with e us)) (sym stops) (sym are);
         files = so.files ∙ ap₂ (λ e us. Some (with_linked target (ended_with e us) us cut.files)) (sym stops) (sym are);
       };
       asks = asked;

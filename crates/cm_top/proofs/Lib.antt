@@ -10,4 +10,7 @@ pub mod Shadows
 pub mod TargetLeaves
 pub mod OutNames
 pub mod Pieces
+pub mod GoingOn
+pub mod Briefly
+pub mod Parts
 pub mod ScriptLaws

@@ -14,15 +14,15 @@ use Rattle.cm_base.proofs.KeepingLemmas.{keeps_same, keeps_then, keeps_wider}
 use Rattle.cm_bytes.specs.Hashes.{HashesApart}
 use Rattle.bin_store.specs.GoodStore.{IsGoodStore, StoreIsGood}
 use Rattle.bin_store.proofs.GoodAfter.{good_is_told, store_more}
-use Rattle.cm_top.specs.Headline.{Ends, IsAsPromised, IsCutOff, IsCutShort, IsMeaning, IsPlain, KeepsOutside, Run, Stays}
+use Rattle.cm_top.specs.Headline.{Ends, FromGood, IsAsPromised, IsCutOff, IsCutShort, IsMeaning, IsPlain, KeepsOutside, Run, Stays}
 use Rattle.cm_top.specs.Meaning.{Meaning}
-use Rattle.cm_top.specs.Performing.{Leaves, Performs, State, between}
-use Rattle.cm_top.specs.Sessions.{at_end, then_command}
+use Rattle.cm_top.specs.Performing.{Performs, State, between}
+use Rattle.cm_top.specs.InTurn.{at_end, then_command}
 use Rattle.cm_top.specs.declared.status.Status.{Status}
 use Rattle.cm_top.specs.declared.status.Status.TheVariants as status
 use Rattle.cm_top.proofs.Ending.{stays_still}
 
-contains_map : {A B : Type 0} (f : A → B) (xs : List A) (x : A) → Contains xs x → Contains (map f xs) (f x)
+pub contains_map : {A B : Type 0} (f : A → B) (xs : List A) (x : A) → Contains xs x → Contains (map f xs) (f x)
 contains_map f xs x (i, within, at) =
     (i, subst (λ n. i < n) (sym (length-map xs f)) within, get_or-map f xs i x (f x) within ∙ ap f at)
 
@@ -125,6 +125,15 @@ outside_then files here s1 s2 ps qs is one two = record {
       ∙ one.kept path out (λ h. apart (Contains-append_left ps qs path h));
 }
 
+-- .. of fewer paths
+pub outside_in : (files : Files) (s : Option Files) (ps qs : List (List ℕ))
+    → ((path : List ℕ) → Contains ps path → Contains qs path) → KeepsOutside ps files s → KeepsOutside qs files s
+outside_in files s ps qs more one = record {
+  after = one.after;
+  tells = one.tells;
+  kept = λ path out apart. one.kept path out (λ h. apart (more path h));
+}
+
 outside_more : (files : Files) (s : Option Files) (ps qs : List (List ℕ)) → KeepsOutside ps files s
     → KeepsOutside (ps ++ qs) files s
 outside_more files s ps qs one = record {
@@ -133,7 +142,7 @@ outside_more files s ps qs one = record {
   kept = λ path out apart. one.kept path out (λ h. apart (Contains-append_left ps qs path h));
 }
 
-apart_left : (xs ys zs : List (List ℕ)) → HashesApart (xs ++ (ys ++ zs)) → HashesApart (xs ++ ys)
+pub apart_left : (xs ys zs : List (List ℕ)) → HashesApart (xs ++ (ys ++ zs)) → HashesApart (xs ++ ys)
 apart_left xs ys zs apart = record {
   apart = λ a b ia ib same.
       let more : (t : List ℕ) → Contains (xs ++ ys) t → Contains (xs ++ (ys ++ zs)) t =
@@ -205,7 +214,11 @@ module _ (by : Definitions) (d1 m1 d2 m2 : Files → Meaning) (end : Status) (s0
           ((two.stays (m1 files).files next.holds).good (known ++ (m1 files).interfaces) next.apart next.good);
     };
     leaves = λ files is plain. record {
+      ends = (two.leaves (d1 files).files (one.leaves files is tt).does plain).ends;
       does = (two.leaves (d1 files).files (one.leaves files is tt).does plain).does;
+      promise_ends = λ known apart good.
+          let next = second known files is apart good in
+          (two.leaves (m1 files).files next.holds plain).promise_ends (known ++ (m1 files).interfaces) next.apart next.good;
       promise = λ known apart good.
           let next = second known files is apart good in
           (two.leaves (m1 files).files next.holds plain).promise (known ++ (m1 files).interfaces) next.apart next.good;
@@ -254,7 +267,12 @@ end_performs by s = record {
   frame = λ files is. keeps_same (Some files) s.holds [] is;
   outside = λ files is. record { after = files; tells = is; kept = λ path out apart. refl };
   stays = λ files is. stays_still by files (at_end files) s.holds is;
-  leaves = λ files is plain. record { does = is; promise = λ known apart good. is };
+  leaves = λ files is plain. record {
+    ends = refl;
+    does = is;
+    promise_ends = λ known apart good. refl;
+    promise = λ known apart good. is;
+  };
 }
   where
     meaning : (files : Files) → s.holds ≡ Some files → (text : List ℕ) → s.written ≡ Some text
@@ -267,24 +285,50 @@ end_performs by s = record {
       asks_skeletons = sym (append-nil s.skeletons);
     }
 
+-- what does the same over the files that there are, and means the same where their store is good
+module _ (by : Definitions) (d m d' m' : Files → Meaning) (end : Status) (s0 s1 : State)
+    (ds : (files : Files) → s0.holds ≡ Some files → d files ≡ d' files)
+    (ms : (files : Files) → s0.holds ≡ Some files → (known : List (List ℕ))
+    → HashesApart (known ++ (m' files).interfaces) → IsGoodStore by known files → m files ≡ m' files)
+    (one : Performs by d m end s0 s1) where
+  from_good : (files : Files) → s0.holds ≡ Some files → (P : Meaning → List (List ℕ) → Type 0)
+      → FromGood by files (m files) (P (m files)) → FromGood by files (m' files) (P (m' files))
+  from_good files is P holds = λ known apart good.
+      let same : m files ≡ m' files = ms files is known apart good in
+      subst (λ a. P a known) same
+      (holds known (subst (λ (a : Meaning). HashesApart (known ++ a.interfaces)) (sym same) apart) good)
+
+  pub performs_alike : Performs by d' m' end s0 s1
+  performs_alike = record {
+    does = λ files is text before.
+        subst (λ a. Ends end a (between text s0 s1)) (ds files is) (one.does files is text before);
+    promise = λ files is text before. record {
+      ends = from_good files is (λ a known. Ends end a (between text s0 s1)) (one.promise files is text before).ends;
+    };
+    frame = λ files is. subst (λ (a : Meaning). Keeps (Some files) s1.holds a.paths) (ds files is) (one.frame files is);
+    outside = λ files is.
+        subst (λ (a : Meaning). KeepsOutside a.outside files s1.holds) (ds files is) (one.outside files is);
+    stays = λ files is. record {
+      frame = from_good files is (λ a known. Keeps (Some files) s1.holds a.paths) (one.stays files is).frame;
+      good = from_good files is (λ a known. StoreIsGood by (known ++ a.interfaces) s1.holds) (one.stays files is).good;
+    };
+    leaves = λ files is plain.
+        let left = one.leaves files is plain in
+        record {
+          ends = left.ends ∙ ap (λ (a : Meaning). a.status) (ds files is);
+          does = left.does ∙ ap (λ (a : Meaning). Some a.files) (ds files is);
+          promise_ends = from_good files is (λ a known. end ≡ a.status) left.promise_ends;
+          promise = from_good files is (λ a known. s1.holds ≡ Some a.files) left.promise;
+        };
+  }
+
 -- what means the same, over the files that there are
 pub performs_same : (by : Definitions) (d m d' m' : Files → Meaning) (end : Status) (s0 s1 : State)
     → ((files : Files) → s0.holds ≡ Some files → d files ≡ d' files)
     → ((files : Files) → s0.holds ≡ Some files → m files ≡ m' files)
     → Performs by d m end s0 s1 → Performs by d' m' end s0 s1
-performs_same by d m d' m' end s0 s1 ds ms one = record {
-  does = λ files is text before.
-      subst (λ a. Ends end a (between text s0 s1)) (ds files is) (one.does files is text before);
-  promise = λ files is text before.
-      subst (λ a. IsAsPromised by files a end (between text s0 s1)) (ms files is) (one.promise files is text before);
-  frame = λ files is. subst (λ (a : Meaning). Keeps (Some files) s1.holds a.paths) (ds files is) (one.frame files is);
-  outside = λ files is.
-      subst (λ (a : Meaning). KeepsOutside a.outside files s1.holds) (ds files is) (one.outside files is);
-  stays = λ files is. subst (λ a. Stays by files a s1.holds) (ms files is) (one.stays files is);
-  leaves = λ files is plain.
-      subst (λ a. Leaves by files (d' files) a s1.holds) (ms files is)
-      (subst (λ a. Leaves by files a (m files) s1.holds) (ds files is) (one.leaves files is plain));
-}
+performs_same by d m d' m' end s0 s1 ds ms one =
+    performs_alike by d m d' m' end s0 s1 ds (λ files is known apart good. ms files is) one
 
 -- a cause of a later failure
 pub cause_later : (before here now : ℕ) (failed : Type 0) → before ≤ here → HasCause here now failed

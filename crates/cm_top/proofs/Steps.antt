@@ -17,21 +17,25 @@ use Rattle.cm_base.proofs.KeepingLemmas.{keeps_same, keeps_touches, touches_same
 use Rattle.bin_store.proofs.GoodAfter.{store_is_good, store_more}
 use Rattle.session_scripts.specs.declared.step.Step.{Step}
 use Rattle.session_scripts.specs.declared.step.Step.TheVariants as step
-use Rattle.command_words.specs.Words.{command_of}
+use Rattle.generated_projects.specs.Generating.{generated}
+use Rattle.command_words.specs.Words.{call_of, command_of}
 use Rattle.command_words.specs.declared.call.Call.{Call}
 use Rattle.command_words.specs.declared.call.Call.TheVariants as call
 use Rattle.command_words.specs.declared.command.Command.{Command}
 use Rattle.cm_top.specs.Answers.{Prints}
-use Rattle.cm_top.specs.Headline.{Ends, IsCutOff, IsCutShort, IsMeaning, IsPlain, KeepsOthers, KeepsOutside, Run, Stays}
+use Rattle.cm_top.specs.Generating.{briefly, generating, make, of_part}
+use Rattle.cm_top.specs.InTurn.{edit}
+use Rattle.cm_top.specs.Headline.{Ends, IsCutOff, IsCutShort, IsMeaning, IsPlain, IsUsageEnd, KeepsOthers, KeepsOutside, Run, Stays}
 use Rattle.cm_top.specs.Lines.{diag_line, status_line}
-use Rattle.cm_top.specs.Meaning.{Meaning, of_command, target_paths}
+use Rattle.cm_top.specs.Meaning.{Meaning, of_command, target_paths, usage}
 use Rattle.cm_top.specs.Performing.{IsStepEnd, Performs, State, between, edit_end, is_plain, state_of}
 use Rattle.cm_top.specs.ProjectBuild.{Way}
-use Rattle.cm_top.specs.Sessions.{KeepsTarget, edit, of_call, of_script, of_step, play, refused, reported, script_in}
+use Rattle.cm_top.specs.Sessions.{KeepsTarget, of_call, of_line, of_script, of_step, play, refused, reported, script_in}
 use Rattle.cm_top.specs.Targets.{target_of}
 use Rattle.cm_top.specs.declared.status.Status.{Status}
 use Rattle.cm_top.specs.declared.status.Status.TheVariants as status
-use Rattle.cm_top.proofs.Ending.{after_print, command_cut, nothing_done, nothing_printed, same_outside, stays_still}
+use Rattle.cm_top.proofs.Ending.{after_print, nothing_done, nothing_printed, same_outside, stays_still}
+use Rattle.cm_top.proofs.GoingOn.{either_way}
 use Rattle.cm_top.proofs.Pieces.{take_within}
 use Rattle.cm_top.proofs.TargetLeaves.{target_good}
 
@@ -67,7 +71,9 @@ module _ (by : Definitions) (path bytes : List ℕ) (change : Files → Files) (
     outside = edit_outside;
     stays = edit_stays;
     leaves = λ files is plain. record {
+      ends = refl;
       does = put ∙ ap (told change) is;
+      promise_ends = λ known apart good. refl;
       promise = λ known apart good. put ∙ ap (told change) is;
     };
   }
@@ -188,6 +194,17 @@ plain_ends m run status.SinkFault plain e = absurd plain
 plain_ends m run status.NoMemory plain e = absurd plain
 plain_ends m run status.ToolFault plain e = absurd plain
 
+-- what was printed without a fault ends with the status that was given
+pub printed_plain : (result plain : Status) (old new : Option (List ℕ)) (text : List ℕ) → IsPlain result
+    → Prints result plain old new text → result ≡ plain
+printed_plain status.Ok plain old new text well prints = sym prints.0
+printed_plain status.Diagnostic plain old new text well prints = sym prints.0
+printed_plain status.Usage plain old new text well prints = sym prints.0
+printed_plain status.FolderFault plain old new text well prints = absurd well
+printed_plain status.SinkFault plain old new text well prints = absurd well
+printed_plain status.NoMemory plain old new text well prints = absurd well
+printed_plain status.ToolFault plain old new text well prints = absurd well
+
 -- the line behind a command, or how its printing was cut off
 module _ (m : Meaning) (end : Status) (text : List ℕ) (s0 s1 : State) (new : Option (List ℕ))
     (e : IsMeaning m end (between text s0 s1)) where
@@ -252,7 +269,9 @@ line_performs by d m end result s0 s1 new plain one prints = record {
   outside = one.outside;
   stays = λ files is. record { frame = (one.stays files is).frame; good = (one.stays files is).good };
   leaves = λ files is well.
-      let left = one.leaves files is (plain_is end plain) in record { does = left.does; promise = left.promise };
+      let left = one.leaves files is (plain_is end plain) in
+      let ends : result ≡ status.Ok = printed_plain result status.Ok s1.written new (status_line end) well prints in
+      record { ends = ends; does = left.does; promise_ends = λ known apart good. ends; promise = left.promise };
 }
 
 -- a command that a fault cut off
@@ -305,6 +324,33 @@ step_fault status.SinkFault is other plain = plain
 step_fault status.NoMemory is other plain = plain
 step_fault status.ToolFault is other plain = plain
 
+-- ---- words that mean nothing
+
+usage_is : (end : Status) → IsUsageEnd end → IsPlain end → end ≡ status.Usage
+usage_is status.Ok is plain = absurd is
+usage_is status.Diagnostic is plain = absurd is
+usage_is status.Usage is plain = refl
+usage_is status.FolderFault is plain = absurd is
+usage_is status.SinkFault is plain = absurd plain
+usage_is status.NoMemory is plain = absurd plain
+usage_is status.ToolFault is plain = absurd is
+
+-- .. however their line is printed
+pub usage_performs : (by : Definitions) (end : Status) (s : State) (new : Option (List ℕ)) → IsUsageEnd end
+    → ((files : Files) → s.holds ≡ Some files → (text : List ℕ) → s.written ≡ Some text
+    → Ends end (usage files) (between text s (state_of new s.holds s.asked s.skeletons)))
+    → Performs by usage usage end s (state_of new s.holds s.asked s.skeletons)
+usage_performs by end s new is ends = record {
+  does = ends;
+  promise = λ files at text before. record { ends = λ known apart good. ends files at text before };
+  frame = λ files at. keeps_same (Some files) s.holds [] at;
+  outside = λ files at. record { after = files; tells = at; kept = λ path out apart. refl };
+  stays = λ files at. stays_still by files (usage files) s.holds at;
+  leaves = λ files at plain.
+      let stands : end ≡ status.Usage = usage_is end is plain in
+      record { ends = stands; does = at; promise_ends = λ known apart good. stands; promise = λ known apart good. at };
+}
+
 -- ---- scripts
 
 -- the line of a refusal, however it is printed
@@ -318,7 +364,10 @@ refused_performs by diag s new result line is_line prints = record {
   frame = λ files is. keeps_same (Some files) s.holds [] is;
   outside = λ files is. record { after = files; tells = is; kept = λ path out apart. refl };
   stays = λ files is. stays_still by files (refused files diag) s.holds is;
-  leaves = λ files is plain. record { does = is; promise = λ known apart good. is };
+  leaves = λ files is plain.
+      let stands : result ≡ status.Diagnostic =
+      printed_plain result status.Diagnostic s.written new line plain prints in
+      record { ends = stands; does = is; promise_ends = λ known apart good. stands; promise = λ known apart good. is };
 }
   where
     ends : (files : Files) → s.holds ≡ Some files → (text : List ℕ) → s.written ≡ Some text
@@ -328,11 +377,37 @@ refused_performs by diag s new result line is_line prints = record {
         status.Diagnostic line refl is_line before is (sym (append-nil s.asked)) (sym (append-nil s.skeletons))
         nothing_printed prints
 
+pub brief_cut : (way : Way) (files : Files) (command : Option Command) → Contains (briefly way files command).cuts []
+brief_cut way files None = nothing_printed
+brief_cut way files (Some command) = nothing_printed
+
+part_cut : (way : Way) (files : Files) (first : Step) → Contains (of_part way files first).cuts []
+part_cut way files (step.Write path content) = nothing_printed
+part_cut way files (step.Remove path) = nothing_printed
+part_cut way files (step.Command words) = brief_cut way files (command_of words)
+
+make_cut : (way : Way) (parts : List Step) (files : Files) → Contains (make way parts files).cuts []
+make_cut way [] files = nothing_printed
+make_cut way (first ∷ parts) files =
+    let one = part_cut way files first in
+    let rest = make way parts (of_part way files first).files in
+    either_way (of_part way files first) rest (λ m. Contains m.cuts [])
+    (Contains-append_left (of_part way files first).cuts _ [] one) one
+
+pub generating_cut : (way : Way) (n : ℕ) (files : Files) → Contains (generating way n files).cuts []
+generating_cut way n files = make_cut way (generated n) files
+
+pub line_cut : (way : Way) (files : Files) (call : Option Call) → Contains (of_line way files call).cuts []
+line_cut way files None = nothing_printed
+line_cut way files (Some (call.Single command)) = nothing_printed
+line_cut way files (Some (call.Gen n)) = generating_cut way n files
+line_cut way files (Some (call.Session file)) = nothing_printed
+
 step_cut : (way : Way) (files : Files) (first : Step) → Contains (of_step way files first).cuts []
 step_cut way files (step.Write path content) = nothing_printed
 step_cut way files (step.Remove path) = nothing_printed
 step_cut way files (step.Command words) =
-    Contains-append_left (of_command way files (command_of words)).cuts _ [] (command_cut way files (command_of words))
+    Contains-append_left (of_line way files (call_of words)).cuts _ [] (line_cut way files (call_of words))
 
 play_cut : (way : Way) (steps : List Step) (files : Files) → Contains (play way steps files).cuts []
 play_cut way [] files = nothing_printed
@@ -346,6 +421,7 @@ script_cut way files (Err diag) = nothing_printed
 pub call_cut : (way : Way) (files : Files) (call : Option Call) → Contains (of_call way files call).cuts []
 call_cut way files None = nothing_printed
 call_cut way files (Some (call.Single command)) = nothing_printed
+call_cut way files (Some (call.Gen n)) = generating_cut way n files
 call_cut way files (Some (call.Session file)) = script_cut way files (script_in files file)
 
 -- nothing was done: the folder failed before, or memory was wanted
@@ -391,4 +467,6 @@ pub target_still : (call : Option Call) (files : Files) (holds : Option Files) �
     → KeepsTarget call files holds
 target_still None files holds is = same_outside None files holds is
 target_still (Some (call.Single command)) files holds is = same_outside (target_of files command) files holds is
+target_still (Some (call.Gen n)) files holds is =
+    record { after = files; tells = is; kept = λ path out apart. refl }
 target_still (Some (call.Session file)) files holds is = tt

@@ -13,7 +13,7 @@ use Rattle.bin_store.specs.Paths.{linked_path}
 use Rattle.build_laws.specs.CutBuild.{Cut}
 use Rattle.build_laws.specs.Planned.{HaveSkeletons}
 use Rattle.cm_top.specs.Headline.{KeepsOthers}
-use Rattle.cm_top.specs.Lines.{report as report_text}
+use Rattle.cm_top.specs.Lines.{last_line, report as report_text}
 use Rattle.cm_top.specs.Meaning.{ended_in, interfaces_in, status_of, with_linked, written_paths}
 use Rattle.cm_top.specs.ProjectBuild.{built, plain_over, store_over}
 use Rattle.cm_top.specs.declared.status.Status.{Status}
@@ -66,10 +66,11 @@ IsOutside (Some path) = is_stored path ≡ false
 
 -- ---- builds
 
--- the report of a build, and the files with its linked program
+-- the report of a build with its last line, and the files with its linked program
 pub record Reports (target : Option (List ℕ)) (report : Report) (cut : Cut) (holds : Option Files) : Type 0 where
   pub status : report.status ≡ status_of (ended_in cut)
   pub text : report.text ≡ report_text cut.units (ended_in cut)
+  pub last : report.last ≡ last_line cut.units (ended_in cut)
   pub files : holds ≡ Some (with_linked target (ended_in cut) cut.units cut.files)
 
 abbrev pub EndsSo : Option (List ℕ) → Result Report WorkFault → Cut → Option Files → Type 0

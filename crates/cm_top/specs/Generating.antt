@@ -1,9 +1,9 @@
 -- What a generated project means: its steps are done one after the other, each over the files that the ones before it
 -- leave. They are edits and builds. Of the report of a build the last line alone is printed, and a diagnostic ends the
 -- whole behind its line.
-use Rattle.std.specs.Prelude.{ℕ, List, [], ◌∷◌, map, Option, Some, None}
+use Rattle.std.specs.Prelude.{ℕ, ◌≡◌, ◌≢◌, false, List, [], ◌∷◌, map, Option, Some, None}
 use Rattle.std.specs.FinMap.{insert, remove}
-use Rattle.cm_base.specs.Files.{Files}
+use Rattle.cm_base.specs.Files.{Files, is_stored}
 use Rattle.build_laws.specs.CutBuild.{Cut}
 use Rattle.session_scripts.specs.declared.step.Step.{Step}
 use Rattle.session_scripts.specs.declared.step.Step.TheVariants as step
@@ -48,6 +48,12 @@ briefly way files (Some command) =
     printing (last_of (cut_of way files command)) (of_command way files (Some command))
 
 -- ---- steps
+
+-- a part of a project: an edit of the project, or words that mean a command by itself
+abbrev pub IsPart : Step → Type 0
+IsPart (step.Write path content) = is_stored path ≡ false
+IsPart (step.Remove path) = is_stored path ≡ false
+IsPart (step.Command words) = command_of words ≢ None
 
 abbrev pub of_part : Way → Files → Step → Meaning
 of_part way files (step.Write path content) = edit path (insert files path content)

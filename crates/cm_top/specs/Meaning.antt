@@ -3,7 +3,6 @@
 -- where a fault of the folder or want of memory cuts it off.
 use Rattle.std.specs.Prelude.{ℕ, nat_lt, List, [], ◌∷◌, ◌++◌, map, Option, Some, None, length, if◌then◌else◌}
 use Rattle.std.specs.List.{flat_map}
-use Rattle.std.specs.Option.{option_and_then}
 use Rattle.std.specs.FinMap.{insert}
 use Rattle.cm_base.specs.Definitions.{Definitions}
 use Rattle.cm_base.specs.Files.{Files}
@@ -22,7 +21,7 @@ use Rattle.cm_top.specs.declared.limits.TheConstants.{LINKED}
 use Rattle.cm_top.specs.declared.status.Status.{Status}
 use Rattle.cm_top.specs.declared.status.Status.TheVariants as status
 use Rattle.cm_top.specs.Lines.{usage_line, report}
-use Rattle.cm_top.specs.ProjectBuild.{Prepared, Builder, Way, built, plain_way, store_way}
+use Rattle.cm_top.specs.ProjectBuild.{Prepared, Builder, Way, built, plain_way}
 use Rattle.cm_top.specs.Targets.{target_of, ready_of}
 
 pub record Meaning : Type 0 where
@@ -139,17 +138,8 @@ of_command way files None = usage files
 of_command way files (Some command) =
     of_build way.builds files (target_of files command) (ready_of (way.plans files) files command)
 
--- the one path outside the store that words may write
-abbrev pub target_in : Files → List (List ℕ) → Option (List ℕ)
-target_in files words = option_and_then (target_of files) (command_of words)
-
 -- What the words mean in a folder, with a compiler of these two definitions. The files at entry say which units are
 -- stale, and so which of them are compiled, and of which sources the compiler is asked for the skeletons. What is
 -- planned is by the compiler's skeletons, and what the build gives and leaves is the plain build's: they know no store.
 abbrev pub meaning_of : Definitions → List (List ℕ) → Files → Meaning
 meaning_of by words files = of_command (plain_way by) files (command_of words)
-
--- .. and what they do over a store as it stands, whoever wrote it. Over a good store, where no two differing interfaces
--- share a hash, it is what they mean.
-abbrev pub doing_of : Definitions → List (List ℕ) → Files → Meaning
-doing_of by words files = of_command (store_way by) files (command_of words)

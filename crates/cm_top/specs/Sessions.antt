@@ -106,11 +106,12 @@ of_call way files (Some (call.Single command)) = of_command way files (Some comm
 of_call way files (Some (call.Gen n)) = generating way n files
 of_call way files (Some (call.Session file)) = of_script way files (script_in files file)
 
--- What the words of a call mean in a folder, and what they do over a store as it stands: as `meaning_of` and `doing_of`
--- say of a command by itself.
+-- What the words of a call mean in a folder, as `meaning_of` says of a command by itself.
 abbrev pub meaning_of_call : Definitions → List (List ℕ) → Files → Meaning
 meaning_of_call by words files = of_call (plain_way by) files (call_of words)
 
+-- .. and what they do over a store as it stands, whoever wrote it. Over a good store, where no two differing interfaces
+-- share a hash, it is what they mean.
 abbrev pub doing_of_call : Definitions → List (List ℕ) → Files → Meaning
 doing_of_call by words files = of_call (store_way by) files (call_of words)
 

@@ -1,6 +1,7 @@
 //! The program: from the words of a command line to a folder's files and the lines that it prints.
 #![tactic(auto)]
 
+mod generating;
 mod limits;
 mod lines;
 mod linking;
@@ -14,6 +15,7 @@ mod targets;
 mod work;
 
 pub use command_words::{Call, Command, read_call};
+pub use generating::generate;
 pub use run::{run_cm, run_sure};
 pub use sessions::session;
 pub use status::Status;

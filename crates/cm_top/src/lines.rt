@@ -183,6 +183,19 @@ fn add_last(
     Ok(())
 }
 
+/// The line that ends the report of a build.
+pub fn last_text(
+    alloc: Global,
+    units: &[BuiltUnit],
+    ended: &Option<Diag>,
+) -> Result<Vec<u8>, NoMemory>
+    ensures { IfOk result (λ text. text.items ≡ last_line units.now ended.now) }
+{
+    let mut text = Vec::new(alloc);
+    add_last(alloc, &mut text, units, ended)?;
+    Ok(text)
+}
+
 /// The report of a build: a line for each unit that is done, and the line that ends it.
 pub fn report_text(
     alloc: Global,

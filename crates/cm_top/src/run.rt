@@ -6,27 +6,28 @@ ghost use Rattle.cm_base.specs.Files.{Told};
 ghost use Rattle.cm_base.specs.Keeping.{Keeps};
 ghost use Rattle.bin_store.specs.GoodStore.{IsGoodStore};
 ghost use Rattle.cm_bytes.specs.Hashes.{HashesApart};
-ghost use Rattle.command_words.specs.Words.{call_of, command_of};
+ghost use Rattle.command_words.specs.Words.{call_of};
 ghost use Rattle.cm_top.specs.Answers.{IsReported, Prints};
 ghost use Rattle.cm_top.specs.Headline.{Completes, Ends, IsAsPromised, IsComplete, IsUsageEnd, KeepsOthers, KeepsOutside, Stays, run_of};
-ghost use Rattle.cm_top.specs.Meaning.{doing_of, meaning_of, of_command, target_in, usage};
-ghost use Rattle.cm_top.specs.Performing.{LeavesAt};
+ghost use Rattle.cm_top.specs.Meaning.{of_command, usage};
+ghost use Rattle.cm_top.specs.Performing.{LeavesAt, Performs, state_of};
 ghost use Rattle.cm_top.specs.ProjectBuild.{plain_way, store_way};
-ghost use Rattle.cm_top.specs.Sessions.{KeepsTarget, doing_of_call, meaning_of_call};
+ghost use Rattle.cm_top.specs.Sessions.{KeepsTarget, doing_of_call, meaning_of_call, of_line};
 ghost use Rattle.cm_top.specs.Targets.{target_of};
 
+use crate::generating::{generate, make_project};
 use crate::lines::usage_text;
 use crate::printing::print;
 use crate::sessions::session;
 use crate::status::Status;
 use crate::work::{Report, WorkFault, work};
 use cm_base::{Compiler, Folder, NoMemory, Sink, SureFolder, SureSink, Text};
-use command_words::{Call, Command, read_call, read_words};
+use command_words::{Call, Command, read_call, read_line};
 use member_tools::Toolbox;
 use std::alloc::Global;
 
 /// Prints the line for words that mean nothing.
-fn run_usage<F: Folder, S: Sink, C: Compiler>(
+pub(crate) fn run_usage<F: Folder, S: Sink, C: Compiler>(
     alloc: Global,
     folder: &F,
     out: &mut S,
@@ -95,7 +96,7 @@ fn run_command<F: Folder, S: Sink, C: Compiler>(
     }
 }
 
-/// Does the command that the words mean.
+/// Does the command that the words of a session's step mean: one by itself, or a generated project.
 pub(crate) fn run_words<F: Folder, S: Sink, C: Compiler>(
     alloc: Global,
     words: &[Text],
@@ -105,28 +106,16 @@ pub(crate) fn run_words<F: Folder, S: Sink, C: Compiler>(
 ) -> Status
     ensures folder { HasCause (F.faults folder.old) (F.faults folder.new) (result ≡ Status.FolderFault) }
     ensures sink { HasCause (S.faults out.old) (S.faults out.new) (result ≡ Status.SinkFault) }
-    ensures usage { result ≡ Status.Usage → command_of words.now ≡ None }
-    ensures nothing { command_of words.now ≡ None → IsUsageEnd result }
     ensures tool { result ≢ Status.ToolFault }
-    ensures does { Told (F.holds folder.old) (λ files. Told (S.written out.old) (λ text. Ends result
-        (doing_of C.defines words.now files)
-        (run_of text (S.written out.new) (F.holds folder.new) (C.asked compiler.old) (C.asked compiler.new)
-        (C.asked_skeletons compiler.old) (C.asked_skeletons compiler.new)))) }
-    ensures frame { Told (F.holds folder.old) (λ files. Keeps (Some files) (F.holds folder.new)
-        (doing_of C.defines words.now files).paths) }
-    ensures project { Told (F.holds folder.old) (λ files. KeepsOthers (target_in files words.now) files
-        (F.holds folder.new)) }
-    ensures stays { Told (F.holds folder.old) (λ files. Stays C.defines files
-        (meaning_of C.defines words.now files) (F.holds folder.new)) }
-    ensures leaves { Told (F.holds folder.old) (λ files. LeavesAt result C.defines files
-        (doing_of C.defines words.now files) (meaning_of C.defines words.now files) (F.holds folder.new)) }
-    ensures promise { Told (F.holds folder.old) (λ files. Told (S.written out.old) (λ text. IsAsPromised C.defines files
-        (meaning_of C.defines words.now files) result
-        (run_of text (S.written out.new) (F.holds folder.new) (C.asked compiler.old) (C.asked compiler.new)
-        (C.asked_skeletons compiler.old) (C.asked_skeletons compiler.new)))) }
+    ensures performs { Performs C.defines (λ files. of_line (store_way C.defines) files (call_of words.now))
+        (λ files. of_line (plain_way C.defines) files (call_of words.now)) result
+        (state_of (S.written out.old) (F.holds folder.old) (C.asked compiler.old) (C.asked_skeletons compiler.old))
+        (state_of (S.written out.new) (F.holds folder.new) (C.asked compiler.new) (C.asked_skeletons compiler.new)) }
 {
-    match read_words(alloc, words) {
-        Ok(Some(command)) => run_command(alloc, &command, folder, out, compiler),
+    match read_line(alloc, words) {
+        Ok(Some(Call::Single(single))) => run_command(alloc, &single, folder, out, compiler),
+        Ok(Some(Call::Gen { n })) => make_project(alloc, n, folder, out, compiler),
+        Ok(Some(Call::Session { .. })) => run_usage(alloc, folder, out, compiler),
         Ok(None) => run_usage(alloc, folder, out, compiler),
         Err(NoMemory) => Status::NoMemory,
     }
@@ -165,6 +154,7 @@ fn run_call<F: Folder, S: Sink, C: Compiler>(
 {
     match read_call(alloc, words) {
         Ok(Some(Call::Single(command))) => run_command(alloc, &command, folder, out, compiler),
+        Ok(Some(Call::Gen { n })) => generate(alloc, n, folder, out, compiler, tools),
         Ok(Some(Call::Session { file })) => session(alloc, &file, folder, out, compiler, tools),
         Ok(None) => run_usage(alloc, folder, out, compiler),
         Err(NoMemory) => Status::NoMemory,
@@ -181,8 +171,9 @@ fn run_call<F: Folder, S: Sink, C: Compiler>(
 /// There a command whose folder and output met no failure ends with the meaning's status, or for want of memory.
 ///
 /// Over any store: it does what `doing_of_call` says; whatever the answer, each path that this doesn't write is as it was,
-/// and so is each one outside the store but OUT of `link` and the paths of a session's edits. `FolderFault` and
-/// `SinkFault` come only where the folder or the sink failed, and `Usage` only for words that mean nothing.
+/// and so is each one outside the store but OUT of `link`, the files of a generated project and the paths of a session's
+/// edits. `FolderFault` and `SinkFault` come only where the folder or the sink failed, and `Usage` only for words that
+/// mean nothing.
 pub fn run_cm<F: Folder, S: Sink, C: Compiler>(
     alloc: Global,
     words: &[String],

@@ -3,12 +3,12 @@
 ghost use Rattle.std.specs.Prelude.{◌≡◌};
 ghost use Rattle.std.specs.List.{AllByRecursion};
 ghost use Rattle.cm_base.specs.Causes.{HasCause};
+ghost use Rattle.command_words.specs.Words.{call_of};
 ghost use Rattle.cm_top.specs.Answers.{Prints};
 ghost use Rattle.cm_top.specs.Lines.{status_line};
-ghost use Rattle.cm_top.specs.Meaning.{doing_of, meaning_of};
 ghost use Rattle.cm_top.specs.Performing.{IsSessionEnd, IsStepEnd, Performs, edit_end, is_plain, state_of};
 ghost use Rattle.cm_top.specs.ProjectBuild.{plain_way, store_way};
-ghost use Rattle.cm_top.specs.Sessions.{IsLawful, of_script, of_step, play, refused, reported, script_in};
+ghost use Rattle.cm_top.specs.Sessions.{IsLawful, of_line, of_script, of_step, play, refused, reported, script_in};
 
 use crate::lines::diag_text;
 use crate::printing::print;
@@ -52,7 +52,7 @@ fn print_status<S: Sink>(alloc: Global, out: &mut S, status: Status) -> Status
 }
 
 /// How an edit ends, by the folder's answer.
-fn edit_end(answer: Result<(), FolderFault>) -> Status
+pub(crate) fn edit_end(answer: Result<(), FolderFault>) -> Status
     ensures { result ≡ edit_end answer }
 {
     match answer {
@@ -73,8 +73,8 @@ fn do_command<F: Folder, S: Sink, C: Compiler>(
     ensures folder { HasCause (F.faults folder.old) (F.faults folder.new) (result ≡ Status.FolderFault) }
     ensures sink { HasCause (S.faults out.old) (S.faults out.new) (result ≡ Status.SinkFault) }
     ensures end { IsStepEnd result }
-    ensures performs { Performs C.defines (λ files. reported (doing_of C.defines words.now files))
-        (λ files. reported (meaning_of C.defines words.now files)) result
+    ensures performs { Performs C.defines (λ files. reported (of_line (store_way C.defines) files (call_of words.now)))
+        (λ files. reported (of_line (plain_way C.defines) files (call_of words.now))) result
         (state_of (S.written out.old) (F.holds folder.old) (C.asked compiler.old) (C.asked_skeletons compiler.old))
         (state_of (S.written out.new) (F.holds folder.new) (C.asked compiler.new) (C.asked_skeletons compiler.new)) }
 {

@@ -13,7 +13,7 @@ ghost use Rattle.cm_top.specs.Meaning.{ended_with, status_of};
 ghost use Rattle.cm_top.specs.ProjectBuild.{ending, of_planning, prepared};
 ghost use Rattle.cm_top.specs.Targets.{out_in, ready_of, ready_with, path_in, target_of};
 
-use crate::lines::{diag_text, report_text};
+use crate::lines::{diag_text, last_text, report_text};
 use crate::linking::end;
 use crate::loading::load;
 use crate::status::Status;
@@ -27,11 +27,12 @@ use project_planning::{Plan, make_plan};
 use skeleton_asking::PlanFault;
 use std::alloc::Global;
 
-/// What a command prints, and the status that it ends with.
+/// What a command prints, the last line of it, and the status that the command ends with.
 #[derive(Debug, Drop)]
 pub struct Report {
     pub status: Status,
     pub text: Text,
+    pub last: Text,
 }
 
 /// Why a command's work was cut off.
@@ -71,10 +72,13 @@ fn refused(alloc: Global, diag: &Diag) -> Result<Report, NoMemory>
     ensures status { IfOk result (λ report. report.status ≡ Status.Diagnostic) }
     ensures plain { IfOk result (λ report. IsReported report.status) }
     ensures text { IfOk result (λ report. report.text ≡ diag_line diag.now) }
+    ensures last { IfOk result (λ report. report.last ≡ diag_line diag.now) }
 {
+    let last = Text::from_vec(diag_text(alloc, diag)?);
     Ok(Report {
         status: Status::Diagnostic,
-        text: Text::from_vec(diag_text(alloc, diag)?),
+        text: last.copy()?,
+        last,
     })
 }
 
@@ -106,9 +110,11 @@ fn finish<F: Folder>(
 {
     let ended = end(alloc, folder, target, built, ended)?;
     let text = report_text(alloc, built.units.as_slice(), &ended)?;
+    let last = last_text(alloc, built.units.as_slice(), &ended)?;
     Ok(Report {
         status: status_of(&ended),
         text: Text::from_vec(text),
+        last: Text::from_vec(last),
     })
 }
 

@@ -16,7 +16,7 @@ pub returns-in-Ok-Some-Single-clause-does : goal.returns-in-Ok-Some-Single-claus
 returns-in-Ok-Some-Single-clause-does g c = λ files is text before.
     let by : Definitions = g.C.Compiler.defines in
     let call : Some (call.Single c.in-Ok-Some-Single.command) ≡ call_of (map string_bytes c.args.words.now) =
-    cc (c.in-Ok-Some-Single.field-0-is, c.in-Ok-Some-Single.field-0-0-is, c.in-Ok-Some-Single.ensures) in
+    cc (c.in-Ok-Some-Single.field-0-is, c.in-Ok-Some-Single.field-0-0-is, c.in-Ok-Some-Single.ensures.is) in
     let run = run_of text (g.S.Sink.written c.run_command.new.out) (g.F.Folder.holds c.run_command.new.folder)
     (g.C.Compiler.asked c.args.compiler.now) (g.C.Compiler.asked c.run_command.new.compiler)
     (g.C.Compiler.asked_skeletons c.args.compiler.now) (g.C.Compiler.asked_skeletons c.run_command.new.compiler) in
@@ -27,7 +27,7 @@ pub returns-in-Ok-Some-Single-clause-promise : goal.returns-in-Ok-Some-Single-cl
 returns-in-Ok-Some-Single-clause-promise g c = λ files is text before.
     let by : Definitions = g.C.Compiler.defines in
     let call : Some (call.Single c.in-Ok-Some-Single.command) ≡ call_of (map string_bytes c.args.words.now) =
-    cc (c.in-Ok-Some-Single.field-0-is, c.in-Ok-Some-Single.field-0-0-is, c.in-Ok-Some-Single.ensures) in
+    cc (c.in-Ok-Some-Single.field-0-is, c.in-Ok-Some-Single.field-0-0-is, c.in-Ok-Some-Single.ensures.is) in
     let run = run_of text (g.S.Sink.written c.run_command.new.out) (g.F.Folder.holds c.run_command.new.folder)
     (g.C.Compiler.asked c.args.compiler.now) (g.C.Compiler.asked c.run_command.new.compiler)
     (g.C.Compiler.asked_skeletons c.args.compiler.now) (g.C.Compiler.asked_skeletons c.run_command.new.compiler) in
@@ -38,7 +38,7 @@ pub returns-in-Ok-Some-Single-clause-outside : goal.returns-in-Ok-Some-Single-cl
 returns-in-Ok-Some-Single-clause-outside g c = λ files is.
     let by : Definitions = g.C.Compiler.defines in
     let call : Some (call.Single c.in-Ok-Some-Single.command) ≡ call_of (map string_bytes c.args.words.now) =
-    cc (c.in-Ok-Some-Single.field-0-is, c.in-Ok-Some-Single.field-0-0-is, c.in-Ok-Some-Single.ensures) in
+    cc (c.in-Ok-Some-Single.field-0-is, c.in-Ok-Some-Single.field-0-0-is, c.in-Ok-Some-Single.ensures.is) in
     let holds = g.F.Folder.holds c.run_command.new.folder in
     subst (λ (o : Option Call). KeepsOutside (of_call (store_way by) files o).outside files holds) call
     (command_outside (store_way by) files (Some c.in-Ok-Some-Single.command) holds (c.run_command.ensures.project files is))
@@ -46,7 +46,7 @@ returns-in-Ok-Some-Single-clause-outside g c = λ files is.
 pub returns-in-Ok-Some-Single-clause-project : goal.returns-in-Ok-Some-Single-clause-project
 returns-in-Ok-Some-Single-clause-project g c = λ files is.
     let call : Some (call.Single c.in-Ok-Some-Single.command) ≡ call_of (map string_bytes c.args.words.now) =
-    cc (c.in-Ok-Some-Single.field-0-is, c.in-Ok-Some-Single.field-0-0-is, c.in-Ok-Some-Single.ensures) in
+    cc (c.in-Ok-Some-Single.field-0-is, c.in-Ok-Some-Single.field-0-0-is, c.in-Ok-Some-Single.ensures.is) in
     subst (λ (o : Option Call). KeepsTarget o files (g.F.Folder.holds c.run_command.new.folder)) call
     (c.run_command.ensures.project files is)
 
@@ -54,7 +54,7 @@ pub returns-in-Ok-Some-Session-clause-promise : goal.returns-in-Ok-Some-Session-
 returns-in-Ok-Some-Session-clause-promise g c = λ files is text before.
     let by : Definitions = g.C.Compiler.defines in
     let call : Some (call.Session c.in-Ok-Some-Session.file) ≡ call_of (map string_bytes c.args.words.now) =
-    cc (c.in-Ok-Some-Session.field-0-is, c.in-Ok-Some-Session.field-0-0-is, c.in-Ok-Some-Session.ensures) in
+    cc (c.in-Ok-Some-Session.field-0-is, c.in-Ok-Some-Session.field-0-0-is, c.in-Ok-Some-Session.ensures.is) in
     let run = run_of text (g.S.Sink.written c.session.new.out) (g.F.Folder.holds c.session.new.folder)
     (g.C.Compiler.asked c.args.compiler.now) (g.C.Compiler.asked c.session.new.compiler)
     (g.C.Compiler.asked_skeletons c.args.compiler.now) (g.C.Compiler.asked_skeletons c.session.new.compiler) in
@@ -65,7 +65,7 @@ pub returns-in-Ok-Some-Session-clause-outside : goal.returns-in-Ok-Some-Session-
 returns-in-Ok-Some-Session-clause-outside g c = λ files is.
     let by : Definitions = g.C.Compiler.defines in
     let call : Some (call.Session c.in-Ok-Some-Session.file) ≡ call_of (map string_bytes c.args.words.now) =
-    cc (c.in-Ok-Some-Session.field-0-is, c.in-Ok-Some-Session.field-0-0-is, c.in-Ok-Some-Session.ensures) in
+    cc (c.in-Ok-Some-Session.field-0-is, c.in-Ok-Some-Session.field-0-0-is, c.in-Ok-Some-Session.ensures.is) in
     subst (λ (o : Option Call). KeepsOutside (of_call (store_way by) files o).outside files
     (g.F.Folder.holds c.session.new.folder)) call (c.session.ensures.performs.outside files is)
 
@@ -123,3 +123,31 @@ returns-in-Err-clause-stays g c = λ files is.
     let by : Definitions = g.C.Compiler.defines in
     let words = map string_bytes c.args.words.now in
     stays_still by files (meaning_of_call by words files) (g.F.Folder.holds c.args.folder.now) is
+
+pub returns-in-Ok-Some-Gen-clause-promise : goal.returns-in-Ok-Some-Gen-clause-promise
+returns-in-Ok-Some-Gen-clause-promise g c = λ files is text before.
+    let by : Definitions = g.C.Compiler.defines in
+    let call : Some (call.Gen c.in-Ok-Some-Gen.n) ≡ call_of (map string_bytes c.args.words.now) =
+    cc (c.in-Ok-Some-Gen.field-0-is, c.in-Ok-Some-Gen.field-0-0-is, c.in-Ok-Some-Gen.ensures.is) in
+    let run = run_of text (g.S.Sink.written c.generate.new.out) (g.F.Folder.holds c.generate.new.folder)
+    (g.C.Compiler.asked c.args.compiler.now) (g.C.Compiler.asked c.generate.new.compiler)
+    (g.C.Compiler.asked_skeletons c.args.compiler.now) (g.C.Compiler.asked_skeletons c.generate.new.compiler) in
+    subst (λ (o : Option Call). IsAsPromised by files (of_call (plain_way by) files o) c.generate.result run) call
+    (c.generate.ensures.performs.promise files is text before)
+
+pub returns-in-Ok-Some-Gen-clause-outside : goal.returns-in-Ok-Some-Gen-clause-outside
+returns-in-Ok-Some-Gen-clause-outside g c = λ files is.
+    let by : Definitions = g.C.Compiler.defines in
+    let call : Some (call.Gen c.in-Ok-Some-Gen.n) ≡ call_of (map string_bytes c.args.words.now) =
+    cc (c.in-Ok-Some-Gen.field-0-is, c.in-Ok-Some-Gen.field-0-0-is, c.in-Ok-Some-Gen.ensures.is) in
+    subst (λ (o : Option Call). KeepsOutside (of_call (store_way by) files o).outside files
+    (g.F.Folder.holds c.generate.new.folder)) call
+    (c.generate.ensures.performs.outside files is)
+
+pub returns-in-Ok-Some-Gen-clause-project : goal.returns-in-Ok-Some-Gen-clause-project
+returns-in-Ok-Some-Gen-clause-project g c = λ files is.
+    let by : Definitions = g.C.Compiler.defines in
+    let call : Some (call.Gen c.in-Ok-Some-Gen.n) ≡ call_of (map string_bytes c.args.words.now) =
+    cc (c.in-Ok-Some-Gen.field-0-is, c.in-Ok-Some-Gen.field-0-0-is, c.in-Ok-Some-Gen.ensures.is) in
+    subst (λ (o : Option Call). KeepsTarget o files (g.F.Folder.holds c.generate.new.folder)) call
+    (c.generate.ensures.project files is)

@@ -1,4 +1,4 @@
-use Rattle.std.proofs.Common.{refl}
+use Rattle.std.proofs.Common.{◌∙◌, refl}
 use Rattle.std.specs.Prelude.{Ok, Err}
 use Rattle.cm_base.specs.Definitions.{Definitions}
 use Rattle.project_planning.specs.Planning.{plain_plan, plan_over}
@@ -6,6 +6,7 @@ use Rattle.cm_top.specs.Headline.{run_of}
 use Rattle.cm_top.specs.Targets.{ready_of, target_of}
 use Rattle.cm_top.specs.declared.work.WorkFault.TheVariants as fault
 use Rattle.cm_top.proofs.Ending.{does_cut, does_printed, promised_failed, promised_printed, promised_wanting, stays_built}
+use Rattle.cm_top.proofs.Steps.{printed_plain}
 use Rattle.cm_top.proofs.run.run_command.Goals as goal
 
 pub returns-in-Ok-clause-does : goal.returns-in-Ok-clause-does
@@ -137,7 +138,11 @@ returns-in-Err-NoMemory-clause-stays g c = λ files is.
 pub returns-in-Ok-clause-leaves : goal.returns-in-Ok-clause-leaves
 returns-in-Ok-clause-leaves g c = λ files is plain.
     let does = c.in-Ok.ensures.does files is in
+    let same = printed_plain c.print_report.result c.in-Ok.report.status (g.S.Sink.written c.args.out.now)
+    (g.S.Sink.written c.print_report.new.out) c.in-Ok.report.text plain c.print_report.ensures.prints in
     record {
+      ends = same ∙ does.over_store.ends.status;
       does = does.over_store.ends.files;
+      promise_ends = λ known apart good. same ∙ (does.from_good known apart good).works.ends.status;
       promise = λ known apart good. (does.from_good known apart good).works.ends.files;
     }

@@ -1,10 +1,10 @@
 use Rattle.std.proofs.Common.{sym, refl, subst}
 use Rattle.cm_base.specs.Calls.{WriteLeaves}
 use Rattle.cm_base.specs.Definitions.{Definitions}
-use Rattle.cm_top.specs.Meaning.{doing_of, meaning_of}
+use Rattle.command_words.specs.Words.{call_of}
 use Rattle.cm_top.specs.Performing.{Performs, edit_end, state_of}
 use Rattle.cm_top.specs.ProjectBuild.{plain_way, store_way}
-use Rattle.cm_top.specs.Sessions.{IsLawful, of_step, reported}
+use Rattle.cm_top.specs.Sessions.{IsLawful, of_line, of_step, reported}
 use Rattle.cm_top.specs.declared.status.Status.{Status}
 use Rattle.session_scripts.specs.declared.step.Step.{Step}
 use Rattle.cm_top.proofs.Steps.{remove_performs, write_performs}
@@ -48,6 +48,6 @@ returns-in-Command-clause-performs g c =
     (g.C.Compiler.asked c.do_command.new.compiler) (g.C.Compiler.asked_skeletons c.do_command.new.compiler) in
     subst (λ (first : Step). Performs by (λ files. of_step (store_way by) files first)
     (λ files. of_step (plain_way by) files first) c.do_command.result s0 s1) (sym c.in-Command.is)
-    (subst (λ words. Performs by (λ files. reported (doing_of by words files))
-    (λ files. reported (meaning_of by words files)) c.do_command.result s0 s1) c.as_slice.ensures
+    (subst (λ words. Performs by (λ files. reported (of_line (store_way by) files (call_of words)))
+    (λ files. reported (of_line (plain_way by) files (call_of words))) c.do_command.result s0 s1) c.as_slice.ensures
     c.do_command.ensures.performs)

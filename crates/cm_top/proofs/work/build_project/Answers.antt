@@ -54,7 +54,8 @@ returns-in_ok-refused-in-Err-Diag-clause-does g c = λ outside files is.
     (g.F.Folder.holds c.make_plan.new.folder) (g.C.Compiler.asked c.args.compiler.now) (ap units plans.gives)
     (λ known good. ap units (rw c.in-Err-Diag.field-0-is at (c.in-Err-Diag.ensures.plain files is known good)).gives)
     (c.make_plan.ensures.holds ∙ is)
-    c.in_ok-refused-in-Err-Diag.ensures.status c.in_ok-refused-in-Err-Diag.ensures.text)
+    c.in_ok-refused-in-Err-Diag.ensures.status c.in_ok-refused-in-Err-Diag.ensures.text
+    c.in_ok-refused-in-Err-Diag.ensures.last)
 
 pub returns-in-Err-Folder-clause-does : goal.returns-in-Err-Folder-clause-does
 returns-in-Err-Folder-clause-does g c = λ outside files is.

@@ -39,6 +39,7 @@ returns-in_ok-refused-in-Err-Diag-clause-does g c = λ outside files is.
     (λ known good. ap (λ r. (of_loading (plain_plan g.C.Compiler.defines.skel files) c.args.defs.now r).units) gives)
     (c.load.ensures.same ∙ is)
     c.in_ok-refused-in-Err-Diag.ensures.status c.in_ok-refused-in-Err-Diag.ensures.text
+    c.in_ok-refused-in-Err-Diag.ensures.last
 
 pub returns-in-Err-Folder-clause-does : goal.returns-in-Err-Folder-clause-does
 returns-in-Err-Folder-clause-does g c = λ outside files is.

@@ -1,5 +1,5 @@
 use Rattle.std.proofs.Common.{◌∙◌, ap, ap₂}
-use Rattle.cm_top.specs.Lines.{report}
+use Rattle.cm_top.specs.Lines.{last_line, report}
 use Rattle.cm_top.specs.Meaning.{status_of}
 use Rattle.cm_top.proofs.work.finish.Goals as goal
 
@@ -9,5 +9,6 @@ returns-clause-ends g c = λ files is.
     record {
       status = c.status_of.ensures.is ∙ ap status_of links.0;
       text = c.from_vec.ensures ∙ c.in_ok-text.ensures ∙ ap₂ report c.as_slice.ensures links.0;
+      last = c.from_vec-2.ensures ∙ c.in_ok-last.ensures ∙ ap₂ last_line c.as_slice-2.ensures links.0;
       files = links.1;
     }

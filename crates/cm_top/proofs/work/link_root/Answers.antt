@@ -51,6 +51,7 @@ returns-in_ok-refused-in-Err-Diag-clause-does g c = λ files is.
     gives)
     (c.find_target.ensures.same ∙ is)
     c.in_ok-refused-in-Err-Diag.ensures.status c.in_ok-refused-in-Err-Diag.ensures.text
+    c.in_ok-refused-in-Err-Diag.ensures.last
 
 pub returns-in-Err-Folder-clause-does : goal.returns-in-Err-Folder-clause-does
 returns-in-Err-Folder-clause-does g c = λ files is.
