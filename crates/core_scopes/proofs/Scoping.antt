@@ -488,6 +488,9 @@ pub made_is : {V : Type 0} (past now : Bindings V) (made : Made V) → IsFrontOf
     → type_rows made.types ≡ drop (length past.types) now.types
     → scope_rows made.values ≡ drop (length past.values) now.values → IsMadeSince past now made
 made_is {V} past now made front ss ts vs = record {
+  structures = ss;
+  types = ts;
+  values = vs;
   seen = λ g read. grown_made past now made w h g read;
   there = λ g there. has_envs g made.structures
       (envs_behind g past.structures (env_rows made.structures) (subst (AreEnvs g) h.structures there.structures));

@@ -1,4 +1,4 @@
--- Bindings one by one: lists of entries with their names as rows. Only private functions cite this file.
+-- Bindings one by one: lists of entries with their names as rows.
 use Rattle.std.specs.Prelude.{◌++◌, List, map, reverse}
 use Rattle.sml_modules.specs.declared.id.EnvId.{EnvId}
 use Rattle.sml_modules.specs.declared.parts.NamedEnv.{NamedEnv}

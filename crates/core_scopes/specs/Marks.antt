@@ -1,5 +1,5 @@
 -- Scopes that are entered and left, and what was bound in them.
-use Rattle.std.specs.Prelude.{◌≡◌, ◌≤◌, List, [], length, take, map}
+use Rattle.std.specs.Prelude.{◌≡◌, ◌≤◌, List, [], length, take, drop, map}
 use Rattle.semantic_objects.specs.declared.name.TyId.{TyId}
 use Rattle.semantic_objects.specs.declared.entry.ValueEntry.{ValueEntry}
 use Rattle.semantic_objects.specs.Tables.{Table, with_all}
@@ -11,6 +11,7 @@ use Rattle.core_scopes.specs.declared.mark.ScopeMark.{ScopeMark}
 use Rattle.core_scopes.specs.declared.made.Made.{Made}
 use Rattle.core_scopes.specs.declared.made.NamedInScope.{NamedInScope}
 use Rattle.core_scopes.specs.Scopes.{Bindings, seen, written_of, entry_of, IsScopeOf}
+use Rattle.core_scopes.specs.Listed.{env_rows, scope_rows}
 
 -- the mark that remembers a scope
 abbrev pub mark_of : {V : Type 0} → Bindings V → ScopeMark
@@ -55,8 +56,12 @@ env_of_made g read made = env_of
     (with_all (type_rows made.types) [])
     (with_all (value_rows read made.values) [])
 
--- what was bound since a scope: the environment in scope is what it was then, modified by the environment of this
+-- what was bound since a scope, one entry a binding, in their order; so the environment in scope is what it was then,
+-- modified by the environment of this
 pub record IsMadeSince {V : Type 0} (past now : Bindings V) (made : Made V) : Type 0 where
+  pub structures : env_rows made.structures ≡ drop (length past.structures) now.structures
+  pub types : type_rows made.types ≡ drop (length past.types) now.types
+  pub values : scope_rows made.values ≡ drop (length past.values) now.values
   pub seen : (g : Graph) (read : V → ValueEntry)
       → seen g read now ≡ modified_by (seen g read past) (env_of_made g read made)
   pub there : (g : Graph) → IsScopeOf g now → HasEnvs g made.structures
