@@ -1,9 +1,9 @@
 -- What binding, leaving and looking up make of the environment in scope.
-use Rattle.std.proofs.Common.{◌≡◌, ℕ, ◌≤◌, refl, sym, ap, ◌∙◌, subst, List, [], ◌∷◌, ◌++◌, Option, Some, None, length, take, drop, append-nil, append_assoc, arith, zero, suc, Bool, true, false, cond}
+use Rattle.std.proofs.Common.{◌≡◌, ℕ, ◌+◌, ◌<◌, ◌≤◌, get_or, refl, sym, ap, ◌∙◌, subst, List, [], ◌∷◌, ◌++◌, Option, Some, None, length, take, drop, append-nil, append_assoc, arith, zero, suc, Bool, true, false, cond}
 use Rattle.std.specs.Prelude.{reverse, min}
 use Rattle.std.specs.Option.{option_map}
 use Rattle.std.proofs.lemmas.List.{reverse-append, reverse-reverse, take-append-drop, take-append-le, take-take, length-take, map-append}
-use Rattle.std.proofs.Math.Seq.{take-append_seam, take-length}
+use Rattle.std.proofs.Math.Seq.{take-append_seam, take-length, take-suc}
 use Rattle.std.proofs.Math.Nat.{min-le_right, min-eq_left}
 use Rattle.semantic_objects.specs.declared.name.TyId.{TyId}
 use Rattle.semantic_objects.specs.declared.entry.TypeStr.{TypeStr}
@@ -58,6 +58,20 @@ envs_append g (row ∷ rows) back h k = (h.0, envs_append g rows back h.1 k)
 envs_behind : (g : Graph) (front back : Rows EnvId) → AreEnvs g (front ++ back) → AreEnvs g back
 envs_behind g [] back h = h
 envs_behind g (row ∷ rows) back h = envs_behind g rows back h.1
+
+-- a row's environment is of the graph where all are, and all are where one more is
+pub envs_at : (g : Graph) (rows : Rows EnvId) (i : ℕ) (row : List ℕ × EnvId) → i < length rows → AreEnvs g rows
+    → HasEnv g (get_or rows i row).1
+envs_at g [] i row h k = absurd (omega (arith, h))
+envs_at g (x ∷ rows) zero row h k = k.0
+envs_at g (x ∷ rows) (suc i) row h k = envs_at g rows i row (omega (arith, h)) k.1
+
+pub envs_more : (g : Graph) (rows : Rows EnvId) (i : ℕ) (row : List ℕ × EnvId) → i < length rows
+    → AreEnvs g (take i rows) → HasEnv g (get_or rows i row).1 → AreEnvs g (take (i + 1) rows)
+envs_more g rows i row h k l =
+    let next : i + 1 ≡ suc i = omega arith in
+    subst (AreEnvs g) (sym (ap (λ n. take n rows) next ∙ take-suc rows i row h))
+    (envs_append g (take i rows) (get_or rows i row ∷ []) k (l, tt))
 
 take_more : {A : Type 0} (old more new : List A) → new ≡ old ++ more → take (length old) new ≡ old
 take_more old more new h = ap (λ z. take (length old) z) h ∙ take-append_seam old more

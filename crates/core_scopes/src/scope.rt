@@ -1,10 +1,10 @@
 //! The scope: entering and leaving it, and binding names in it.
 
-ghost use Rattle.std.specs.Prelude.{◌≡◌, [], OnOk, OnErr};
+ghost use Rattle.std.specs.Prelude.{◌≡◌, ◌↔◌, [], IsTrue, OnOk, OnErr};
 ghost use Rattle.semantic_objects.specs.declared.entry.ValueEntry.{ValueEntry};
 ghost use Rattle.semantic_objects.specs.Environments.{with_structure, with_type, with_value};
 ghost use Rattle.sml_modules.specs.Graphs.{Graph, env_at, HasEnv};
-ghost use Rattle.core_scopes.specs.Scopes.{Bindings, seen, written_of, entry_of, IsScopeOf};
+ghost use Rattle.core_scopes.specs.Scopes.{Bindings, seen, written_of, entry_of, AreEnvs, IsScopeOf};
 ghost use Rattle.core_scopes.specs.Marks.{outermost, mark_of, IsFrontOf, Becomes};
 
 use crate::mark::ScopeMark;
@@ -12,7 +12,7 @@ use crate::value::ValueInScope;
 use cm_base::{NoMemory, Text};
 use name_trails::NameTrail;
 use semantic_objects::{TyId, TypeStr};
-use sml_modules::EnvId;
+use sml_modules::{EnvGraph, EnvId};
 use std::alloc::Global;
 use std::marker::Model;
 
@@ -50,6 +50,18 @@ impl<V> Model for Scope<V> {
     ghost invariant = { λ s. s.hidden ≤ length s.written };
 }
 
+/// Whether all environments of rows are of a graph.
+fn are_envs(g: &EnvGraph, rows: &[(Text, EnvId)]) -> bool
+    ensures { IsTrue result ↔ AreEnvs g.now rows.now }
+{
+    for row in rows {
+        if !g.has_env(row.1) {
+            return false;
+        }
+    }
+    true
+}
+
 impl<V: Copy + Drop> Scope<V> {
     /// The scope of a whole phrase: an environment, and nothing bound over it.
     pub fn new(alloc: Global, below: EnvId) -> Scope<V>
@@ -67,6 +79,13 @@ impl<V: Copy + Drop> Scope<V> {
             written: NameTrail::new(alloc),
             hidden: 0,
         }
+    }
+
+    /// Whether it is a scope of a graph, in as many steps as structures are bound. It takes no memory.
+    pub fn is_of(&self, g: &EnvGraph) -> bool
+        ensures { IsTrue result ↔ IsScopeOf g.now self.now }
+    {
+        g.has_env(self.below) && are_envs(g, self.structures.rows())
     }
 
     /// Remembers the scope as it stands. It takes no memory.
