@@ -1,0 +1,3 @@
+pub mod UnitPhrases
+pub mod StructureInference
+pub mod UnitInference
