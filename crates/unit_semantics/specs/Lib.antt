@@ -1,3 +1,4 @@
 pub mod UnitPhrases
 pub mod StructureInference
 pub mod UnitInference
+pub mod ElaboratesUnits
