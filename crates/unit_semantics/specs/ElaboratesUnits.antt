@@ -1,11 +1,11 @@
--- The rules of structure expressions, of the declarations in them, of functors and of the top level, a clause a rule, each
--- named by its number in the Definition of Standard ML (Revised), section 5.7. Signatures of functors are an addition
--- of Standard ML of New Jersey, and so is their rule.
+-- The rules of structure expressions, of the declarations in them, of functors and of the top level, a clause a rule,
+-- each named by its number in the Definition of Standard ML (Revised), section 5.7. Signatures of functors are an
+-- addition of Standard ML of New Jersey, and so is their rule.
 --
 -- `s` says which type variables there are and which of them are equality variables. A phrase begins at one number and
--- ends at another: the type names that are made in it have the numbers between, and whichever phrase ends first has the
--- lower ones. So new names are none that are in scope. The body of a functor has one derivation, with a parameter of new
--- names; where the functor is applied, its result is realised.
+-- ends at another: the type names that are made in it have the numbers between, and whichever phrase ends first has
+-- the lower ones. So new names are none that are in scope. The body of a functor has one derivation, with a parameter
+-- of new names; where the functor is applied, its result is realised.
 --
 -- It isn't asked that what a declaration of the core makes is principal, nor that no type variable is left at the end
 -- of the top level (rules 87 to 89). Neither is a type's size.

@@ -4,8 +4,8 @@
 -- What a declaration of the core makes is the core's matter: it is inferred in the environment around it, with no
 -- written type variable in scope.
 --
--- The order in which parts are inferred and checks asked. Each check is named by its diagnostic, and a phrase's place is
--- that of its first word. Structure expressions:
+-- The order in which parts are inferred and checks asked. Each check is named by its diagnostic, and a phrase's place
+-- is that of its first word. Structure expressions:
 --   `struct dec end`: its declaration
 --   a long name: 30 at it
 --   `e : S`: `e`, `S`, then `e` as it is known is matched with `S` at the place of `e`; the signature's environment,
