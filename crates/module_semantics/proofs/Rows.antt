@@ -1,5 +1,5 @@
--- Small signatures with what inference and matching give of them, each with the text that it is read from. A column is
--- that of the text.
+-- Small signatures with what inference and matching give of them, each with the text that it stands for. A column that
+-- a diagnostic shows is that of the text; the others are near it.
 use Rattle.std.proofs.Common.{◌≡◌, ℕ, List, [], ◌∷◌, refl, Option, Some, None, Bool, true, false}
 use Rattle.std.specs.Prelude.{codes, Err}
 use Rattle.sml_trees.specs.declared.name.At.{At}

@@ -1,5 +1,5 @@
 -- The rules of signature expressions and specifications, a clause a rule, each named by its number in the Definition of
--- Standard ML (Revised), section 5.7, and matching as a relation, sections 5.4 to 5.6.
+-- Standard ML (Revised), section 5.7, and matching as a relation, sections 5.2, 5.5 and 5.6.
 --
 -- A phrase begins at one number and ends at another: the type names that are made in it, those that the signature will
 -- bind, have the numbers between. A signature is open here, as in inference; rule 65 closes it. Rules 81 and 82 are

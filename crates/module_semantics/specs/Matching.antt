@@ -1,5 +1,5 @@
 -- When an environment matches a signature, and what the signature's environment is then, with the first diagnostic.
--- The Definition, sections 5.4 to 5.7 and rule 52.
+-- The Definition, sections 5.2, 5.5 and 5.6, and rule 52.
 --
 -- The environment is taken as it is known, with everything put in, and so is the signature's. A type variable that is
 -- left in it stands for itself alone.

@@ -1,4 +1,4 @@
--- The laws of realisation and of the canonical form, as the public functions of this crate state them.
+-- The laws of realisation, as the public functions of this crate state them.
 use Rattle.std.specs.Prelude.{◌≡◌, true, None}
 use Rattle.semantic_objects.specs.declared.name.TyName.{TyName}
 use Rattle.semantic_objects.specs.Trees.{TypeScheme}

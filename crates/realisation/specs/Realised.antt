@@ -1,11 +1,12 @@
--- Realisation: type functions in place of type names. The Definition of Standard ML (Revised), section 5.6.
+-- Realisation: type functions in place of type names. The Definition of Standard ML (Revised), section 5.2.
 --
 -- A bound name, of the owner `Bound`, stands only inside the environment of a signature or of a functor, and these hold
--- no signatures, so binders never stand in each other and no name is captured. In a signature the bound names are 0, 1,
--- .. in the order in which its specifications made them; in a functor those of the parameter come first and the further
--- ones after. While a signature expression is open, and in the body of a functor, what will be bound is a name of the
--- unit, with a number from the next one on, as each new name is; a signature or a functor that is finished closes over
--- these. Whoever uses a named signature, or a functor's parameter, puts new names for its bound ones first.
+-- no signatures, so binders never stand in each other and no name is captured. In a signature that is inferred the bound
+-- names are 0, 1, .. in the order in which its specifications made them, and in its canonical form by first occurrence;
+-- in a functor those of the parameter come first and the further ones after. While a signature expression is open, and
+-- in the body of a functor, what will be bound is a name of the unit, with a number from the next one on, as each new
+-- name is; a signature or a functor that is finished closes over these. Whoever uses a named signature, or a functor's
+-- parameter, puts new names for its bound ones first.
 use Rattle.std.specs.Prelude.{◌≡◌, ℕ, zero, suc, List, [], ◌∷◌, Option, Some, None, Bool, true, cond}
 use Rattle.semantic_objects.specs.declared.name.TyName.{TyName}
 use Rattle.semantic_objects.specs.declared.entry.TypeFn.{TypeFn}

@@ -1,4 +1,4 @@
-//! The laws of realisation and of the canonical form, so that crates above have them from a call.
+//! The laws of realisation, so that crates above have them from a call.
 
 ghost use Rattle.realisation.specs.Promises.{RealisesTypes};
 
