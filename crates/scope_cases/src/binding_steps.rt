@@ -11,16 +11,14 @@ use std::alloc::Global;
 /// Written type variables, each with the number of the variable that it stands for.
 fn read_written(alloc: Global, words: &[Text]) -> Result<Option<List<InScope>>, NoMemory> {
     let mut rows = List::new(alloc);
-    let mut rest = words;
-    while let [name, number, more @ ..] = rest {
-        let Some(number) = number_of(number.as_bytes()) else {
+    for at in 0..words.len() / 2 {
+        let Some(number) = number_of(words[2 * at + 1].as_bytes()) else {
             return Ok(None);
         };
         rows.add(InScope {
-            name: name.copy()?,
+            name: words[2 * at].copy()?,
             is: TyId::Variable(number as usize),
         })?;
-        rest = more;
     }
     Ok(Some(rows))
 }

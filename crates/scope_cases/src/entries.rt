@@ -1,5 +1,8 @@
 //! Entries by number: the type with a number, and a value of it.
 
+ghost use Rattle.std.specs.Prelude.{IfOk};
+ghost use Rattle.semantic_objects.specs.Trees.{BindsBelow};
+
 use cm_base::{List, NoMemory, Text};
 use semantic_objects::{
     Owner, Scheme, TreePart, TyName, TypeFn, TypeStr, TypeTree, ValueEntry, VidStatus,
@@ -10,7 +13,9 @@ use std::alloc::Global;
 const UNIT: &[u8] = b"a.sml";
 
 /// The type with a number.
-fn numbered_type(alloc: Global, number: u32) -> Result<TypeTree, NoMemory> {
+fn numbered_type(alloc: Global, number: u32) -> Result<TypeTree, NoMemory>
+    ensures { IfOk result (λ tree. BindsBelow 0 tree) }
+{
     let name = TyName {
         owner: Owner::Unit(Text::from_bytes(alloc, UNIT)?),
         number: u64::from(number),

@@ -39,8 +39,10 @@ impl ScopeScene {
     /// Enters so many scopes in each other, each of so many bindings, and leaves them one by one.
     fn scope_in_scope(&mut self, depth: u32, count: u32) -> Result<(), NoMemory> {
         let mut marks = self.enter_all(depth, count)?;
-        while let Some(mark) = marks.pop() {
-            self.scope.leave(mark);
+        for _ in 0..marks.len() {
+            if let Some(mark) = marks.pop() {
+                self.scope.leave(mark);
+            }
         }
         Ok(())
     }
