@@ -19,7 +19,7 @@ use Rattle.semantic_objects.specs.Trees.{Tree, Trees}
 use Rattle.semantic_objects.specs.Environments.{Env, Functor, Top, types, values, empty_env, empty_top, with_structure, with_type, with_value}
 use Rattle.unification.specs.Fitting.{no_variable}
 use Rattle.bare_phrases.specs.Phrases.{TyPhrase, TyPhrases, TypPhrase, ConPhrase, DatPhrase, PatPhrase, ExpPhrase, ExpFields, Rules, DecPhrase}
-use Rattle.static_semantics.specs.Inferring.{Progress, Scope, outermost, Answer, ◌>>=◌, gives, diag_at, found_at}
+use Rattle.static_semantics.specs.Inferring.{Progress, outermost, Answer, ◌>>=◌, gives, diag_at, found_at}
 use Rattle.module_semantics.specs.SigPhrases.{ValPhrase, TypeDescPhrase, SigPhrase, SpecPhrase, SpecPhrases, SigBinds}
 use Rattle.unit_semantics.specs.UnitPhrases.{ModulePhrase, ModuleDec, ModuleDecs, ModuleBinds, FunPhrase, FunsigPhrase, TopPhrase}
 use Rattle.unit_semantics.specs.UnitInference.{top_of_env, infer_unit}

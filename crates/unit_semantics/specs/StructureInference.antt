@@ -20,7 +20,7 @@
 --   `local`: both sides
 --   at last, of these two, 38 at it; a sequence has none of its own
 --   any other: as in the core
-use Rattle.std.specs.Prelude.{ℕ, List, [], ◌++◌, length}
+use Rattle.std.specs.Prelude.{ℕ, List, ◌++◌, length}
 use Rattle.sml_trees.specs.declared.name.At.{At}
 use Rattle.semantic_objects.specs.Tables.{entry}
 use Rattle.semantic_objects.specs.Environments.{Env, Signature, Functor, Top, structures, empty_env, modified_by, with_structure}

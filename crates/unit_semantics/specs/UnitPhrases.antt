@@ -1,12 +1,11 @@
 -- Structure expressions, the declarations in them and those of a unit's top level as data, with a clause for each form;
 -- and which of them a bare tree is. Signature expressions in them are phrases too, and a declaration of the core is one
 -- part.
-use Rattle.std.specs.Prelude.{List, [], ◌∷◌, map, Bool, true, false}
+use Rattle.std.specs.Prelude.{List, map, Bool, true, false}
 use Rattle.sml_trees.specs.declared.name.At.{At}
 use Rattle.sml_trees.specs.declared.name.Name.{Name}
 use Rattle.sml_trees.specs.declared.name.LongName.{LongName}
 use Rattle.sml_trees.specs.declared.sig_exp.SigBind.{SigBind}
-use Rattle.sml_trees.specs.declared.exp.StrBind.{StrBind}
 use Rattle.sml_trees.specs.declared.unit.BareUnit.{BareUnit}
 use Rattle.sml_trees.specs.declared.unit.FunBind.{FunBind}
 use Rattle.sml_trees.specs.declared.unit.FunsigBind.{FunsigBind}
