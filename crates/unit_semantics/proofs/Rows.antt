@@ -18,11 +18,11 @@ use Rattle.semantic_objects.specs.Tables.{entry}
 use Rattle.semantic_objects.specs.Trees.{Tree, Trees}
 use Rattle.semantic_objects.specs.Environments.{Env, Functor, Top, types, values, empty_env, empty_top, with_structure, with_type, with_value}
 use Rattle.unification.specs.Fitting.{no_variable}
-use Rattle.bare_phrases.specs.Phrases.{TyPhrase, TyPhrases, TypPhrase, ConPhrase, DatPhrase, PatPhrase, ExpPhrase, ExpFields, Rules, DecPhrase}
+use Rattle.bare_phrases.specs.Phrases.{TyPhrase, TyFields, TyPhrases, TypPhrase, ConPhrase, DatPhrase, PatPhrase, PatFields, ExpPhrase, ExpFields, Rules, DecPhrase}
 use Rattle.static_semantics.specs.Inferring.{Progress, outermost, Answer, ◌>>=◌, gives, diag_at, found_at}
 use Rattle.module_semantics.specs.SigPhrases.{ValPhrase, TypeDescPhrase, SigPhrase, SpecPhrase, SpecPhrases, SigBinds}
 use Rattle.unit_semantics.specs.UnitPhrases.{ModulePhrase, ModuleDec, ModuleDecs, ModuleBinds, FunPhrase, FunsigPhrase, TopPhrase}
-use Rattle.unit_semantics.specs.UnitInference.{top_of_env, infer_unit}
+use Rattle.unit_semantics.specs.UnitInference.{top_of_env, top_of_functors, infer_unit}
 
 -- ---- phrases
 
@@ -126,10 +126,14 @@ basis_values =
     (arrow_tree (pair_tree (over 6 (Tree.Bound 0)) (Tree.Bound 0)) unit_tree))
     (with_value (codes "+") (variable [] (arrow_tree (pair_tree int_tree int_tree) int_tree)) empty_env))))))
 
+abbrev min_entry : ValueEntry
+min_entry = variable [] (arrow_tree (pair_tree int_tree int_tree) int_tree)
+
 abbrev basis : Env
-basis = with_type (codes "int") (plain int_tree)
+basis = with_structure (codes "Int") (with_value (codes "min") min_entry empty_env)
+    (with_type (codes "int") (plain int_tree)
     (with_type (codes "string") (plain string_tree)
-    (with_type (codes "list") (type_of 1 (over 4 (Tree.Bound 0)) []) basis_values))
+    (with_type (codes "list") (type_of 1 (over 4 (Tree.Bound 0)) []) basis_values)))
 
 abbrev start : Progress
 start = record { types = no_variable; names = 0 }
@@ -668,3 +672,106 @@ refuses_twice : of false (TopPhrase.Structures (ModuleBinds.Bind (name (codes "A
     (ModulePhrase.Named (long (codes "Nope" ∷ []) 34) (at 34)) ModuleBinds.EndOfBinds)) (at 1) ∷ [])
     ≡ refused 40 30 []
 refuses_twice = refl
+
+-- a type name over its variable
+abbrev stack_tree : Tree
+stack_tree = Tree.Made (symbol.Name (name_of (owner.«Unit» (codes "u")) 2 1 false)) (Trees.Cons (Tree.Bound 0) Trees.Nil)
+
+abbrev functor_f : Functor
+functor_f = functor_by (bound_name 0 false ∷ [])
+    (with_type (codes "t") (plain (named (bound_name 0 false))) empty_env) []
+    (with_type (codes "u") (plain (named (bound_name 0 false))) empty_env)
+
+-- structures of two units that have a type name each
+abbrev foreign : List ℕ → Tree
+foreign unit = named (name_of (owner.«Unit» unit) 0 0 true)
+
+abbrev given_q : Top
+given_q = top_of_env
+    (with_structure (codes "Q1")
+    (with_value (codes "f") (variable [] (arrow_tree (foreign (codes "p1")) unit_tree)) empty_env)
+    (with_structure (codes "Q2") (with_value (codes "v") (variable [] (foreign (codes "p2"))) empty_env) empty_env))
+
+-- signature STACK = sig type 'a t val empty : 'a t val push : 'a * 'a t -> 'a t end structure Stack :> STACK =
+--   struct type 'a t = 'a list val empty = [] fun push (x, s) = x :: s end
+defines_stack : seen_value (codes "Stack" ∷ codes "push" ∷ []) (of false (TopPhrase.Signatures (SigBinds.Bind
+    (name (codes "STACK") 11) (SigPhrase.Sig (SpecPhrase.Sequence (SpecPhrases.Next (SpecPhrase.Types (type_desc
+    ((name (codes "'a") 28) ∷ []) (name (codes "t") 31) ∷ []) (at 23)) (SpecPhrases.Next (SpecPhrase.Vals (val_desc
+    (name (codes "empty") 37) (TyPhrase.Named (TyPhrases.Arg (TyPhrase.Var (name (codes "'a") 45) (at 45))
+    TyPhrases.EndOfArgs) (long (codes "t" ∷ []) 48) (at 45)) ∷ []) (at 33)) (SpecPhrases.Next (SpecPhrase.Vals
+    (val_desc (name (codes "push") 54) (TyPhrase.Arrow (TyPhrase.Record (TyFields.Field (name (codes "1") 61)
+    (TyPhrase.Var (name (codes "'a") 61) (at 61)) (TyFields.Field (name (codes "2") 61) (TyPhrase.Named
+    (TyPhrases.Arg (TyPhrase.Var (name (codes "'a") 66) (at 66)) TyPhrases.EndOfArgs) (long (codes "t" ∷ []) 69) (at
+    66)) TyFields.EndOfFields)) (at 61)) (TyPhrase.Named (TyPhrases.Arg (TyPhrase.Var (name (codes "'a") 74) (at
+    74)) TyPhrases.EndOfArgs) (long (codes "t" ∷ []) 77) (at 74)) (at 61)) ∷ []) (at 50)) SpecPhrases.EndOfSpecs)))
+    (at 19)) (at 19)) SigBinds.EndOfBinds) (at 1) ∷ TopPhrase.Structures (ModuleBinds.Bind (name (codes "Stack") 93)
+    (ModulePhrase.Opaque (ModulePhrase.Struct (ModuleDec.Sequence (ModuleDecs.Dec (ModuleDec.Core (DecPhrase.Types
+    (type_bind ((name (codes "'a") 122) ∷ []) (name (codes "t") 125) (TyPhrase.Named (TyPhrases.Arg (TyPhrase.Var
+    (name (codes "'a") 129) (at 129)) TyPhrases.EndOfArgs) (long (codes "list" ∷ []) 132) (at 129)) ∷ []) (at 117)))
+    (ModuleDecs.Dec (ModuleDec.Core (DecPhrase.Val [] (Rules.Rule (PatPhrase.Long (long (codes "empty" ∷ []) 141)
+    (at 141)) (ExpPhrase.Long (long (codes "nil" ∷ []) 149) (at 149)) Rules.EndOfRules) Rules.EndOfRules (at 137)))
+    (ModuleDecs.Dec (ModuleDec.Core (DecPhrase.Val [] Rules.EndOfRules (Rules.Rule (PatPhrase.Long (long
+    (codes "push" ∷ []) 156) (at 156)) (ExpPhrase.Fn (Rules.Rule (PatPhrase.Long (long (codes "%1" ∷ []) 156) (at
+    156)) (ExpPhrase.App (ExpPhrase.Fn (Rules.Rule (PatPhrase.Record (PatFields.Field (name (codes "1") 161)
+    (PatPhrase.Long (long (codes "x" ∷ []) 162) (at 162)) (PatFields.Field (name (codes "2") 161) (PatPhrase.Long
+    (long (codes "s" ∷ []) 165) (at 165)) PatFields.EndOfFields)) (at 161)) (ExpPhrase.App (ExpPhrase.Long (long
+    (codes "::" ∷ []) 172) (at 172)) (ExpPhrase.Record (ExpFields.Field (name (codes "1") 170) (ExpPhrase.Long (long
+    (codes "x" ∷ []) 170) (at 170)) (ExpFields.Field (name (codes "2") 170) (ExpPhrase.Long (long (codes "s" ∷ [])
+    175) (at 175)) ExpFields.EndOfFields)) (at 170)) (at 170)) Rules.EndOfRules) (at 156)) (ExpPhrase.Long (long
+    (codes "%1" ∷ []) 156) (at 156)) (at 156)) Rules.EndOfRules) (at 156)) Rules.EndOfRules) (at 152)))
+    ModuleDecs.EndOfDecs))) (at 110)) (at 110)) (SigPhrase.Named (name (codes "STACK") 102) (at 102)) (at 110))
+    ModuleBinds.EndOfBinds) (at 83) ∷ [])) ≡ gives (variable (false ∷ []) (arrow_tree (pair_tree (Tree.Bound 0)
+    stack_tree) stack_tree))
+defines_stack = refl
+
+-- structure Int = struct open Int val two = 2 end
+defines_int : of false (TopPhrase.Structures (ModuleBinds.Bind (name (codes "Int") 11) (ModulePhrase.Struct
+    (ModuleDec.Sequence (ModuleDecs.Dec (ModuleDec.Core (DecPhrase.Open ((long (codes "Int" ∷ []) 29) ∷ []) (at
+    24))) (ModuleDecs.Dec (ModuleDec.Core (DecPhrase.Val [] (Rules.Rule (PatPhrase.Long (long (codes "two" ∷ []) 37)
+    (at 37)) (ExpPhrase.Int (pos 2) (at 43)) Rules.EndOfRules) Rules.EndOfRules (at 33))) ModuleDecs.EndOfDecs)) (at
+    17)) (at 17)) ModuleBinds.EndOfBinds) (at 1) ∷ []) ≡ gives (top_of_env (with_structure (codes "Int") (with_value
+    (codes "min") min_entry (with_value (codes "two") (variable [] int_tree) empty_env)) empty_env))
+defines_int = refl
+
+-- functor F (X : sig type t end) = struct type u = X.t end funsig G (X : sig end) = sig type t end, and what F is
+defines_f : seen_functor (codes "F") (of false (TopPhrase.Functors (fun_bind (name (codes "F") 9) (name
+    (codes "X") 12) (SigPhrase.Sig (SpecPhrase.Sequence (SpecPhrases.Next (SpecPhrase.Types (type_desc [] (name
+    (codes "t") 25) ∷ []) (at 20)) SpecPhrases.EndOfSpecs) (at 16)) (at 16)) (ModulePhrase.Struct
+    (ModuleDec.Sequence (ModuleDecs.Dec (ModuleDec.Core (DecPhrase.Types (type_bind [] (name (codes "u") 46)
+    (TyPhrase.Named TyPhrases.EndOfArgs (long (codes "X" ∷ codes "t" ∷ []) 50) (at 50)) ∷ []) (at 41)))
+    ModuleDecs.EndOfDecs) (at 34)) (at 34)) ∷ []) (at 1) ∷ TopPhrase.Funsigs (funsig_bind (name (codes "G") 65)
+    (name (codes "X") 68) (SigPhrase.Sig (SpecPhrase.Sequence SpecPhrases.EndOfSpecs (at 72)) (at 72))
+    (SigPhrase.Sig (SpecPhrase.Sequence (SpecPhrases.Next (SpecPhrase.Types (type_desc [] (name (codes "t") 92) ∷
+    []) (at 87)) SpecPhrases.EndOfSpecs) (at 83)) (at 83)) ∷ []) (at 58) ∷ [])) ≡ gives functor_f
+defines_f = refl
+
+-- .. and what G is
+defines_g : seen_funsig (codes "G") (of false (TopPhrase.Functors (fun_bind (name (codes "F") 9) (name
+    (codes "X") 12) (SigPhrase.Sig (SpecPhrase.Sequence (SpecPhrases.Next (SpecPhrase.Types (type_desc [] (name
+    (codes "t") 25) ∷ []) (at 20)) SpecPhrases.EndOfSpecs) (at 16)) (at 16)) (ModulePhrase.Struct
+    (ModuleDec.Sequence (ModuleDecs.Dec (ModuleDec.Core (DecPhrase.Types (type_bind [] (name (codes "u") 46)
+    (TyPhrase.Named TyPhrases.EndOfArgs (long (codes "X" ∷ codes "t" ∷ []) 50) (at 50)) ∷ []) (at 41)))
+    ModuleDecs.EndOfDecs) (at 34)) (at 34)) ∷ []) (at 1) ∷ TopPhrase.Funsigs (funsig_bind (name (codes "G") 65)
+    (name (codes "X") 68) (SigPhrase.Sig (SpecPhrase.Sequence SpecPhrases.EndOfSpecs (at 72)) (at 72))
+    (SigPhrase.Sig (SpecPhrase.Sequence (SpecPhrases.Next (SpecPhrase.Types (type_desc [] (name (codes "t") 92) ∷
+    []) (at 87)) SpecPhrases.EndOfSpecs) (at 83)) (at 83)) ∷ []) (at 58) ∷ [])) ≡ gives (functor_by [] empty_env
+    (bound_name 0 false ∷ []) (with_type (codes "t") (plain (named (bound_name 0 false))) empty_env))
+defines_g = refl
+
+-- structure B = F (struct type t = int end), where F is given
+defines_b : over_given (top_of_functors ((codes "F", functor_f) ∷ [])) false (TopPhrase.Structures
+    (ModuleBinds.Bind (name (codes "B") 11) (ModulePhrase.Functor (name (codes "F") 15) (ModulePhrase.Struct
+    (ModuleDec.Sequence (ModuleDecs.Dec (ModuleDec.Core (DecPhrase.Types (type_bind [] (name (codes "t") 30)
+    (TyPhrase.Named TyPhrases.EndOfArgs (long (codes "int" ∷ []) 34) (at 34)) ∷ []) (at 25))) ModuleDecs.EndOfDecs)
+    (at 18)) (at 18)) (at 15)) ModuleBinds.EndOfBinds) (at 1) ∷ []) ≡ gives (top_of_env (with_structure (codes "B")
+    (with_type (codes "u") (plain int_tree) empty_env) empty_env))
+defines_b = refl
+
+-- structure M = struct val u = Q1.f Q2.v end, where types of two other units are given
+refuses_foreign : over_given given_q false (TopPhrase.Structures (ModuleBinds.Bind (name (codes "M") 11)
+    (ModulePhrase.Struct (ModuleDec.Sequence (ModuleDecs.Dec (ModuleDec.Core (DecPhrase.Val [] (Rules.Rule
+    (PatPhrase.Long (long (codes "u" ∷ []) 26) (at 26)) (ExpPhrase.App (ExpPhrase.Long (long (codes "Q1" ∷ codes "f"
+    ∷ []) 30) (at 30)) (ExpPhrase.Long (long (codes "Q2" ∷ codes "v" ∷ []) 35) (at 35)) (at 30)) Rules.EndOfRules)
+    Rules.EndOfRules (at 22))) ModuleDecs.EndOfDecs) (at 15)) (at 15)) ModuleBinds.EndOfBinds) (at 1) ∷ []) ≡
+    refused 31 30 []
+refuses_foreign = refl

@@ -85,8 +85,8 @@ result_by home fun rows st = (
 )
 
 -- a functor with its argument, which stands at a place
-abbrev pub applied_to : Scope → At → Functor → Env × Progress → Answer (Env × Progress)
-applied_to sc at fun r =
+abbrev pub functor_applied : Scope → At → Functor → Env × Progress → Answer (Env × Progress)
+functor_applied sc at fun r =
     matching sc at r.1.types (known_env r.0 r.1) (param_of fun) >>= λ rows. gives (result_by sc.home fun rows r.1)
 
 -- ---- the phrases
@@ -107,7 +107,7 @@ abbrev mutual
   infer_module depth home top (ModulePhrase.Functor name argument at) st =
       known (core_scope home top) (single name) (entry name.text top.functors)
       >>= λ fun. infer_module depth home top argument st
-      >>= λ e. applied_to (core_scope home top) (module_at argument) fun e
+      >>= λ e. functor_applied (core_scope home top) (module_at argument) fun e
   infer_module depth home top (ModulePhrase.Within dec body at) st =
       infer_module_dec depth home top dec st >>= λ d. infer_module depth home (top_under d.0 top) body d.1
 
