@@ -7,6 +7,10 @@ pub enum Kind {
     Letters,
     /// Commands over a folder in memory, with a compiler whose sources say what shows in their interface.
     Seamed,
+    /// Commands over a folder in memory, with a compiler of capital letters in whose interfaces nothing shows.
+    Quiet,
+    /// Commands over a folder in memory, with a compiler of capital letters whose interfaces are its sources.
+    Shown,
     /// Commands over a folder in memory, with the compiler of the program.
     Build,
     /// Calls of the folder and the output of the machine.
@@ -16,9 +20,11 @@ pub enum Kind {
 }
 
 /// The kinds with their names.
-const KINDS: [(&[u8], Kind); 5] = [
+const KINDS: [(&[u8], Kind); 7] = [
     (b"letters", Kind::Letters),
     (b"seamed", Kind::Seamed),
+    (b"quiet", Kind::Quiet),
+    (b"shown", Kind::Shown),
     (b"build", Kind::Build),
     (b"machine", Kind::Machine),
     (b"call", Kind::Call),

@@ -8,6 +8,7 @@ mod machine;
 mod player;
 mod words_of_call;
 
+use capital_compilers::{Quiet, Shown};
 use case_files::{Case, CaseFault, Kinds, Report, Wrong, run_cases};
 use case_scenes::play;
 use commands::Commands;
@@ -30,6 +31,8 @@ impl Kinds for BuildKinds {
         match kind_of(case.kind.as_bytes()) {
             Some(Kind::Letters) => play(alloc, Commands::<Letters>::new(alloc)?, case, report),
             Some(Kind::Seamed) => play(alloc, Commands::<Seamed>::new(alloc)?, case, report),
+            Some(Kind::Quiet) => play(alloc, Commands::<Quiet>::new(alloc)?, case, report),
+            Some(Kind::Shown) => play(alloc, Commands::<Shown>::new(alloc)?, case, report),
             Some(Kind::Build) => play(alloc, Commands::<SmlCompiler>::new(alloc)?, case, report),
             Some(Kind::Machine) => try_on_machine(self.rt, case, report),
             Some(Kind::Call) => play(alloc, WordsOfCall::new(alloc), case, report),

@@ -1,5 +1,6 @@
 //! The compilers that commands run with.
 
+use capital_compilers::{Quiet, Shown};
 use case_scenes::Asked;
 use cm_base::NoMemory;
 use sml_compiler::SmlCompiler;
@@ -31,6 +32,32 @@ impl Player for Letters {
 impl Player for Seamed {
     fn begin(alloc: Global) -> Result<Seamed, NoMemory> {
         Ok(Seamed::new(alloc))
+    }
+
+    fn asked_of(&self) -> Asked<'_> {
+        Asked {
+            units: &self.asked,
+            skeletons: &self.asked_skeletons,
+        }
+    }
+}
+
+impl Player for Quiet {
+    fn begin(alloc: Global) -> Result<Quiet, NoMemory> {
+        Ok(Quiet::new(alloc))
+    }
+
+    fn asked_of(&self) -> Asked<'_> {
+        Asked {
+            units: &self.asked,
+            skeletons: &self.asked_skeletons,
+        }
+    }
+}
+
+impl Player for Shown {
+    fn begin(alloc: Global) -> Result<Shown, NoMemory> {
+        Ok(Shown::new(alloc))
     }
 
     fn asked_of(&self) -> Asked<'_> {
