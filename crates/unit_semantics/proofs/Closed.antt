@@ -30,7 +30,7 @@ use Rattle.unit_semantics.specs.Promises.{IsClosedScheme, IsClosedFunction, IsCl
 
 -- ---- where none was found
 
-neither : (a b : Bool) → a ≡ false → b ≡ false → (a || b) ≡ false
+pub neither : (a b : Bool) → a ≡ false → b ≡ false → (a || b) ≡ false
 neither false b h k = k
 neither true b h k = absurd (cc)
 
@@ -179,7 +179,7 @@ module _ (φ : Realisation) (k : PutsClosed φ) where
 
 -- ---- names in place of names
 
-bound_where : (c : Bool) (i n : ℕ) → c ≡ true → holds_free (cond c (Tree.Bound i) (Tree.Free n)) ≡ false
+pub bound_where : (c : Bool) (i n : ℕ) → c ≡ true → holds_free (cond c (Tree.Bound i) (Tree.Free n)) ≡ false
 bound_where true i n h = refl
 bound_where false i n h = absurd (cc)
 
@@ -191,10 +191,10 @@ all_bound vs (w ∷ ws) h = neither (holds_free (cond (is_among w vs) (Tree.Boun
     (bound_where (is_among w vs) (place_of w vs) w (h w (or_left (eqb w w) (is_among w ws) (eq-eqb w w refl))))
     (all_bound vs ws (λ u e. h u (or_right (eqb u w) (is_among u ws) e)))
 
-own_closed : (name : TyName) → IsClosedFunction (own_type name).function
+pub own_closed : (name : TyName) → IsClosedFunction (own_type name).function
 own_closed name = all_bound (counted name.arity 0) (counted name.arity 0) (λ w e. e)
 
-first_closed : (c : Bool) (f by : TypeFn) (rest : Option TypeFn) → IsClosedFunction f
+pub first_closed : (c : Bool) (f by : TypeFn) (rest : Option TypeFn) → IsClosedFunction f
     → (rest ≡ Some by → IsClosedFunction by) → cond c (Some f) rest ≡ Some by → IsClosedFunction by
 first_closed true f by rest h k e = subst IsClosedFunction (let i : f ≡ by = cc in i) h
 first_closed false f by rest h k e = k e

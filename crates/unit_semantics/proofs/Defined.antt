@@ -17,36 +17,21 @@ use Rattle.unit_semantics.specs.UnitPhrases.{ModuleBinds, FunPhrase, TopPhrase, 
 use Rattle.unit_semantics.specs.StructureInference.{core_scope, known_env, infer_module}
 use Rattle.unit_semantics.specs.UnitInference.{top_with, with_given, has_variable, without_variables, names_since, top_with_param, infer_body, infer_structures, infer_signatures, infer_functors, infer_funsigs, infer_top, infer_tops, infer_unit}
 use Rattle.unit_semantics.specs.Promises.{IsClosedScheme, IsClosedFunction, IsClosedEnv, IsOfStructures, GivesClosed, DefinesStructures}
+use Rattle.unit_semantics.proofs.Answers.{always, where_not}
 use Rattle.unit_semantics.proofs.Closed.{env_closed, realised_closed, puts_names}
 
 -- ---- answers
 
-given_any : {A : Type 0} (m : Answer A) → Given (λ x. Unit {0}) m
-given_any None = tt
-given_any (Some (Err diag)) = tt
-given_any (Some (Ok x)) = tt
-
--- whatever a step gives
-always : {A B : Type 0} (Q : B → Type 0) (m : Answer A) (next : A → Answer B) → ((x : A) → Given Q (next x))
-    → Given Q (m >>= next)
-always Q m next h = given_then (λ x. Unit {0}) Q m next (given_any m) (λ x u. h x)
-
--- a check on the way, which doesn't fail
-where_not : {B : Type 0} (Q : B → Type 0) (c : Bool) (number : ℕ) (sc : Scope) (at : At) (next : Unit {0} → Answer B)
-    → (c ≡ false → Given Q (next tt)) → Given Q (refuses_where c number sc at >>= next)
-where_not Q true number sc at next h = tt
-where_not Q false number sc at next h = h refl
-
-abbrev ClosedIn : Env × Progress → Type 0
+abbrev pub ClosedIn : Env × Progress → Type 0
 ClosedIn r = IsClosedEnv r.0
 
-closed_after : (sc : Scope) (name : Name) (r : Env × Progress) → Given ClosedIn (without_variables sc name r)
+pub closed_after : (sc : Scope) (name : Name) (r : Env × Progress) → Given ClosedIn (without_variables sc name r)
 closed_after sc name r = where_not ClosedIn (has_variable (known_env r.0 r.1)) 42 sc (name_at name)
     (λ u. gives (known_env r.0 r.1, r.1)) (λ e. env_closed (known_env r.0 r.1) e)
 
 -- ---- environments of structures
 
-of_nothing : IsOfStructures empty_env
+pub of_nothing : IsOfStructures empty_env
 of_nothing = record {
   no_types = refl;
   no_values = refl;
@@ -80,10 +65,10 @@ of_both env by h k = record {
 
 -- ---- bindings
 
-abbrev StructuresIn : Env × Progress → Type 0
+abbrev pub StructuresIn : Env × Progress → Type 0
 StructuresIn r = IsOfStructures r.0
 
-structures_defined : (depth : ℕ) (home : List ℕ) (top : Top) (binds : ModuleBinds) (made : Env) (st : Progress)
+pub structures_defined : (depth : ℕ) (home : List ℕ) (top : Top) (binds : ModuleBinds) (made : Env) (st : Progress)
     → IsOfStructures made → Given StructuresIn (infer_structures depth home top binds made st)
 structures_defined depth home top ModuleBinds.EndOfBinds made st h = h
 structures_defined depth home top (ModuleBinds.Bind name str rest) made st h =

@@ -3,7 +3,7 @@ use Rattle.std.specs.Prelude.{◌≡◌, ℕ, List, [], Some, Result, Bool, fals
 use Rattle.cm_base.specs.declared.diag.Diag.{Diag}
 use Rattle.semantic_objects.specs.declared.entry.TypeFn.{TypeFn}
 use Rattle.semantic_objects.specs.Trees.{TypeScheme}
-use Rattle.semantic_objects.specs.Environments.{Env, Functor, Top, types, values}
+use Rattle.semantic_objects.specs.Environments.{Env, Signature, Functor, Top, types, values}
 use Rattle.env_parts.specs.Types.{holds_free}
 use Rattle.bare_phrases.specs.Phrases.{DecPhrase}
 use Rattle.static_semantics.specs.Inferring.{Progress}
@@ -47,3 +47,23 @@ pub record DefinesStructures (top : Top) : Type 0 where
 pub record UnitsDefineStructures : Type 0 where
   pub all : (depth : ℕ) (home : List ℕ) (basis : Env) (given : Top) (sealing : Bool) (tops : List TopPhrase)
       (st : Progress) → Given (λ r. DefinesStructures r.0) (infer_unit depth home basis given sealing tops st)
+
+-- no type variable stands in a signature, in a functor, in anything that stands at the top
+abbrev pub IsClosedSignature : Signature → Type 0
+IsClosedSignature sig = IsClosedEnv sig.env
+
+pub record IsClosedFunctor (fun : Functor) : Type 0 where
+  pub param : IsClosedEnv fun.param
+  pub result : IsClosedEnv fun.result
+
+pub record IsClosedTop (top : Top) : Type 0 where
+  pub env : IsClosedEnv top.env
+  pub signatures : AllRows IsClosedSignature top.signatures
+  pub functors : AllRows IsClosedFunctor top.functors
+  pub funsigs : AllRows IsClosedFunctor top.funsigs
+
+-- where no type variable stands in the basis and in what is given, none stands in what a unit defines
+pub record UnitsAreClosed : Type 0 where
+  pub all : (depth : ℕ) (home : List ℕ) (basis : Env) (given : Top) (sealing : Bool) (tops : List TopPhrase)
+      (st : Progress) → IsClosedEnv basis → IsClosedTop given
+      → Given (λ r. IsClosedTop r.0) (infer_unit depth home basis given sealing tops st)

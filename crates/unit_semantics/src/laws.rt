@@ -1,6 +1,6 @@
 //! The laws of units, so that crates above have them from a call.
 
-ghost use Rattle.unit_semantics.specs.Promises.{MeansTheSame, UnitsDefineStructures};
+ghost use Rattle.unit_semantics.specs.Promises.{MeansTheSame, UnitsDefineStructures, UnitsAreClosed};
 
 /// A declaration of the core means in a structure what it means in the core.
 #[tactic(auto, using(crate::proofs::Promised::means_the_same))]
@@ -12,4 +12,10 @@ pub fn core_means_the_same()
 #[tactic(auto, using(crate::proofs::Promised::define_structures))]
 pub fn units_define_structures()
     ensures { UnitsDefineStructures }
+{}
+
+/// Where no type variable stands in the basis and in what is given, none stands in what a unit defines.
+#[tactic(auto, using(crate::proofs::Promised::are_closed))]
+pub fn units_are_closed()
+    ensures { UnitsAreClosed }
 {}

@@ -4,4 +4,4 @@
 
 mod laws;
 
-pub use laws::{core_means_the_same, units_define_structures};
+pub use laws::{core_means_the_same, units_are_closed, units_define_structures};
