@@ -1,5 +1,5 @@
 -- Steps of an inference of which nothing is asked, and checks that don't fail.
-use Rattle.std.proofs.Common.{◌≡◌, ℕ, refl, Option, Some, None, Bool, true, false}
+use Rattle.std.proofs.Common.{◌≡◌, ℕ, refl, Some, None, Bool, true, false}
 use Rattle.std.specs.Prelude.{Ok, Err}
 use Rattle.sml_trees.specs.declared.name.At.{At}
 use Rattle.static_semantics.specs.Inferring.{Scope, Answer, ◌>>=◌, refuses_where}

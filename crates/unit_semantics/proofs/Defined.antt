@@ -1,13 +1,12 @@
 -- What a unit defines: structures in which no type variable stands, and functors whose results have none.
-use Rattle.std.proofs.Common.{◌≡◌, ℕ, List, [], ◌∷◌, refl, Some, None, Bool, true, false, ◌++◌}
-use Rattle.std.specs.Prelude.{length, Ok, Err}
-use Rattle.sml_trees.specs.declared.name.At.{At}
+use Rattle.std.proofs.Common.{◌≡◌, ℕ, List, [], ◌∷◌, refl, Bool, ◌++◌}
+use Rattle.std.specs.Prelude.{length}
 use Rattle.sml_trees.specs.declared.name.Name.{Name}
 use Rattle.semantic_objects.specs.declared.name.TyName.{TyName}
 use Rattle.semantic_objects.specs.Tables.{Table, with_entry, with_all}
 use Rattle.semantic_objects.specs.Environments.{Env, Signature, Functor, Top, structures, types, values, empty_env, modified_by, with_structure}
 use Rattle.realisation.specs.Realised.{of_rows}
-use Rattle.static_semantics.specs.Inferring.{Progress, Scope, Answer, ◌>>=◌, gives, refuses_where, name_at}
+use Rattle.static_semantics.specs.Inferring.{Progress, Scope, gives, name_at}
 use Rattle.static_semantics.specs.TypeInference.{new_label}
 use Rattle.static_semantics.specs.Holding.{Given, AllRows, EnvHas}
 use Rattle.static_semantics.proofs.Holding.{given_then, rows_with, rows_with_all, has_structures, has_types, has_values, has_nothing, has_modified, table_structures}

@@ -1,8 +1,7 @@
 -- What a signature specifies holds no type variable, where none stands in its scope.
-use Rattle.std.proofs.Common.{◌≡◌, ℕ, List, [], ◌∷◌, length, Option, Some, None, Bool, true, false, not, cond}
-use Rattle.std.specs.Prelude.{Ok, Err, eqb}
+use Rattle.std.proofs.Common.{ℕ, List, [], ◌∷◌, length, Option, Some, None, Bool, true, false, not, cond}
+use Rattle.std.specs.Prelude.{eqb}
 use Rattle.sml_trees.specs.declared.name.At.{At}
-use Rattle.sml_trees.specs.declared.name.Name.{Name}
 use Rattle.sml_trees.specs.declared.name.LongName.{LongName}
 use Rattle.semantic_objects.specs.declared.name.TyName.{TyName}
 use Rattle.semantic_objects.specs.declared.entry.TypeFn.{TypeFn}
@@ -21,7 +20,7 @@ use Rattle.static_semantics.specs.Inferring.{Progress, Scope, under, with_writte
 use Rattle.static_semantics.specs.TypeInference.{infer_ty, listed, numbers, as_written, type_function}
 use Rattle.static_semantics.specs.DatatypeInference.{own_name, own_type, after_names, infer_optional_ty, datatypes_of, infer_replication, exception_entry}
 use Rattle.static_semantics.specs.Holding.{Given, IfSome, AllRows, TypeHas, ValueHas, EnvHas}
-use Rattle.static_semantics.proofs.Holding.{given_then, given_where, given_known, rows_found, rows_with, has_structures, has_types, has_values, has_nothing, has_with_type, has_with_value, has_modified, has_found, table_structures}
+use Rattle.static_semantics.proofs.Holding.{given_then, given_where, given_known, rows_found, rows_with, has_structures, has_types, has_values, has_nothing, has_with_type, has_with_value, has_modified, table_structures}
 use Rattle.module_semantics.specs.SigPhrases.{ValPhrase, TypeDescPhrase, SigPhrase, SpecPhrase, SigBinds, SpecPhrases}
 use Rattle.module_semantics.specs.SignatureNames.{name_alone, rows_between, unit_names, bound_names, opened, empty_signature, also_bound}
 use Rattle.module_semantics.specs.SignatureInference.{have_common, specified, variables_of, val_entry, infer_vals, infer_type_descs, exception_ty, infer_exception_specs, type_alone, value_alone, specified_cons, specified_types, names_of_types, infer_datatype_specs, lacks_equality, with_function, refuses_long, replaced, where_type, single, infer_sig, infer_spec, infer_structure_specs, infer_specs, signature_of}

@@ -1,7 +1,7 @@
 -- What types, constructors and specifications hold of type variables: those of their own lists alone, so that nothing
 -- that is closed over them has any.
 use Rattle.std.proofs.Common.{◌≡◌, ℕ, zero, suc, ◌-◌, List, [], ◌∷◌, ◌++◌, length, map, get_or, refl, sym, ap, ◌∙◌, Option, Some, None, Bool, true, false, ◌||◌, not}
-use Rattle.std.specs.Prelude.{Ok, Err, eqb}
+use Rattle.std.specs.Prelude.{eqb}
 use Rattle.std.specs.Option.{is_some}
 use Rattle.std.proofs.lemmas.Bool.{eq-eqb}
 use Rattle.semantic_objects.specs.declared.name.TyName.{TyName}
@@ -9,7 +9,7 @@ use Rattle.semantic_objects.specs.declared.entry.ConEntry.{ConEntry}
 use Rattle.semantic_objects.specs.declared.entry.TypeStr.{TypeStr}
 use Rattle.semantic_objects.specs.Tables.{Table, entry, with_entry}
 use Rattle.semantic_objects.specs.Trees.{Tree, Trees, TypeScheme}
-use Rattle.semantic_objects.specs.Environments.{Env, types, values, empty_env, with_type}
+use Rattle.semantic_objects.specs.Environments.{Env, types, empty_env, with_type}
 use Rattle.env_parts.specs.Types.{holds_free, any_holds_free}
 use Rattle.unification.specs.Types.{Ty, Types, Substitution, occurs, occurs_any}
 use Rattle.unification.specs.Touching.{IsWithin, AreWithin}
