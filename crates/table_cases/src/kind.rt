@@ -1,0 +1,29 @@
+//! The kinds of cases, by the names that stand behind `@`.
+
+/// What a case is a case of.
+#[derive(Clone, Copy)]
+pub enum Kind {
+    /// `table`: the calls of a table of types, by steps. Types have the numbers in which they came: `fresh`, `fresh-eq`,
+    /// `rigid` and `rigid-eq` make a variable, `con NAME ID..` a type name of the basis over types, `arrow ID ID` a
+    /// function type, `record LABEL ID ..` a record type, and `instance NUMBER` an instance of a scheme. `close ID KEPT..`
+    /// makes a scheme, of which `show NUMBER` is the text. `type ID` is the text of a type, with `?a`, `?b` for its
+    /// variables; `look ID` what stands there, one level of it; `size ID` the nodes of its tree. `unify ID ID` and
+    /// `covers ID ID KEPT..`, of the schemes of two types, say what they answer. `undone ID ID` is the text of a pair of
+    /// two types when they were made one; all of it is undone then. `lists`, `pairs-left`, `arrows-left`, `arrows-right`
+    /// and `doubled` with `ID COUNT` make a deep type, `wide COUNT` a record of so many variables, and `unify-times ID ID
+    /// COUNT` unifies so often.
+    Table,
+}
+
+/// The kinds with their names.
+const KINDS: [(&[u8], Kind); 1] = [(b"table", Kind::Table)];
+
+/// The kind of a name.
+pub fn kind_of(name: &[u8]) -> Option<Kind> {
+    for (known, kind) in KINDS {
+        if known == name {
+            return Some(kind);
+        }
+    }
+    None
+}
