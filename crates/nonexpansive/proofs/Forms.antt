@@ -1,0 +1,4 @@
+-- The phrase of each form of expression.
+use Rattle.bare_phrases.proofs.Forms.{exp_phrase-Int, exp_phrase-Str, exp_phrase-Char, exp_phrase-Long, exp_phrase-Record, exp_phrase-Let, exp_phrase-App, exp_phrase-Typed, exp_phrase-Handle, exp_phrase-Raise, exp_phrase-Fn, exp_field_phrase-kept}
+
+pub ruleset forms = (exp_phrase-Int, exp_phrase-Str, exp_phrase-Char, exp_phrase-Long, exp_phrase-Record, exp_phrase-Let, exp_phrase-App, exp_phrase-Typed, exp_phrase-Handle, exp_phrase-Raise, exp_phrase-Fn, exp_field_phrase-kept)
