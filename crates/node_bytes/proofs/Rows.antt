@@ -20,7 +20,7 @@ nodes_add made (row ∷ rows) = nodes_add (made ++ row_node made row ∷ []) row
     ∙ append_assoc made (row_node made row ∷ []) (added (made ++ row_node made row ∷ []) rows)
 
 -- items whose parts stand in a front are made of it
-content_same : (made all : List Node) (n : ℕ) (items : List Item)
+pub content_same : (made all : List Node) (n : ℕ) (items : List Item)
     → ((k part : ℕ) → slice_get items k ≡ Some (item.Part part) → part < n)
     → ((p : ℕ) → p < n → get_or made p nowhere ≡ get_or all p nowhere) → content_of made items ≡ content_of all items
 content_same made all n [] below front = refl

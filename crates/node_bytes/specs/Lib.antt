@@ -5,6 +5,7 @@ pub mod Interfaces
 pub mod Laws
 pub mod Nodes
 pub mod Reading
+pub mod Rows
 pub mod Shapes
 pub mod Spelling
 pub mod Tables
