@@ -1,0 +1,4 @@
+pub mod Nodes
+pub mod Unifying
+pub mod TypesMade
+pub mod PatternsMade
