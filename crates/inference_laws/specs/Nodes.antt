@@ -1,5 +1,5 @@
 -- What types, trees, states and environments are made of: the symbols that stand in them, each with so many parts.
-use Rattle.std.specs.Prelude.{◌≡◌, ℕ, zero, suc, List, [], ◌∷◌, length, Bool, true, false}
+use Rattle.std.specs.Prelude.{◌≡◌, ℕ, zero, suc, List, [], ◌∷◌, length, Bool, true, false, ◌||◌, not, ltb, ◌≤◌}
 use Rattle.semantic_objects.specs.declared.name.Owner.TheVariants as owner
 use Rattle.semantic_objects.specs.declared.name.TyName.{TyName}
 use Rattle.semantic_objects.specs.declared.symbol.Symbol.{Symbol}
@@ -10,6 +10,7 @@ use Rattle.semantic_objects.specs.Trees.{Tree, Trees, TypeScheme, IsScheme, Bind
 use Rattle.semantic_objects.specs.Environments.{Env}
 use Rattle.unification.specs.Types.{Ty, Types, State}
 use Rattle.static_semantics.specs.Inferring.{Progress, Scope}
+use Rattle.static_semantics.specs.DatatypeInference.{same_as_home}
 use Rattle.static_semantics.specs.Holding.{AllItems, AllRows, EnvHas}
 
 -- whether a symbol may stand with so many parts
@@ -101,3 +102,13 @@ pub record Makes (home : List ℕ) (From : Nodes → Type 0) (st u : Progress) (
   pub names : List TyName
   pub numbered : NumberedFrom home st.names names u.names
   pub holds : (q : Nodes) → From q → AllItems (MayStand q) names → To q
+
+-- a symbol is no type name of a unit, or one with a number below another
+abbrev pub below_number : List ℕ → ℕ → Nodes
+below_number home k symbol.Arrow parts = true
+below_number home k (symbol.Record labels) parts = true
+below_number home k (symbol.Name name) parts = not (same_as_home home name.owner) || ltb name.number k
+
+-- `From` holds where the unit's names have numbers below a number, or below a later one
+abbrev pub IsReadyFor : List ℕ → (Nodes → Type 0) → ℕ → Type 0
+IsReadyFor home From k = (m : ℕ) → k ≤ m → From (below_number home m)
