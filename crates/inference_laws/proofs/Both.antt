@@ -1,5 +1,5 @@
 -- Two things that hold of the nodes of a type, a tree, an environment, as one.
-use Rattle.std.proofs.Common.{◌≡◌, ℕ, List, [], ◌∷◌, Bool, true}
+use Rattle.std.proofs.Common.{◌≡◌, ℕ, List, [], ◌∷◌, true}
 use Rattle.semantic_objects.specs.declared.symbol.Symbol.{Symbol}
 use Rattle.semantic_objects.specs.declared.entry.TypeStr.{TypeStr}
 use Rattle.semantic_objects.specs.declared.entry.ConEntry.{ConEntry}
@@ -9,7 +9,7 @@ use Rattle.semantic_objects.specs.Tables.{Table}
 use Rattle.semantic_objects.specs.Trees.{Tree, Trees, TypeScheme}
 use Rattle.semantic_objects.specs.Environments.{Env, Structures}
 use Rattle.unification.specs.Types.{Ty, Types}
-use Rattle.static_semantics.specs.Holding.{AllItems, AllRows, ConHas, TypeHas, ValueHas, EnvHas, StructuresHave}
+use Rattle.static_semantics.specs.Holding.{AllItems, AllRows, ConHas, TypeHas, ValueHas, StructuresHave}
 use Rattle.inference_laws.specs.Nodes.{Nodes, count_types, count_trees, TyOf, TysOf, TreeOf, TreesOf, SchemeOf, FunctionOf, EnvOf}
 
 -- two tests of a node make a third hold

@@ -1,5 +1,5 @@
 -- What expressions, matches and declarations make is made of what they are given, and of names that they make.
-use Rattle.std.proofs.Common.{◌≡◌, ℕ, zero, suc, List, [], ◌∷◌, ◌++◌, length, drop, refl, sym, ap, ◌∙◌, Option, Some, None, Bool, true, false, ◌||◌, cond, not}
+use Rattle.std.proofs.Common.{◌≡◌, ℕ, zero, suc, List, [], ◌∷◌, ◌++◌, length, drop, refl, ◌∙◌, Option, Some, None, Bool, true, false, ◌||◌, cond, not}
 use Rattle.std.specs.Option.{is_some}
 use Rattle.sml_trees.specs.declared.name.At.{At}
 use Rattle.sml_trees.specs.declared.name.Name.{Name}
@@ -12,7 +12,7 @@ use Rattle.unification.specs.Types.{Ty, State, put}
 use Rattle.unification.specs.Closing.{found_in}
 use Rattle.bare_phrases.specs.Phrases.{PatPhrase, ExpPhrase, ExpFields, Rules, DecPhrase, DecPhrases}
 use Rattle.static_semantics.specs.BasicTypes.{int_ty, string_ty, char_ty, exn_ty, arrow_ty, record_ty, reserved_constructors}
-use Rattle.static_semantics.specs.Inferring.{Progress, Scope, Answer, under, with_written, gives, name_at, known, unify_at, found_at, is_named, new_variable, new_instance, Bound, variable_entry, with_bound, under_bound, is_kept, is_too_large, has_too_large, sized_exp, sized_dec}
+use Rattle.static_semantics.specs.Inferring.{Progress, Scope, under, with_written, gives, name_at, known, unify_at, found_at, is_named, new_variable, Bound, variable_entry, with_bound, under_bound, is_kept, is_too_large, has_too_large, sized_exp, sized_dec}
 use Rattle.static_semantics.specs.WrittenVariables.{written_in}
 use Rattle.static_semantics.specs.Nonexpansive.{is_nonexpansive}
 use Rattle.static_semantics.specs.TypeInference.{infer_ty, new_rigid, listed, as_written, infer_types}
@@ -22,18 +22,14 @@ use Rattle.static_semantics.specs.CoreInference.{exp_at, known_exp, applied, joi
 use Rattle.static_semantics.specs.Holding.{Given, AllItems, AllRows, ValueHas}
 use Rattle.static_semantics.proofs.Holding.{given_then, given_where, given_known, rows_after, has_structures, has_nothing, has_with_value, has_modified, has_found}
 use Rattle.static_semantics.proofs.TypesGrow.{given_more}
-use Rattle.inference_laws.specs.Nodes.{Nodes, TyOf, StateOf, SchemeOf, FunctionOf, EnvOf, Admits, ScopeOf, IsOf, Makes, IsReadyFor}
+use Rattle.inference_laws.specs.Nodes.{Nodes, TyOf, StateOf, SchemeOf, FunctionOf, EnvOf, Admits, ScopeOf, IsOf, Makes, IsReadyFor, ExpOf, DecOf, PatOf}
 use Rattle.inference_laws.specs.Spelling.{PatSpelt, ExpSpelt, ExpFieldsSpelt, RulesSpelt, DecSpelt, DecsSpelt}
-use Rattle.inference_laws.proofs.Nodes.{ty_put, ty_arrow, tree_closed, closed_binds, scheme_closed, FieldsOf, no_fields, field_more, ty_record}
-use Rattle.inference_laws.proofs.Making.{plain, after, step, before, ready_after, ready_same, all_step, all_first, less}
+use Rattle.inference_laws.proofs.Nodes.{ty_put, ty_arrow, scheme_closed, FieldsOf, no_fields, field_more, ty_record}
+use Rattle.inference_laws.proofs.Making.{plain, after, before, ready_after, ready_same, all_step, all_first, less}
 use Rattle.inference_laws.proofs.Unifying.{UnifiedOf, unify_of}
 use Rattle.inference_laws.proofs.TypesMade.{ty_of, IsListed, listed_of, state_same, written_of, PlainOf, types_of_binds}
-use Rattle.inference_laws.proofs.PatternsMade.{PatOf, at_state, value_of, instance_state, instance_ty, pat_of}
-use Rattle.inference_laws.proofs.DatatypesMade.{items_after, under_of, DecOf, datatypes_made, replication_of, variable_of, exn_of, exceptions_made}
-
--- what an expression, a declaration gives
-abbrev pub ExpOf : Ty × Progress → Nodes → Type 0
-ExpOf r q = StateOf q r.1.types × TyOf q r.0
+use Rattle.inference_laws.proofs.PatternsMade.{at_state, value_of, instance_state, instance_ty, pat_of}
+use Rattle.inference_laws.proofs.DatatypesMade.{items_after, under_of, datatypes_made, replication_of, variable_of, exn_of, exceptions_made}
 
 abbrev pub ExpMade : (List ℕ → Bool) → Scope → Progress → Ty × Progress → Type 0
 ExpMade good sc st r = Makes sc.home (IsOf good sc st) st r.1 (ExpOf r)
@@ -153,7 +149,7 @@ implicit_still : (outer : List (List ℕ × Ty)) (texts : List (List ℕ)) (befo
 implicit_still outer [] before st = record { stands = refl; names = refl }
 implicit_still outer (text ∷ texts) before st =
     let next : IsStill (new_rigid text st)
-        (implicit outer texts (before ++ (text, st.types.next) ∷ []) (new_rigid text st)) =
+    (implicit outer texts (before ++ (text, st.types.next) ∷ []) (new_rigid text st)) =
     implicit_still outer texts (before ++ (text, st.types.next) ∷ []) (new_rigid text st) in
     either_still st (is_named text before || is_named text outer) (implicit outer texts before st)
     (implicit outer texts (before ++ (text, st.types.next) ∷ []) (new_rigid text st))
@@ -391,8 +387,11 @@ mutual
   pub match_made : (good : List ℕ → Bool) (depth : ℕ) (sc : Scope) (rules : Rules) (st : Progress)
       → RulesSpelt good rules → IsReady good sc st → Given (ExpMade good sc st) (infer_match depth sc rules st)
   match_made good depth sc Rules.EndOfRules st p h =
-      plain refl (λ q i. (i.state, ty_arrow good q (new_variable st).0 (new_variable (new_variable st).1).0
-      i.scope.admits tt tt))
+      plain refl (λ q i. (
+        i.state,
+        ty_arrow good q (new_variable st).0 (new_variable (new_variable st).1).0
+            i.scope.admits tt tt,
+      ))
   match_made good depth sc (Rules.Rule pat exp rest) st p h =
       given_then (λ a. Makes sc.home (IsOf good sc st) st a.2 (λ q. IsOf good sc st q × PatOf q st a)) (ExpMade good sc st)
       (infer_pat depth sc pat [] st) _

@@ -6,7 +6,6 @@ use Rattle.std.proofs.lemmas.Bool.{eq-eqb, lt-ltb, le-ltb}
 use Rattle.std.proofs.lemmas.List.{length-map}
 use Rattle.sml_trees.specs.declared.name.Name.{Name}
 use Rattle.sml_trees.specs.declared.name.LongName.{LongName}
-use Rattle.semantic_objects.specs.declared.name.Owner.TheVariants as owner
 use Rattle.semantic_objects.specs.declared.name.TyName.{TyName}
 use Rattle.semantic_objects.specs.declared.symbol.Symbol.{Symbol}
 use Rattle.semantic_objects.specs.declared.symbol.Symbol.TheVariants as symbol
@@ -17,7 +16,7 @@ use Rattle.semantic_objects.specs.Symbols.{same_text}
 use Rattle.semantic_objects.specs.Tables.{Table, entry}
 use Rattle.semantic_objects.specs.Trees.{TypeScheme}
 use Rattle.semantic_objects.specs.Environments.{Env, types, values, empty_env, with_type, with_value}
-use Rattle.unification.specs.Types.{Ty, Types, State}
+use Rattle.unification.specs.Types.{Ty, Types}
 use Rattle.unification.specs.Closing.{closed_over}
 use Rattle.unification.proofs.Walking.{and_both}
 use Rattle.bare_phrases.specs.Phrases.{TyPhrase, ConPhrase, DatPhrase, ExBodyPhrase, ExPhrase}
@@ -25,12 +24,12 @@ use Rattle.static_semantics.specs.BasicTypes.{exn_ty, arrow_ty, is_one_of, is_eq
 use Rattle.static_semantics.specs.Inferring.{Progress, Scope, Answer, under, with_written_alone, name_at, long_at, known, found_at, is_named, variable_entry}
 use Rattle.static_semantics.specs.TypeInference.{infer_ty, listed, numbers, as_written}
 use Rattle.static_semantics.specs.RuleConditions.{RespectsIn}
-use Rattle.static_semantics.specs.DatatypeInference.{own_name, own_ty, counted, own_type, new_types, Con, Dat, infer_optional_ty, infer_cons, cons_of, infer_dats, same_as_home, is_new, settled_name, settled_symbol, settled, settled_all, equality_choice, con_ty, con_schemes, con_entries, with_cons, with_datatype, datatype_str, made_types, after_names, datatypes_of, infer_replication, is_exception, exception_of, infer_exceptions, exceptions_of}
+use Rattle.static_semantics.specs.DatatypeInference.{own_name, own_ty, counted, own_type, new_types, Con, Dat, infer_optional_ty, infer_cons, cons_of, infer_dats, same_as_home, settled_name, settled_symbol, settled, settled_all, equality_choice, con_ty, con_schemes, con_entries, with_cons, with_datatype, datatype_str, made_types, after_names, datatypes_of, infer_replication, is_exception, exception_of, infer_exceptions, exceptions_of}
 use Rattle.static_semantics.specs.Holding.{Given, IfSome, AllItems, AllRows, ConHas, TypeHas, ValueHas}
 use Rattle.static_semantics.proofs.Holding.{given_then, given_where, rows_with, rows_after, has_nothing, has_with_type, has_with_value, has_modified}
 use Rattle.static_semantics.proofs.TypesGrow.{given_more}
 use Rattle.static_semantics.proofs.Maximal.{datatypes_maximise}
-use Rattle.inference_laws.specs.Nodes.{Nodes, count_types, TyOf, TysOf, StateOf, SchemeOf, FunctionOf, EnvOf, Admits, ScopeOf, IsOf, NumberedFrom, MayStand, Makes, below_number, IsReadyFor}
+use Rattle.inference_laws.specs.Nodes.{Nodes, count_types, TyOf, TysOf, SchemeOf, FunctionOf, EnvOf, Admits, ScopeOf, IsOf, NumberedFrom, MayStand, Makes, below_number, IsReadyFor, DecOf}
 use Rattle.inference_laws.specs.Spelling.{OptionalSpelt, ConSpelt, DatSpelt, ExBodySpelt, ExSpelt}
 use Rattle.inference_laws.proofs.Nodes.{ty_made, ty_arrow, tree_closed, closed_binds}
 use Rattle.inference_laws.proofs.Both.{Join, env_both, rows_both}
@@ -366,17 +365,15 @@ under_of good q made sc h k = record {
   written = k.written;
 }
 
--- what a declaration gives
-abbrev pub DecOf : Env × Progress → Nodes → Type 0
-DecOf r q = StateOf q r.1.types × EnvOf q r.0
-
 -- of datatypes whose constructors were inferred
 datatypes_end : (good : List ℕ → Bool) (sc : Scope) (binds : List DatPhrase) (st : Progress) (r : List Dat × Progress)
     → IsReadyFor sc.home (IsOf good sc st) st.names → AreDats [] (arities_of binds) st r
     → ((q : Nodes) → NewIn good sc binds st.names q → AllItems (DatOf q) r.0)
     → Makes sc.home (IsOf good sc st) st (after_names (length binds) r.1) (λ q.
-    DecOf (made_types sc.home st.names (equality_choice sc.home st.names r.0) st.names r.0 empty_env,
-    after_names (length binds) r.1) q)
+    DecOf (
+      made_types sc.home st.names (equality_choice sc.home st.names r.0) st.names r.0 empty_env,
+      after_names (length binds) r.1,
+    ) q)
 datatypes_end good sc binds st r h d f =
     let choice : List Bool = equality_choice sc.home st.names r.0 in
     let wanted : List ℕ = arities_of binds in

@@ -6,3 +6,5 @@ pub mod TypesMade
 pub mod PatternsMade
 pub mod DatatypesMade
 pub mod CoreMade
+pub mod WellFormed
+pub mod Promised

@@ -1,13 +1,10 @@
 -- Steps of inference, one after another, with the names that they make.
-use Rattle.std.proofs.Common.{◌≡◌, ℕ, suc, ◌+◌, ◌<◌, ◌≤◌, List, [], ◌∷◌, ◌++◌, length, refl, sym, ap, ◌∙◌, subst, arith, Option, Some, None, Bool, true, false, ◌||◌, not}
+use Rattle.std.proofs.Common.{◌≡◌, ℕ, suc, ◌≤◌, List, [], ◌∷◌, ◌++◌, sym, subst, arith, Some, None, not}
 use Rattle.std.specs.Prelude.{Ok, Err, ltb}
-use Rattle.std.proofs.lemmas.Bool.{lt-ltb, ltb-true}
-use Rattle.semantic_objects.specs.declared.name.Owner.TheVariants as owner
+use Rattle.std.proofs.lemmas.Bool.{lt-ltb}
 use Rattle.semantic_objects.specs.declared.name.TyName.{TyName}
-use Rattle.semantic_objects.specs.declared.symbol.Symbol.{Symbol}
-use Rattle.semantic_objects.specs.declared.symbol.Symbol.TheVariants as symbol
-use Rattle.unification.proofs.Walking.{or_either, or_left, or_right}
-use Rattle.static_semantics.specs.Inferring.{Progress, Scope, Answer}
+use Rattle.unification.proofs.Walking.{or_right}
+use Rattle.static_semantics.specs.Inferring.{Progress, Answer}
 use Rattle.static_semantics.specs.DatatypeInference.{same_as_home}
 use Rattle.static_semantics.specs.Holding.{Given, AllItems}
 use Rattle.inference_laws.specs.Nodes.{Nodes, NumberedFrom, MayStand, Makes, below_number, IsReadyFor}
@@ -106,7 +103,7 @@ pub ready_after : {home : List ℕ} {From To Then : Nodes → Type 0} {st u : Pr
     → Makes home From st u To → ((q : Nodes) → From q → To q → Then q) → IsReadyFor home Then u.names
 ready_after {home = home} {st = st} {u = u} h k f m l =
     let p = h m (let i : st.names ≤ u.names = numbered_rise home st.names k.names u.names k.numbered in
-        omega (arith, i, l)) in
+    omega (arith, i, l)) in
     f (below_number home m) p
     (k.holds (below_number home m) p (names_below home st.names k.names u.names m k.numbered l))
 

@@ -1,20 +1,18 @@
 -- What types and trees are made of, when types are put in, filled in and closed over.
-use Rattle.std.proofs.Common.{◌≡◌, ℕ, zero, suc, ◌<◌, List, [], ◌∷◌, length, map, refl, sym, ap, ◌∙◌, subst, arith, Bool, true, false, ◌||◌, cond}
-use Rattle.std.specs.Prelude.{eqb}
+use Rattle.std.proofs.Common.{◌≡◌, ℕ, suc, ◌<◌, List, [], ◌∷◌, length, map, refl, sym, ap, subst, arith, Bool, true, false, cond}
 use Rattle.std.specs.Ordering.{is_lt}
-use Rattle.std.specs.FinMap.Entries.{is_sorted, below_all, by_order}
+use Rattle.std.specs.FinMap.Entries.{by_order}
 use Rattle.std.specs.declared.cmp.Ordering.{Ordering}
 use Rattle.std.specs.declared.cmp.Ordering.TheVariants as ordering
 use Rattle.std.proofs.lemmas.Bool.{eqb-true}
 use Rattle.std.proofs.lemmas.List.{length-map}
-use Rattle.semantic_objects.specs.declared.entry.TypeFn.{TypeFn}
 use Rattle.semantic_objects.specs.declared.symbol.Symbol.{Symbol}
 use Rattle.semantic_objects.specs.declared.symbol.Symbol.TheVariants as symbol
 use Rattle.semantic_objects.specs.Symbols.{AreRising}
 use Rattle.semantic_objects.specs.Tables.{Table, IsTable, by_bytes, names_of, with_entry}
-use Rattle.semantic_objects.specs.Trees.{Tree, Trees, TypeScheme, BindsBelow, binds, binds_any}
+use Rattle.semantic_objects.specs.Trees.{Tree, Trees, BindsBelow, binds, binds_any}
 use Rattle.semantic_objects.proofs.Promised.{sets_entries}
-use Rattle.unification.specs.Types.{Ty, Types, Substitution, Marks, State, put, put_all}
+use Rattle.unification.specs.Types.{Ty, Types, Substitution, Marks, put, put_all}
 use Rattle.unification.specs.Instances.{fill, fill_all}
 use Rattle.unification.specs.Closing.{is_among, place_of, closed_over, closed_over_all, scheme_over}
 use Rattle.unification.proofs.Walking.{or_either, and_left, and_right}
@@ -22,7 +20,7 @@ use Rattle.unification.proofs.Canonical.{place_below}
 use Rattle.static_semantics.specs.BasicTypes.{arrow_ty, types_of, record_ty}
 use Rattle.static_semantics.specs.Holding.{AllItems, AllRows}
 use Rattle.static_semantics.proofs.Holding.{rows_with}
-use Rattle.inference_laws.specs.Nodes.{Nodes, count_types, count_trees, TyOf, TysOf, TreeOf, TreesOf, SchemeOf, FunctionOf, IsGood, Admits}
+use Rattle.inference_laws.specs.Nodes.{Nodes, count_types, count_trees, TyOf, TysOf, TreeOf, TreesOf, SchemeOf, IsGood, Admits}
 
 -- ---- types that are put in
 

@@ -1,5 +1,5 @@
 -- What the types of patterns, and of the variables that they bind, are made of.
-use Rattle.std.proofs.Common.{◌≡◌, ℕ, List, [], ◌∷◌, ◌++◌, refl, sym, ◌∙◌, Option, Some, None, Bool, true, false, not}
+use Rattle.std.proofs.Common.{◌≡◌, ℕ, List, [], ◌∷◌, refl, ◌∙◌, Option, Some, None, Bool, true, false, not}
 use Rattle.std.specs.Option.{is_some}
 use Rattle.sml_trees.specs.declared.name.At.{At}
 use Rattle.sml_trees.specs.declared.name.LongName.{LongName}
@@ -18,18 +18,11 @@ use Rattle.static_semantics.specs.PatternInference.{bind_variable, takes_none, a
 use Rattle.static_semantics.specs.Holding.{Given, IfSome, AllRows, ValueHas}
 use Rattle.static_semantics.proofs.Holding.{given_then, given_where, given_known, rows_after, has_values, has_found}
 use Rattle.static_semantics.proofs.TypesGrow.{given_more}
-use Rattle.inference_laws.specs.Nodes.{Nodes, TyOf, StateOf, SchemeOf, FunctionOf, ScopeOf, IsOf}
+use Rattle.inference_laws.specs.Nodes.{Nodes, TyOf, StateOf, SchemeOf, FunctionOf, ScopeOf, IsOf, PatOf}
 use Rattle.inference_laws.specs.Spelling.{OptionalSpelt, PatSpelt, PatFieldsSpelt}
 use Rattle.inference_laws.proofs.Nodes.{ty_filled, FieldsOf, no_fields, field_more, ty_record}
 use Rattle.inference_laws.proofs.Unifying.{UnifiedOf, unify_of}
 use Rattle.inference_laws.proofs.TypesMade.{state_same, ty_of}
-
--- what a pattern gives: no names are made
-pub record PatOf (q : Nodes) (st : Progress) (r : Ty × Bound × Progress) : Type 0 where
-  pub names : r.2.names ≡ st.names
-  pub state : StateOf q r.2.types
-  pub ty : TyOf q r.0
-  pub bound : AllRows (TyOf q) r.1
 
 pub record PatFieldsOf (good : List ℕ → Bool) (q : Nodes) (st : Progress) (r : Table Ty × Bound × Progress) : Type 0 where
   pub names : r.2.names ≡ st.names

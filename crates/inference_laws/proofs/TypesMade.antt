@@ -1,6 +1,6 @@
 -- What types are made of, and what `type` binds.
-use Rattle.std.proofs.Common.{◌≡◌, ℕ, zero, suc, ◌+◌, List, [], ◌∷◌, ◌++◌, length, map, refl, sym, ap, ◌∙◌, subst, arith, Option, Some, None, Bool, true, false, cond, not, get_or}
-use Rattle.std.specs.Prelude.{eqb, Ok, Err}
+use Rattle.std.proofs.Common.{◌≡◌, ℕ, zero, suc, ◌+◌, List, [], ◌∷◌, ◌++◌, length, refl, sym, ap, ◌∙◌, subst, arith, Bool, not, get_or}
+use Rattle.std.specs.Prelude.{eqb}
 use Rattle.std.specs.Option.{is_some}
 use Rattle.sml_trees.specs.declared.name.Name.{Name}
 use Rattle.sml_trees.specs.declared.name.LongName.{LongName}
@@ -10,12 +10,12 @@ use Rattle.semantic_objects.specs.Environments.{Env, types, with_type}
 use Rattle.unification.specs.Types.{Ty, Substitution, State}
 use Rattle.bare_phrases.specs.Phrases.{TyPhrase, TyFields, TyPhrases, TypPhrase}
 use Rattle.static_semantics.specs.BasicTypes.{unit_ty, record_ty}
-use Rattle.static_semantics.specs.Inferring.{Progress, Scope, with_written_alone, Answer, gives, known, name_at, found_at, named, is_named}
+use Rattle.static_semantics.specs.Inferring.{Progress, Scope, with_written_alone, gives, known, name_at, found_at, named, is_named}
 use Rattle.static_semantics.specs.TypeInference.{applied_to, infer_ty, infer_ty_fields, infer_tys, new_rigid, listed, numbers, as_written, type_function, plain_type, infer_types}
-use Rattle.static_semantics.specs.Holding.{Given, IfSome, AllItems, AllRows, TypeHas}
+use Rattle.static_semantics.specs.Holding.{Given, AllItems, AllRows, TypeHas}
 use Rattle.static_semantics.proofs.Holding.{given_then, given_where, given_known, has_types, has_with_type, has_found}
 use Rattle.static_semantics.proofs.TypesGrow.{given_more, rows_named}
-use Rattle.inference_laws.specs.Nodes.{Nodes, TyOf, TreeOf, StateOf, SchemeOf, FunctionOf, EnvOf, Admits, ScopeOf, IsOf}
+use Rattle.inference_laws.specs.Nodes.{Nodes, TyOf, StateOf, SchemeOf, FunctionOf, EnvOf, Admits, ScopeOf, IsOf}
 use Rattle.inference_laws.specs.Spelling.{TySpelt, TyFieldsSpelt, TysSpelt, TypSpelt}
 use Rattle.inference_laws.proofs.Nodes.{ty_filled, tree_closed, closed_binds, ty_arrow, FieldsOf, no_fields, field_more, ty_record}
 

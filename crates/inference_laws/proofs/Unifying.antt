@@ -4,7 +4,7 @@ use Rattle.std.specs.Prelude.{Result, Ok, Err, eqb, ltb}
 use Rattle.sml_trees.specs.declared.name.At.{At}
 use Rattle.semantic_objects.specs.Symbols.{same_symbol}
 use Rattle.unification.specs.Types.{Ty, Types, Marks, State, put, occurs, require}
-use Rattle.unification.specs.Unification.{Fault, Answer, single, bound_where, assign, link_by, link, solve, then, unify_all, unify_step, unify_in}
+use Rattle.unification.specs.Unification.{Fault, Answer, single, bound_where, assign, link_by, solve, then, unify_all, unify_step, unify_in}
 use Rattle.static_semantics.specs.Inferring.{Progress, Scope, unified, unify_at}
 use Rattle.static_semantics.specs.Holding.{Given}
 use Rattle.inference_laws.specs.Nodes.{Nodes, TyOf, TysOf, StateOf}

@@ -9,7 +9,7 @@ use Rattle.semantic_objects.specs.Symbols.{AreRising}
 use Rattle.semantic_objects.specs.Trees.{Tree, Trees, TypeScheme, IsScheme, BindsBelow}
 use Rattle.semantic_objects.specs.Environments.{Env}
 use Rattle.unification.specs.Types.{Ty, Types, State}
-use Rattle.static_semantics.specs.Inferring.{Progress, Scope}
+use Rattle.static_semantics.specs.Inferring.{Progress, Scope, Bound}
 use Rattle.static_semantics.specs.DatatypeInference.{same_as_home}
 use Rattle.static_semantics.specs.Holding.{AllItems, AllRows, EnvHas}
 
@@ -66,15 +66,19 @@ EnvOf q env = EnvHas (SchemeOf q) (FunctionOf q) env
 abbrev pub IsGood : (List ℕ → Bool) → List ℕ → Type 0
 IsGood good name = good name ≡ true
 
+-- a type name of the initial basis without arguments
+abbrev pub basis_symbol : ℕ → Bool → Symbol
+basis_symbol number eq = symbol.Name (record { owner = owner.Basis; number = number; arity = 0; eq = eq })
+
 -- the symbols of the language, and of the constants of the initial basis, may stand, records with good labels
 pub record Admits (good : List ℕ → Bool) (q : Nodes) : Type 0 where
   pub arrow : q symbol.Arrow 2 ≡ true
   pub records : (labels : List (List ℕ)) → AreRising labels → AllItems (IsGood good) labels
       → q (symbol.Record labels) (length labels) ≡ true
-  pub int : q (symbol.Name (record { owner = owner.Basis; number = 0; arity = 0; eq = true })) 0 ≡ true
-  pub string : q (symbol.Name (record { owner = owner.Basis; number = 2; arity = 0; eq = true })) 0 ≡ true
-  pub char : q (symbol.Name (record { owner = owner.Basis; number = 3; arity = 0; eq = true })) 0 ≡ true
-  pub exn : q (symbol.Name (record { owner = owner.Basis; number = 7; arity = 0; eq = false })) 0 ≡ true
+  pub int : q (basis_symbol 0 true) 0 ≡ true
+  pub string : q (basis_symbol 2 true) 0 ≡ true
+  pub char : q (basis_symbol 3 true) 0 ≡ true
+  pub exn : q (basis_symbol 7 false) 0 ≡ true
 
 -- a scope is made of such nodes, and a state too
 pub record ScopeOf (good : List ℕ → Bool) (sc : Scope) (q : Nodes) : Type 0 where
@@ -112,3 +116,17 @@ below_number home k (symbol.Name name) parts = not (same_as_home home name.owner
 -- `From` holds where the unit's names have numbers below a number, or below a later one
 abbrev pub IsReadyFor : List ℕ → (Nodes → Type 0) → ℕ → Type 0
 IsReadyFor home From k = (m : ℕ) → k ≤ m → From (below_number home m)
+
+-- what inference of an expression, of a declaration, of a pattern gives is made of such nodes
+abbrev pub ExpOf : Ty × Progress → Nodes → Type 0
+ExpOf r q = StateOf q r.1.types × TyOf q r.0
+
+abbrev pub DecOf : Env × Progress → Nodes → Type 0
+DecOf r q = StateOf q r.1.types × EnvOf q r.0
+
+-- .. and a pattern makes no names
+pub record PatOf (q : Nodes) (st : Progress) (r : Ty × Bound × Progress) : Type 0 where
+  pub names : r.2.names ≡ st.names
+  pub state : StateOf q r.2.types
+  pub ty : TyOf q r.0
+  pub bound : AllRows (TyOf q) r.1
