@@ -8,3 +8,5 @@ pub mod DatatypesMade
 pub mod CoreMade
 pub mod WellFormed
 pub mod Promised
+pub mod Alike
+pub mod SameTypes

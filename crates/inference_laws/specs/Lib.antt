@@ -2,3 +2,4 @@ pub mod Nodes
 pub mod Spelling
 pub mod WellFormed
 pub mod Promises
+pub mod Alike
