@@ -10,3 +10,5 @@ pub mod WellFormed
 pub mod Promised
 pub mod Alike
 pub mod SameTypes
+pub mod SeenLater
+pub mod PatternsAlike

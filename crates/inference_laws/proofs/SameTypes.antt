@@ -28,7 +28,7 @@ use Rattle.static_semantics.proofs.Holding.{given_then, given_where, rows_with}
 use Rattle.inference_laws.specs.Alike.{EnvsAlike, RowsAlike, is_variable_tree, IsShaped, ValuesAlike, TypesSame, SeenAlike, in_env}
 use Rattle.inference_laws.proofs.Alike.{both_same, found_same, Found, alike_found, alike_types, alike_modified, alike_with_type, alike_with_value, alike_nothing, env_itself}
 
-given_any : {A : Type 0} (m : Answer A) → Given (λ x. Unit {0}) m
+pub given_any : {A : Type 0} (m : Answer A) → Given (λ x. Unit {0}) m
 given_any None = tt
 given_any (Some (Err d)) = tt
 given_any (Some (Ok x)) = tt

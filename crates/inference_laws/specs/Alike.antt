@@ -88,7 +88,7 @@ ExpsAlike r v = (r.1 ≡ v.1) × SameTy r.1.types.stands r.0 v.0
 
 abbrev pub PatsAlike : Ty × Bound × Progress → Ty × Bound × Progress → Type 0
 PatsAlike r v =
-    (r.2 ≡ v.2) × SameTy r.2.types.stands r.0 v.0 × RowsAlike (SameTy r.2.types.stands) r.1 v.1
+    (r.2 ≡ v.2) × (SameTy r.2.types.stands r.0 v.0 × RowsAlike (SameTy r.2.types.stands) r.1 v.1)
 
 abbrev pub DecsAlike : Env × Progress → Env × Progress → Type 0
 DecsAlike r v = (r.1 ≡ v.1) × SeenAlike r.1.types.stands r.0 v.0
