@@ -12,3 +12,4 @@ pub mod Alike
 pub mod SameTypes
 pub mod SeenLater
 pub mod PatternsAlike
+pub mod SeenBodies
