@@ -13,3 +13,5 @@ pub mod SameTypes
 pub mod SeenLater
 pub mod PatternsAlike
 pub mod SeenBodies
+pub mod ClosingAlike
+pub mod CoreAlike
