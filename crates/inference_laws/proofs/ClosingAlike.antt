@@ -1,28 +1,26 @@
 -- Exceptions, replication, `open` and the closing of a `val` in environments that are seen alike.
-use Rattle.std.proofs.Common.{◌≡◌, ℕ, List, [], ◌∷◌, ◌++◌, refl, sym, ap, ap₂, ◌∙◌, subst, Option, Some, None, Bool, true, false, ◌||◌, cond, not}
-use Rattle.std.specs.Prelude.{Ok, Err}
+use Rattle.std.proofs.Common.{◌≡◌, ℕ, List, [], ◌∷◌, ◌++◌, refl, ap, ap₂, ◌∙◌, subst, Option, Some, None, Bool, true, false, ◌||◌, cond, not}
 use Rattle.std.specs.Option.{is_some}
 use Rattle.sml_trees.specs.declared.name.At.{At}
 use Rattle.sml_trees.specs.declared.name.Name.{Name}
 use Rattle.sml_trees.specs.declared.name.LongName.{LongName}
-use Rattle.semantic_objects.specs.declared.entry.TypeStr.{TypeStr}
 use Rattle.semantic_objects.specs.declared.entry.ValueEntry.{ValueEntry}
 use Rattle.semantic_objects.specs.declared.entry.VidStatus.TheVariants as status
 use Rattle.semantic_objects.specs.Tables.{entry}
 use Rattle.semantic_objects.specs.Trees.{TypeScheme}
 use Rattle.semantic_objects.specs.Environments.{Env, structures, types, values, empty_env, modified_by, with_value}
 use Rattle.unification.specs.Types.{Ty, State, Substitution, put}
-use Rattle.unification.specs.Closing.{found_in, scheme_over, closed_over}
+use Rattle.unification.specs.Closing.{found_in, scheme_over}
 use Rattle.unification.proofs.Closing.{found_same}
 use Rattle.bare_phrases.specs.Phrases.{ExBodyPhrase, ExPhrase}
 use Rattle.static_semantics.specs.BasicTypes.{exn_ty, arrow_ty, is_one_of, reserved_constructors}
-use Rattle.static_semantics.specs.Inferring.{Progress, Scope, Answer, name_at, long_at, known, found_at, Bound, free_in_env}
+use Rattle.static_semantics.specs.Inferring.{Progress, Scope, name_at, long_at, known, found_at, Bound, free_in_env}
 use Rattle.static_semantics.specs.TypeInference.{infer_ty}
 use Rattle.static_semantics.specs.DatatypeInference.{with_datatype, infer_replication, is_exception, exception_entry, exception_of, infer_exceptions, exceptions_of}
 use Rattle.static_semantics.specs.CoreInference.{Group, closed_where, closed_variables, closed_groups, left_over, none_left, closed_val, infer_open}
 use Rattle.static_semantics.specs.Holding.{Given}
-use Rattle.inference_laws.specs.Alike.{RowsAlike, Both, EnvsAlike, is_variable_tree, ValuesAlike, TypesSame, SeenAlike, SameTy, in_env}
-use Rattle.inference_laws.proofs.Alike.{same_then, both_plain, both_where, both_known, Found, found_some, rows_alike_found, alike_found, alike_structures, alike_types, alike_values, alike_nothing, alike_with_value, alike_modified}
+use Rattle.inference_laws.specs.Alike.{RowsAlike, Both, ValuesAlike, TypesSame, SeenAlike, SameTy, in_env}
+use Rattle.inference_laws.proofs.Alike.{same_then, both_plain, both_where, both_known, found_some, rows_alike_found, alike_found, alike_structures, alike_types, alike_values, alike_nothing, alike_with_value, alike_modified}
 use Rattle.inference_laws.proofs.SameTypes.{given_any, ty_same, ItselfIn, value_itself, datatype_itself}
 use Rattle.inference_laws.proofs.SeenLater.{types_of_seen, value_alike}
 

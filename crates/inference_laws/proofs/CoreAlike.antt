@@ -1,5 +1,5 @@
 -- Expressions, matches and declarations in environments that are seen alike.
-use Rattle.std.proofs.Common.{◌≡◌, ℕ, List, [], ◌∷◌, ◌++◌, length, refl, sym, ap, ap₂, ◌∙◌, subst, Option, Some, None, Bool, true, false, not}
+use Rattle.std.proofs.Common.{◌≡◌, ℕ, List, [], ◌∷◌, ◌++◌, refl, ap, ap₂, Some, None, not}
 use Rattle.std.specs.Prelude.{Ok, Err}
 use Rattle.std.specs.Option.{is_some}
 use Rattle.sml_trees.specs.declared.name.At.{At}
@@ -9,30 +9,28 @@ use Rattle.semantic_objects.specs.Tables.{Table, entry, with_entry}
 use Rattle.semantic_objects.specs.Environments.{Env, values, empty_env, modified_by}
 use Rattle.unification.specs.Types.{Ty, Substitution, put}
 use Rattle.unification.specs.Touching.{Touches}
-use Rattle.bare_phrases.specs.Phrases.{PatPhrase, ExpPhrase, ExpFields, Rules, DecPhrase, DecPhrases}
+use Rattle.bare_phrases.specs.Phrases.{ExpPhrase, ExpFields, Rules, DecPhrase, DecPhrases}
 use Rattle.static_semantics.specs.BasicTypes.{int_ty, string_ty, char_ty, exn_ty, arrow_ty, record_ty, reserved_constructors}
 use Rattle.static_semantics.specs.Inferring.{Progress, Scope, Answer, under, with_written, name_at, known, unify_at, found_at, new_variable, new_instance, Bound, with_bound, under_bound, is_kept, is_too_large, has_too_large, sized_exp, sized_dec}
-use Rattle.static_semantics.specs.WrittenVariables.{written_in}
 use Rattle.static_semantics.specs.Nonexpansive.{is_nonexpansive}
 use Rattle.static_semantics.specs.TypeInference.{infer_ty, listed, as_written, infer_types}
 use Rattle.static_semantics.specs.PatternInference.{pat_at, infer_pat}
 use Rattle.static_semantics.specs.DatatypeInference.{datatypes_of, infer_replication, exceptions_of}
-use Rattle.static_semantics.specs.CoreInference.{exp_at, known_exp, applied, joined, handled, raised, holds_made, within_let, own_variables, implicit, Group, added, is_variable, RecPats, infer_rec_pats, rec_bound, rec_groups, closed_val, infer_open, infer_exp, infer_exp_fields, infer_match, infer_rules, infer_binds, infer_rec_exps, infer_dec, infer_decs}
+use Rattle.static_semantics.specs.CoreInference.{exp_at, known_exp, applied, joined, handled, raised, holds_made, within_let, own_variables, Group, added, is_variable, RecPats, infer_rec_pats, rec_bound, rec_groups, closed_val, infer_open, infer_exp, infer_exp_fields, infer_match, infer_rules, infer_binds, infer_rec_exps, infer_dec, infer_decs}
 use Rattle.static_semantics.specs.Holding.{Given, AllItems, AllRows}
-use Rattle.static_semantics.specs.Growing.{TyIn, EnvIn, Grows, IsReady}
-use Rattle.static_semantics.proofs.Holding.{rows_with}
+use Rattle.static_semantics.specs.Growing.{TyIn, Grows, IsReady}
 use Rattle.static_semantics.proofs.Growing.{grows_then, ty_later, rows_later, ready_later, grows_instance, unify_grows}
-use Rattle.static_semantics.proofs.TypesGrow.{ListedIn, MadeIn, ty_grows}
+use Rattle.static_semantics.proofs.TypesGrow.{ListedIn, MadeIn}
 use Rattle.static_semantics.proofs.PatternsGrow.{PatIn, pat_grows}
 use Rattle.static_semantics.proofs.DatatypesGrow.{ready_under}
-use Rattle.static_semantics.proofs.CoreGrow.{ExpIn, ExpFieldsIn, ready_bound, ready_written, own_grows, GroupIn, GroupsIn, RecIn, BindsIn, RecsIn, groups_later, recs_later, items_after, rec_pats_grow, rec_bound_in, exp_grows, match_grows, rules_grow, binds_grow, rec_exps_grow, dec_grows, decs_grow}
+use Rattle.static_semantics.proofs.CoreGrow.{ExpIn, ready_bound, ready_written, own_grows, RecIn, BindsIn, RecsIn, recs_later, rec_pats_grow, rec_bound_in, exp_grows, match_grows, rules_grow, binds_grow, rec_exps_grow, dec_grows, decs_grow}
 use Rattle.static_semantics.proofs.Ages.{Any}
-use Rattle.inference_laws.specs.Alike.{RowsAlike, Both, ValuesAlike, TypesSame, SeenAlike, SameTy, in_env, ExpsAlike, PatsAlike, DecsAlike}
+use Rattle.inference_laws.specs.Alike.{RowsAlike, Both, ValuesAlike, TypesSame, SeenAlike, SameTy, in_env, ExpsAlike, DecsAlike}
 use Rattle.inference_laws.proofs.Alike.{same_then, both_same, both_then, both_plain, both_then3, both_where, found_some, rows_alike_with, rows_alike_found, rows_alike_after, alike_modified, alike_nothing}
 use Rattle.inference_laws.proofs.SameTypes.{given_any, ty_same, listed_same, infer_types_same, datatypes_same, ItselfIn, types_are_itself, datatypes_itself}
 use Rattle.inference_laws.proofs.SeenLater.{same_later, rows_same_later, seen_later, types_of_seen, instance_same, instance_state_same, value_alike, unify_same, unify_touches}
 use Rattle.inference_laws.proofs.SeenBodies.{kept_same, large_same, nonexpansive_same, variable_same, bound_alike, rows_length, added_alike}
-use Rattle.inference_laws.proofs.ClosingAlike.{exceptions_alike, replication_alike, open_alike, ItemsAlike, items_alike_after, items_alike_more, GroupAlike, Agree, val_same, val_itself}
+use Rattle.inference_laws.proofs.ClosingAlike.{exceptions_alike, replication_alike, open_alike, ItemsAlike, items_alike_after, items_alike_more, GroupAlike, val_same, val_itself}
 use Rattle.inference_laws.proofs.PatternsAlike.{record_same, pat_alike}
 
 abbrev ExpAt : Progress → Ty → Ty → Type 0
@@ -359,10 +357,14 @@ mutual
       binds_alike depth sc f rest x y (gs ++ first ∷ []) (hs ++ second ∷ []) w (ready_later Any sc st w h g3)
       (rows_later Any u w x g2 g.2) (seen_later st w sc.env f g3.touches k) (rows_same_later u w x y g2.touches n.1)
       (items_alike_after (GroupAlike w.types.stands) gs hs (first ∷ []) (second ∷ [])
-      (groups_alike_later st w gs hs g3.touches m)
-      ((nonexpansive_same st.types.stands sc.env f exp k,
-      added_alike w.types.stands c d x y (rows_same_later u w x y g2.touches n.1)
-      (rows_length (SameTy st.types.stands) c d l)), tt)))))
+      (groups_alike_later st w gs hs g3.touches m) (
+        (
+          nonexpansive_same st.types.stands sc.env f exp k,
+          added_alike w.types.stands c d x y (rows_same_later u w x y g2.touches n.1)
+              (rows_length (SameTy st.types.stands) c d l),
+        ),
+        tt,
+      )))))
 
   pub rec_exps_alike : (depth : ℕ) (sc : Scope) (f : Env) (rules : Rules) (xs ys : RecPats) (st : Progress)
       → IsReady Any sc st → AllItems (RecIn Any st.types) xs → SeenAlike st.types.stands sc.env f
@@ -403,7 +405,7 @@ mutual
       (rec_pats_alike depth inner f recs [] [] c d u ready_u b.1 seen_u tt l.0) (λ xs ys v p m.
       let whole : Scope = under_bound (rec_bound xs) inner in
       let ready_v : IsReady Any whole v = ready_bound Any (rec_bound xs) inner v (rec_bound_in Any v.types xs p.1)
-          (ready_later Any inner u v ready_u p.0) in
+      (ready_later Any inner u v ready_u p.0) in
       let seen_v : SeenAlike v.types.stands sc.env f = seen_later u v sc.env f p.0.touches seen_u in
       same_then (Grows Any v) DecsAlike (infer_rec_exps depth whole recs xs v)
       (infer_rec_exps depth (under_bound (rec_bound ys) (in_env f inner)) recs ys v) _ _

@@ -7,7 +7,6 @@ pub mod PatternsMade
 pub mod DatatypesMade
 pub mod CoreMade
 pub mod WellFormed
-pub mod Promised
 pub mod Alike
 pub mod SameTypes
 pub mod SeenLater
@@ -15,3 +14,5 @@ pub mod PatternsAlike
 pub mod SeenBodies
 pub mod ClosingAlike
 pub mod CoreAlike
+pub mod PutAlike
+pub mod Promised

@@ -1,6 +1,5 @@
 -- Patterns in environments that are seen alike.
-use Rattle.std.proofs.Common.{◌≡◌, ℕ, ◌+◌, List, [], ◌∷◌, ◌++◌, map, refl, sym, ap, ap₂, ◌∙◌, subst, Option, Some, None, Bool, true, false, not}
-use Rattle.std.specs.Prelude.{Ok, Err}
+use Rattle.std.proofs.Common.{◌≡◌, ℕ, ◌+◌, List, [], ◌∷◌, map, refl, ap, ap₂, ◌∙◌, subst, Option, Some, None, Bool, true, false, not}
 use Rattle.std.specs.Option.{is_some}
 use Rattle.sml_trees.specs.declared.name.At.{At}
 use Rattle.sml_trees.specs.declared.name.LongName.{LongName}
@@ -8,26 +7,26 @@ use Rattle.semantic_objects.specs.declared.symbol.Symbol.{Symbol}
 use Rattle.semantic_objects.specs.declared.symbol.Symbol.TheVariants as symbol
 use Rattle.semantic_objects.specs.declared.entry.ValueEntry.{ValueEntry}
 use Rattle.semantic_objects.specs.Tables.{Table, names_of, entry, with_entry}
-use Rattle.semantic_objects.specs.Trees.{Tree, Trees}
+use Rattle.semantic_objects.specs.Trees.{Tree}
 use Rattle.semantic_objects.specs.Environments.{Env, values}
-use Rattle.unification.specs.Types.{Ty, Types, Substitution, State, put, put_all}
+use Rattle.unification.specs.Types.{Ty, Types, Substitution, put, put_all}
 use Rattle.unification.specs.Instances.{fill, fill_all}
 use Rattle.unification.specs.Closing.{put_tree}
 use Rattle.unification.specs.Touching.{Touches}
 use Rattle.bare_phrases.specs.Phrases.{TyPhrase, PatPhrase, PatFields}
 use Rattle.static_semantics.specs.BasicTypes.{int_ty, string_ty, char_ty, types_of, record_ty, two_parts, arrow_parts, reserved_names, is_one_of}
-use Rattle.static_semantics.specs.Inferring.{Progress, Scope, Answer, ◌>>=◌, gives, refuses_where, name_at, known, unify_at, found_at, is_named, is_con, stands_for_con, new_variable, new_instance, Bound, is_too_large, sized_pat}
+use Rattle.static_semantics.specs.Inferring.{Progress, Scope, Answer, ◌>>=◌, refuses_where, name_at, known, unify_at, found_at, is_named, is_con, stands_for_con, new_variable, new_instance, Bound, is_too_large, sized_pat}
 use Rattle.static_semantics.specs.TypeInference.{infer_ty}
-use Rattle.static_semantics.specs.PatternInference.{bind_variable, as_con, is_no_arrow, takes_none, arrow_in, with_argument, lone_con, applied_con, known_pat, name_by, name_pat, typed_variable, infer_pat, infer_pat_fields}
+use Rattle.static_semantics.specs.PatternInference.{bind_variable, is_no_arrow, takes_none, arrow_in, with_argument, lone_con, applied_con, known_pat, name_by, name_pat, typed_variable, infer_pat, infer_pat_fields}
 use Rattle.static_semantics.specs.Holding.{Given, AllRows, ValueHas}
 use Rattle.static_semantics.specs.Growing.{TyIn, SchemeIn, Grows, IsReady}
 use Rattle.static_semantics.proofs.Holding.{given_then, given_where, rows_with, rows_after}
-use Rattle.static_semantics.proofs.Growing.{grows_same, grows_then, ty_later, rows_later, ready_later, grows_variable, ty_new, grows_instance, ty_instance, scheme_later, arrow_left, arrow_right, unify_grows}
+use Rattle.static_semantics.proofs.Growing.{grows_same, rows_later, ready_later, grows_variable, ty_new, grows_instance, unify_grows}
 use Rattle.static_semantics.proofs.TypesGrow.{ty_grows}
-use Rattle.static_semantics.proofs.PatternsGrow.{PatIn, PatFieldsIn, value_in, pat_grows, pat_fields_grow}
+use Rattle.static_semantics.proofs.PatternsGrow.{PatIn, value_in, pat_grows}
 use Rattle.static_semantics.proofs.Ages.{Any}
 use Rattle.inference_laws.specs.Alike.{RowsAlike, Both, is_variable_tree, ValuesAlike, TypesSame, SeenAlike, SameTy, in_env, PatsAlike}
-use Rattle.inference_laws.proofs.Alike.{same_then, both_same, both_plain, both_then3, both_where, both_more, Found, found_some, rows_alike_with, rows_alike_found, rows_alike_after, rows_alike_named, alike_values}
+use Rattle.inference_laws.proofs.Alike.{same_then, both_same, both_plain, both_then3, both_where, Found, found_some, rows_alike_with, rows_alike_found, rows_alike_after, rows_alike_named, alike_values}
 use Rattle.inference_laws.proofs.SameTypes.{given_any, ty_same}
 use Rattle.inference_laws.proofs.SeenLater.{same_later, rows_same_later, values_later, seen_later, types_of_seen, instance_same, instance_state_same, value_alike, unify_same, unify_touches}
 

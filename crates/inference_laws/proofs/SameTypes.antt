@@ -1,9 +1,7 @@
 -- Types, what `type` binds and datatypes are the same in environments with the same types.
-use Rattle.std.proofs.Common.{◌≡◌, ℕ, suc, List, [], ◌∷◌, ◌++◌, length, map, refl, sym, ap, ap₂, ◌∙◌, subst, Option, Some, None, Bool, true, false, not, get_or, ◌-◌}
+use Rattle.std.proofs.Common.{◌≡◌, ℕ, suc, List, [], ◌∷◌, ◌++◌, length, refl, ap, ◌∙◌, Option, Some, None, Bool, true, false, not, get_or, ◌-◌}
 use Rattle.std.specs.Prelude.{Ok, Err, eqb}
 use Rattle.std.specs.Option.{is_some}
-use Rattle.std.specs.FinMap.Entries.{by_order}
-use Rattle.std.specs.declared.cmp.Ordering.{Ordering}
 use Rattle.sml_trees.specs.declared.name.At.{At}
 use Rattle.sml_trees.specs.declared.name.Name.{Name}
 use Rattle.sml_trees.specs.declared.name.LongName.{LongName}
@@ -12,21 +10,20 @@ use Rattle.semantic_objects.specs.declared.entry.ConEntry.{ConEntry}
 use Rattle.semantic_objects.specs.declared.entry.TypeStr.{TypeStr}
 use Rattle.semantic_objects.specs.declared.entry.ValueEntry.{ValueEntry}
 use Rattle.semantic_objects.specs.declared.entry.VidStatus.TheVariants as status
-use Rattle.semantic_objects.specs.declared.symbol.Symbol.TheVariants as symbol
 use Rattle.semantic_objects.specs.Tables.{Table, entry, with_entry}
 use Rattle.semantic_objects.specs.Trees.{TypeScheme}
-use Rattle.semantic_objects.specs.Environments.{Env, types, values, empty_env, with_type, with_value, modified_by}
+use Rattle.semantic_objects.specs.Environments.{Env, types, empty_env, with_type, with_value, modified_by}
 use Rattle.unification.specs.Types.{Ty, Substitution}
 use Rattle.unification.specs.Closing.{closed_over}
 use Rattle.bare_phrases.specs.Phrases.{TyPhrase, TyFields, TyPhrases, TypPhrase, ConPhrase, DatPhrase}
-use Rattle.static_semantics.specs.BasicTypes.{record_ty, arrow_ty, is_one_of, is_equality_variable}
-use Rattle.static_semantics.specs.Inferring.{Progress, Scope, under, with_written_alone, Answer, ◌>>=◌, gives, refuses_where, known, name_at, found_at, named, is_named}
-use Rattle.static_semantics.specs.TypeInference.{infer_ty, infer_ty_fields, infer_tys, new_label, new_rigid, listed, numbers, as_written, applied_to, type_function, plain_type, infer_types}
-use Rattle.static_semantics.specs.DatatypeInference.{own_name, own_ty, own_type, new_types, Con, Dat, infer_optional_ty, infer_cons, cons_of, infer_dats, equality_choice, con_ty, con_schemes, con_entries, with_cons, with_datatype, datatype_str, made_types, after_names, datatypes_of}
-use Rattle.static_semantics.specs.Holding.{Given, AllItems, AllRows, ConHas}
+use Rattle.static_semantics.specs.BasicTypes.{is_one_of}
+use Rattle.static_semantics.specs.Inferring.{Progress, Scope, under, with_written_alone, Answer, ◌>>=◌, refuses_where, known, name_at, found_at, named, is_named}
+use Rattle.static_semantics.specs.TypeInference.{infer_ty, infer_ty_fields, infer_tys, new_rigid, listed, numbers, as_written, type_function, plain_type, infer_types}
+use Rattle.static_semantics.specs.DatatypeInference.{own_name, own_ty, own_type, new_types, Con, Dat, infer_optional_ty, infer_cons, cons_of, infer_dats, equality_choice, con_ty, con_schemes, con_entries, with_cons, with_datatype, datatype_str, made_types, datatypes_of}
+use Rattle.static_semantics.specs.Holding.{Given, AllItems, AllRows}
 use Rattle.static_semantics.proofs.Holding.{given_then, given_where, rows_with}
-use Rattle.inference_laws.specs.Alike.{EnvsAlike, RowsAlike, is_variable_tree, IsShaped, ValuesAlike, TypesSame, SeenAlike, in_env}
-use Rattle.inference_laws.proofs.Alike.{both_same, found_same, Found, alike_found, alike_types, alike_modified, alike_with_type, alike_with_value, alike_nothing, env_itself}
+use Rattle.inference_laws.specs.Alike.{EnvsAlike, is_variable_tree, IsShaped, ValuesAlike, TypesSame, SeenAlike, in_env}
+use Rattle.inference_laws.proofs.Alike.{both_same, found_same, alike_found, alike_types, alike_modified, alike_with_type, alike_with_value, alike_nothing, env_itself}
 
 pub given_any : {A : Type 0} (m : Answer A) → Given (λ x. Unit {0}) m
 given_any None = tt

@@ -1,20 +1,18 @@
 -- What is looked up in environments that are seen alike: free variables, sizes, nonexpansive expressions.
-use Rattle.std.proofs.Common.{◌≡◌, ℕ, zero, suc, List, [], ◌∷◌, ◌++◌, length, drop, map, refl, sym, ap, ap₂, ◌∙◌, subst, Option, Some, None, Bool, true, false, ◌||◌, ◌&&◌, not}
+use Rattle.std.proofs.Common.{◌≡◌, ℕ, zero, suc, List, [], ◌∷◌, ◌++◌, length, drop, refl, sym, ap, ap₂, ◌∙◌, subst, Bool, ◌||◌, ◌&&◌, not}
 use Rattle.std.specs.List.{list_any}
-use Rattle.semantic_objects.specs.declared.entry.ConEntry.{ConEntry}
 use Rattle.semantic_objects.specs.declared.entry.TypeStr.{TypeStr}
 use Rattle.semantic_objects.specs.declared.entry.ValueEntry.{ValueEntry}
-use Rattle.semantic_objects.specs.declared.entry.VidStatus.TheVariants as status
-use Rattle.semantic_objects.specs.Tables.{Table, entry}
+use Rattle.semantic_objects.specs.Tables.{Table}
 use Rattle.semantic_objects.specs.Trees.{Tree}
 use Rattle.semantic_objects.specs.Environments.{Env, Structures, values, with_value}
-use Rattle.unification.specs.Types.{Ty, Substitution, put, occurs}
+use Rattle.unification.specs.Types.{Ty, Substitution, occurs}
 use Rattle.unification.specs.Closing.{closed_over, put_tree}
 use Rattle.bare_phrases.specs.Phrases.{PatPhrase, ExpPhrase, ExpFields}
-use Rattle.static_semantics.specs.Inferring.{Progress, Scope, found_at, stands_for_con, Bound, variable_entry, with_bound, con_bodies, type_bodies, value_bodies, bodies, structure_bodies, seen, free_in_env, free_in_written, is_kept, is_too_large, has_too_large}
+use Rattle.static_semantics.specs.Inferring.{Scope, found_at, stands_for_con, Bound, variable_entry, with_bound, con_bodies, type_bodies, value_bodies, bodies, structure_bodies, seen, free_in_written, is_kept, is_too_large, has_too_large}
 use Rattle.static_semantics.specs.Nonexpansive.{ends_in_ref, constructs, is_nonexpansive, are_nonexpansive}
 use Rattle.static_semantics.specs.CoreInference.{names_variable, is_variable}
-use Rattle.inference_laws.specs.Alike.{RowsAlike, EnvsAlike, StructuresAlike, ValuesAlike, TypesSame, SeenAlike, SameTy, in_env}
+use Rattle.inference_laws.specs.Alike.{RowsAlike, StructuresAlike, ValuesAlike, TypesSame, SeenAlike, SameTy, in_env}
 use Rattle.inference_laws.proofs.Alike.{alike_found, alike_values, alike_with_value}
 use Rattle.inference_laws.proofs.PatternsAlike.{con_same, name_con_same}
 use Rattle.inference_laws.proofs.SeenLater.{put_closed, seen_same}

@@ -1,9 +1,8 @@
 -- What is seen alike is seen alike later on; instances, and unification.
-use Rattle.std.proofs.Common.{◌≡◌, ℕ, zero, suc, ◌+◌, List, [], ◌∷◌, refl, sym, ap, ap₂, ◌∙◌, subst, Option, Some, None, Bool, true, false}
+use Rattle.std.proofs.Common.{◌≡◌, ℕ, zero, suc, ◌+◌, [], refl, sym, ap, ap₂, ◌∙◌, Option, Some, None, false}
 use Rattle.std.specs.Prelude.{Result, Ok, Err}
 use Rattle.sml_trees.specs.declared.name.At.{At}
 use Rattle.sml_trees.specs.declared.name.LongName.{LongName}
-use Rattle.semantic_objects.specs.declared.entry.TypeStr.{TypeStr}
 use Rattle.semantic_objects.specs.declared.entry.ValueEntry.{ValueEntry}
 use Rattle.semantic_objects.specs.Tables.{Table}
 use Rattle.semantic_objects.specs.Trees.{Tree, Trees, TypeScheme}
@@ -20,7 +19,7 @@ use Rattle.static_semantics.specs.Inferring.{Progress, Scope, with_types, known,
 use Rattle.static_semantics.specs.BasicTypes.{unit_ty}
 use Rattle.static_semantics.specs.Holding.{Given}
 use Rattle.static_semantics.proofs.Ages.{Any}
-use Rattle.inference_laws.specs.Alike.{RowsAlike, Both, EnvsAlike, ValuesAlike, TypesSame, SeenAlike, SameTy, in_env}
+use Rattle.inference_laws.specs.Alike.{RowsAlike, Both, ValuesAlike, TypesSame, SeenAlike, SameTy, in_env}
 use Rattle.inference_laws.proofs.Alike.{both_known, alike_found, alike_values, rows_alike_more, envs_alike_more}
 use Rattle.inference_laws.proofs.SameTypes.{AnyValue, IsSame, SameTypes}
 
@@ -121,10 +120,10 @@ pub unify_same : (depth : ℕ) (sc : Scope) (f : Env) (at : At) (a b c d : Ty) (
     → unify_at depth sc at a b st ≡ unify_at depth (in_env f sc) at c d st
 unify_same depth sc f at a b c d st h k =
     ap (unified sc at st) (unify_in_same depth a b c d st.types h k) ∙ on (unify_in depth c d st.types) where
-  on : (o : Option (Result State Fault)) → unified sc at st o ≡ unified (in_env f sc) at st o
-  on None = refl
-  on (Some (Err e)) = refl
-  on (Some (Ok r)) = refl
+      on : (o : Option (Result State Fault)) → unified sc at st o ≡ unified (in_env f sc) at st o
+      on None = refl
+      on (Some (Err e)) = refl
+      on (Some (Ok r)) = refl
 
 -- .. and what it leaves
 unified_touches : (depth : ℕ) (sc : Scope) (at : At) (a b : Ty) (st : Progress) (o : Option (Result State Fault))

@@ -1,15 +1,15 @@
 -- Environments that are seen alike through a state.
-use Rattle.std.specs.Prelude.{◌≡◌, ℕ, List, [], ◌∷◌, Option, Some, None, Ok, Err, Bool, true, false}
+use Rattle.std.specs.Prelude.{◌≡◌, ℕ, [], ◌∷◌, Some, None, Ok, Err, Bool, true, false}
 use Rattle.semantic_objects.specs.declared.entry.ConEntry.{ConEntry}
 use Rattle.semantic_objects.specs.declared.entry.TypeStr.{TypeStr}
 use Rattle.semantic_objects.specs.declared.entry.ValueEntry.{ValueEntry}
 use Rattle.semantic_objects.specs.Tables.{Table}
-use Rattle.semantic_objects.specs.Trees.{Tree}
+use Rattle.semantic_objects.specs.Trees.{Tree, frees}
 use Rattle.semantic_objects.specs.Environments.{Env, Structures}
 use Rattle.unification.specs.Types.{Ty, Substitution, put}
 use Rattle.unification.specs.Closing.{put_tree}
 use Rattle.static_semantics.specs.Inferring.{Progress, Scope, Answer, Bound, is_con}
-use Rattle.static_semantics.specs.Holding.{AllItems}
+use Rattle.static_semantics.specs.Holding.{AllItems, AllRows}
 
 -- ---- tables and answers
 
@@ -92,3 +92,25 @@ PatsAlike r v =
 
 abbrev pub DecsAlike : Env × Progress → Env × Progress → Type 0
 DecsAlike r v = (r.1 ≡ v.1) × SeenAlike r.1.types.stands r.0 v.0
+
+-- ---- environments that are one with everything put in
+
+-- no variable of the table stands in a tree
+abbrev pub IsFirm : Tree → Type 0
+IsFirm x = (n : ℕ) → frees n x ≡ false
+
+abbrev pub FirmType : TypeStr → Type 0
+FirmType str = IsFirm str.function.body × AllItems (λ (con : ConEntry). IsFirm con.scheme.body) str.cons
+
+abbrev pub FirmValue : ValueEntry → Type 0
+FirmValue value = is_con value.status ≡ true → is_variable_tree value.scheme.body ≡ false
+
+-- no variable of the table stands in the types of an environment, and the type of none of its constructors and
+-- exceptions is such a variable
+abbrev mutual
+  pub FirmEnv : Env → Type 0
+  FirmEnv (Env.MakeEnv ss ts vs) = FirmStructures ss × AllRows FirmType ts × AllRows FirmValue vs
+
+  pub FirmStructures : Structures → Type 0
+  FirmStructures Structures.Nil = Unit {0}
+  FirmStructures (Structures.Cons name env rest) = FirmEnv env × FirmStructures rest

@@ -1,5 +1,5 @@
 pub mod Nodes
 pub mod Spelling
 pub mod WellFormed
-pub mod Promises
 pub mod Alike
+pub mod Promises
