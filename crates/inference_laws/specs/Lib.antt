@@ -1,0 +1,5 @@
+pub mod Nodes
+pub mod Spelling
+pub mod WellFormed
+pub mod Alike
+pub mod Promises
