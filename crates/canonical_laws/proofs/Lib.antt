@@ -1,0 +1,6 @@
+pub mod Schemes
+pub mod Names
+pub mod Envs
+pub mod Parts
+pub mod Again
+pub mod Promised
