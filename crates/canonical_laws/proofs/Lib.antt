@@ -1,3 +1,4 @@
+pub mod Rows
 pub mod Schemes
 pub mod Names
 pub mod Envs
