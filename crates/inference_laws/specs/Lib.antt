@@ -1,0 +1,4 @@
+pub mod Nodes
+pub mod Spelling
+pub mod WellFormed
+pub mod Promises

@@ -1,0 +1,68 @@
+-- The laws, as the public functions of this crate state them.
+use Rattle.std.specs.Prelude.{ℕ, List, Bool, ◌≤◌}
+use Rattle.semantic_objects.specs.declared.name.TyName.{TyName}
+use Rattle.bare_phrases.specs.Phrases.{TyPhrase, PatPhrase, ExpPhrase, Rules, DecPhrase, DatPhrase, ExPhrase}
+use Rattle.static_semantics.specs.Inferring.{Progress, Scope, Bound}
+use Rattle.static_semantics.specs.TypeInference.{infer_ty}
+use Rattle.static_semantics.specs.PatternInference.{infer_pat}
+use Rattle.static_semantics.specs.DatatypeInference.{datatypes_of, exceptions_of}
+use Rattle.static_semantics.specs.CoreInference.{infer_exp, infer_match, infer_dec}
+use Rattle.static_semantics.specs.Holding.{Given, AllItems, AllRows}
+use Rattle.inference_laws.specs.Nodes.{Nodes, TyOf, EnvOf, ScopeOf, IsOf, ExpOf, DecOf, PatOf, Makes, below_number}
+use Rattle.inference_laws.specs.Spelling.{TySpelt, PatSpelt, ExpSpelt, RulesSpelt, DecSpelt, DatSpelt, ExSpelt}
+use Rattle.inference_laws.specs.WellFormed.{well_formed, AreKnown, KnowsMore}
+
+-- the unit's names in the scope and the state have numbers below the next one
+abbrev pub AreBelowNext : (List ℕ → Bool) → Scope → Progress → Type 0
+AreBelowNext good sc st = IsOf good sc st (below_number sc.home st.names)
+
+-- whatever nodes one looks at, as long as those of the language, of the scope and of the state are among them: with the
+-- names that it makes, which are numbered one after another from the state's next number on, so are those of what
+-- inference gives and of the state afterwards. Patterns, types and exceptions make no names
+pub record MakesOfGiven : Type 0 where
+  pub ty : (good : List ℕ → Bool) (q : Nodes) (sc : Scope) (ty : TyPhrase) → TySpelt good ty → ScopeOf good sc q
+      → Given (TyOf q) (infer_ty sc ty)
+  pub pat : (good : List ℕ → Bool) (q : Nodes) (depth : ℕ) (sc : Scope) (pat : PatPhrase) (bound : Bound)
+      (st : Progress) → PatSpelt good pat → IsOf good sc st q → AllRows (TyOf q) bound
+      → Given (PatOf q st) (infer_pat depth sc pat bound st)
+  pub exp : (good : List ℕ → Bool) (depth : ℕ) (sc : Scope) (exp : ExpPhrase) (st : Progress) → ExpSpelt good exp
+      → AreBelowNext good sc st
+      → Given (λ r. Makes sc.home (IsOf good sc st) st r.1 (ExpOf r)) (infer_exp depth sc exp st)
+  pub rules : (good : List ℕ → Bool) (depth : ℕ) (sc : Scope) (rules : Rules) (st : Progress) → RulesSpelt good rules
+      → AreBelowNext good sc st
+      → Given (λ r. Makes sc.home (IsOf good sc st) st r.1 (ExpOf r)) (infer_match depth sc rules st)
+  pub dec : (good : List ℕ → Bool) (depth : ℕ) (sc : Scope) (dec : DecPhrase) (st : Progress) → DecSpelt good dec
+      → AreBelowNext good sc st
+      → Given (λ r. Makes sc.home (IsOf good sc st) st r.1 (DecOf r)) (infer_dec depth sc dec st)
+  pub datatypes : (good : List ℕ → Bool) (sc : Scope) (refused : List (List ℕ)) (binds : List DatPhrase)
+      (st : Progress) → AllItems (DatSpelt good) binds → AreBelowNext good sc st
+      → Given (λ r. Makes sc.home (IsOf good sc st) st r.1 (DecOf r)) (datatypes_of sc refused binds st)
+  pub exceptions : (good : List ℕ → Bool) (q : Nodes) (sc : Scope) (binds : List ExPhrase)
+      → AllItems (ExSpelt good) binds → ScopeOf good sc q → Given (EnvOf q) (exceptions_of sc binds)
+
+-- over known names, with one arity and equality for each number, where the scope and the state are well formed: numbers
+-- of names only rise, what is given is well formed over these names and names with the numbers that were made, and
+-- there is one arity and equality for each number still
+abbrev pub IsWellFormed : (List ℕ → Bool) → (TyName → Bool) → Scope → Progress → Type 0
+IsWellFormed good known sc st = AreKnown sc.home st.names known × IsOf good sc st (well_formed good known)
+
+pub record GivesWellFormed (good : List ℕ → Bool) (home : List ℕ) (known : TyName → Bool) (st u : Progress)
+    (Of : Nodes → Type 0) : Type 0 where
+  pub rises : st.names ≤ u.names
+  pub later : TyName → Bool
+  pub more : KnowsMore home st.names u.names known later
+  pub of : Of (well_formed good later)
+
+pub record KeepsWellFormed : Type 0 where
+  pub exp : (good : List ℕ → Bool) (known : TyName → Bool) (depth : ℕ) (sc : Scope) (exp : ExpPhrase) (st : Progress)
+      → ExpSpelt good exp → IsWellFormed good known sc st
+      → Given (λ r. GivesWellFormed good sc.home known st r.1 (ExpOf r)) (infer_exp depth sc exp st)
+  pub rules : (good : List ℕ → Bool) (known : TyName → Bool) (depth : ℕ) (sc : Scope) (rules : Rules) (st : Progress)
+      → RulesSpelt good rules → IsWellFormed good known sc st
+      → Given (λ r. GivesWellFormed good sc.home known st r.1 (ExpOf r)) (infer_match depth sc rules st)
+  pub dec : (good : List ℕ → Bool) (known : TyName → Bool) (depth : ℕ) (sc : Scope) (dec : DecPhrase) (st : Progress)
+      → DecSpelt good dec → IsWellFormed good known sc st
+      → Given (λ r. GivesWellFormed good sc.home known st r.1 (DecOf r)) (infer_dec depth sc dec st)
+  pub datatypes : (good : List ℕ → Bool) (known : TyName → Bool) (sc : Scope) (refused : List (List ℕ))
+      (binds : List DatPhrase) (st : Progress) → AllItems (DatSpelt good) binds → IsWellFormed good known sc st
+      → Given (λ r. GivesWellFormed good sc.home known st r.1 (DecOf r)) (datatypes_of sc refused binds st)
