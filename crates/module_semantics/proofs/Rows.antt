@@ -27,121 +27,121 @@ use Rattle.module_semantics.specs.Matching.{matched}
 
 -- ---- phrases
 
-abbrev at : ℕ → At
+abbrev pub at : ℕ → At
 at n = record { line = 1; col = n }
 
-abbrev name : List ℕ → ℕ → Name
+abbrev pub name : List ℕ → ℕ → Name
 name text n = record { text = text; line = 1; col = n }
 
-abbrev long : List (List ℕ) → ℕ → LongName
+abbrev pub long : List (List ℕ) → ℕ → LongName
 long parts n = record { parts = parts; line = 1; col = n }
 
-abbrev con_ty : List ℕ → ℕ → TyPhrase
+abbrev pub con_ty : List ℕ → ℕ → TyPhrase
 con_ty text n = TyPhrase.Named TyPhrases.EndOfArgs (long (text ∷ []) n) (at n)
 
-abbrev var_ty : List ℕ → ℕ → TyPhrase
+abbrev pub var_ty : List ℕ → ℕ → TyPhrase
 var_ty text n = TyPhrase.Var (name text n) (at n)
 
-abbrev val_spec : List ℕ → ℕ → TyPhrase → SpecPhrase
+abbrev pub val_spec : List ℕ → ℕ → TyPhrase → SpecPhrase
 val_spec text n ty =
     SpecPhrase.Vals ((let desc : ValPhrase = record { name = name text n; ty = ty } in desc) ∷ []) (at n)
 
-abbrev desc : List Name → List ℕ → ℕ → TypeDescPhrase
+abbrev pub desc : List Name → List ℕ → ℕ → TypeDescPhrase
 desc tyvars text n = record { tyvars = tyvars; name = name text n }
 
-abbrev type_spec : List Name → List ℕ → ℕ → SpecPhrase
+abbrev pub type_spec : List Name → List ℕ → ℕ → SpecPhrase
 type_spec tyvars text n = SpecPhrase.Types (desc tyvars text n ∷ []) (at n)
 
-abbrev eqtype_spec : List ℕ → ℕ → SpecPhrase
+abbrev pub eqtype_spec : List ℕ → ℕ → SpecPhrase
 eqtype_spec text n = SpecPhrase.Eqtypes (desc [] text n ∷ []) (at n)
 
-abbrev con_bind : List ℕ → ℕ → Option TyPhrase → ConPhrase
+abbrev pub con_bind : List ℕ → ℕ → Option TyPhrase → ConPhrase
 con_bind text n arg = record { name = name text n; arg = arg }
 
-abbrev datatype_spec : List ℕ → ℕ → List ConPhrase → SpecPhrase
+abbrev pub datatype_spec : List ℕ → ℕ → List ConPhrase → SpecPhrase
 datatype_spec text n cons =
     SpecPhrase.Datatypes ((let bind : DatPhrase = record { tyvars = []; name = name text n; cons = cons } in bind) ∷ [])
     (at n)
 
-abbrev sig_end : List SpecPhrase → SigPhrase
+abbrev pub sig_end : List SpecPhrase → SigPhrase
 sig_end specs = SigPhrase.Sig (SpecPhrase.Sequence (spec_phrases specs) (at 5)) (at 1)
 
-abbrev where_type : SigPhrase → List (List ℕ) → ℕ → TyPhrase → SigPhrase
+abbrev pub where_type : SigPhrase → List (List ℕ) → ℕ → TyPhrase → SigPhrase
 where_type sig parts n ty = SigPhrase.Where sig [] (long parts n) ty (at 1)
 
 -- `type t = ty` as it is written bare
-abbrev type_is : List ℕ → ℕ → TyPhrase → SpecPhrase
+abbrev pub type_is : List ℕ → ℕ → TyPhrase → SpecPhrase
 type_is text n ty = SpecPhrase.Include (where_type (sig_end (type_spec [] text n ∷ [])) (text ∷ []) n ty) (at n)
 
 -- ---- a part of the initial basis
 
-abbrev name_of : Owner → ℕ → ℕ → Bool → TyName
+abbrev pub name_of : Owner → ℕ → ℕ → Bool → TyName
 name_of own number arity eq = record { owner = own; number = number; arity = arity; eq = eq }
 
-abbrev named : TyName → Tree
+abbrev pub named : TyName → Tree
 named n = Tree.Made (symbol.Name n) Trees.Nil
 
-abbrev int_tree : Tree
+abbrev pub int_tree : Tree
 int_tree = named (name_of owner.Basis 0 0 true)
 
-abbrev string_tree : Tree
+abbrev pub string_tree : Tree
 string_tree = named (name_of owner.Basis 2 0 true)
 
-abbrev exn_tree : Tree
+abbrev pub exn_tree : Tree
 exn_tree = named (name_of owner.Basis 7 0 false)
 
-abbrev arrow_tree : Tree → Tree → Tree
+abbrev pub arrow_tree : Tree → Tree → Tree
 arrow_tree from to = Tree.Made symbol.Arrow (Trees.Cons from (Trees.Cons to Trees.Nil))
 
-abbrev type_of : ℕ → Tree → List ConEntry → TypeStr
+abbrev pub type_of : ℕ → Tree → List ConEntry → TypeStr
 type_of arity body cons = record { function = record { arity = arity; body = body }; cons = cons }
 
-abbrev con : List ℕ → Tree → ConEntry
+abbrev pub con : List ℕ → Tree → ConEntry
 con text body = record { name = text; scheme = record { marks = []; body = body } }
 
-abbrev value : VidStatus → List Bool → Tree → ValueEntry
+abbrev pub value : VidStatus → List Bool → Tree → ValueEntry
 value kind marks body = record { status = kind; scheme = record { marks = marks; body = body } }
 
-abbrev basis : Env
+abbrev pub basis : Env
 basis = with_type (codes "int") (type_of 0 int_tree []) (with_type (codes "exn") (type_of 0 exn_tree []) empty_env)
 
-abbrev top : Scope
+abbrev pub top : Scope
 top = outermost (codes "u") basis
 
-abbrev start : Progress
+abbrev pub start : Progress
 start = record { types = no_variable; names = 3 }
 
-abbrev sig_of : List TyName → Env → Signature
+abbrev pub sig_of : List TyName → Env → Signature
 sig_of bound env = record { bound = bound; env = env }
 
 -- bound names, and one over its variable
-abbrev bound_name : ℕ → Bool → TyName
+abbrev pub bound_name : ℕ → Bool → TyName
 bound_name number eq = name_of owner.Bound number 0 eq
 
-abbrev bound_of_one : ℕ → TyName
+abbrev pub bound_of_one : ℕ → TyName
 bound_of_one number = name_of owner.Bound number 1 false
 
-abbrev over_variable : TyName → Tree
+abbrev pub over_variable : TyName → Tree
 over_variable n = Tree.Made (symbol.Name n) (Trees.Cons (Tree.Bound 0) Trees.Nil)
 
 -- `sig type t val v : t end`
-abbrev t_and_v : Signature
+abbrev pub t_and_v : Signature
 t_and_v = sig_of (bound_name 0 false ∷ [])
     (with_type (codes "t") (type_of 0 (named (bound_name 0 false)) [])
     (with_value (codes "v") (value status.Variable [] (named (bound_name 0 false))) empty_env))
 
-abbrev sigs : Table Signature
+abbrev pub sigs : Table Signature
 sigs = (codes "S", t_and_v) ∷ []
 
 -- ---- what comes out
 
-abbrev first_of : {A : Type 0} → Answer (A × Progress) → Answer A
+abbrev pub first_of : {A : Type 0} → Answer (A × Progress) → Answer A
 first_of r = r >>= λ x. gives x.0
 
-abbrev of : SigPhrase → Answer Signature
+abbrev pub of : SigPhrase → Answer Signature
 of sig = first_of (signature_of sigs top sig start)
 
-abbrev refused : {A : Type 0} → ℕ → ℕ → List (List ℕ) → Answer A
+abbrev pub refused : {A : Type 0} → ℕ → ℕ → List (List ℕ) → Answer A
 refused number col names = Some (Err (diag_at number top (at col) names))
 
 -- ---- signatures
@@ -246,7 +246,7 @@ sig_15 : of (sig_end (SpecPhrase.Structures (SigBinds.Bind (name (codes "X") 15)
 sig_15 = refl
 
 -- sig datatype t = A | B of int end, whose type admits equality
-abbrev a_or_b : Signature
+abbrev pub a_or_b : Signature
 a_or_b = sig_of (bound_name 0 true ∷ [])
     (with_type (codes "t") (type_of 0 (named (bound_name 0 true)) (con (codes "A") (named (bound_name 0 true))
     ∷ con (codes "B") (arrow_tree int_tree (named (bound_name 0 true))) ∷ []))
@@ -269,10 +269,10 @@ sig_18 = refl
 
 -- ---- matching
 
-abbrev into : Env → Signature → Answer Env
+abbrev pub into : Env → Signature → Answer Env
 into env sig = matched top (at 7) no_variable env sig
 
-abbrev with_v : Tree → Tree → Env
+abbrev pub with_v : Tree → Tree → Env
 with_v ty of_v = with_type (codes "t") (type_of 0 ty [])
     (with_value (codes "v") (value status.Variable [] of_v) empty_env)
 
@@ -330,7 +330,7 @@ match_9 : into (with_type (codes "t") (type_of 0 int_tree [])
 match_9 = refl
 
 -- struct val f = fn x => x end : sig val f : int -> int end, and the other way
-abbrev f_of : List Bool → Tree → Env
+abbrev pub f_of : List Bool → Tree → Env
 f_of marks body = with_value (codes "f") (value status.Variable marks (arrow_tree body body)) empty_env
 
 match_10 : into (f_of (false ∷ []) (Tree.Bound 0)) (sig_of [] (f_of [] int_tree)) ≡ gives (f_of [] int_tree)
@@ -352,7 +352,7 @@ match_13 = refl
 
 -- ---- sealing
 
-abbrev own : TyName
+abbrev pub own : TyName
 own = name_of (owner.«Unit» (codes "u")) 3 0 false
 
 seal_1 : (sealed (codes "u") t_and_v start).0 ≡ with_v (named own) (named own)

@@ -75,7 +75,7 @@ some_first true f by rest more k h = h
 some_first false f by rest more k h = k h
 
 -- what is found after a row was added was found before, or is that of the row
-abbrev FoundBefore : Rows → TyName → TypeFn → TyName → TypeFn → Type 0
+abbrev pub FoundBefore : Rows → TyName → TypeFn → TyName → TypeFn → Type 0
 FoundBefore rows n f name by = (of_rows rows name ≡ Some by) ⊎ ((n ≡ name) × (f ≡ by))
 
 head_or : (c : Bool) (x f by : TypeFn) (rest more : Option TypeFn) (R : Type 0) → cond c (Some x) more ≡ Some by
@@ -88,7 +88,7 @@ one_row : (n : TyName) (f : TypeFn) (name : TyName) (by : TypeFn) (c : Bool) →
 one_row n f name by true e h = (name_is n name e, (let k : f ≡ by = cc in k))
 one_row n f name by false e h = absurd (some_none by h)
 
-row_added : (rows : Rows) (n : TyName) (f : TypeFn) (name : TyName) (by : TypeFn)
+pub row_added : (rows : Rows) (n : TyName) (f : TypeFn) (name : TyName) (by : TypeFn)
     → of_rows (rows ++ (n, f) ∷ []) name ≡ Some by → FoundBefore rows n f name by
 row_added [] n f name by h = inr (one_row n f name by (same_name n name) refl h)
 row_added (row ∷ rows) n f name by h = head_or (same_name row.0 name) row.1 f by (of_rows rows name)

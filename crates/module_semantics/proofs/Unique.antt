@@ -27,7 +27,7 @@ use Rattle.module_semantics.specs.Promises.{IsOneOf, StandAlone}
 
 -- ---- the items of an environment whose types are changed
 
-abbrev item_by : (Tree → Tree) → Item → Item
+abbrev pub item_by : (Tree → Tree) → Item → Item
 item_by f (Item.StructureItem path) = Item.StructureItem path
 item_by f (Item.TypeItem path str) = Item.TypeItem path (changed_type (by_types f) str)
 item_by f (Item.ValueItem path value) = Item.ValueItem path (changed_value (by_types f) value)
@@ -49,7 +49,7 @@ value_items_by f path (row ∷ rows) = ap
     (λ zs. Item.ValueItem (path ++ row.0 ∷ []) (changed_value (by_types f) row.1) ∷ zs) (value_items_by f path rows)
 
 mutual
-  items_by : (f : Tree → Tree) (path : List (List ℕ)) (env : Env)
+  pub items_by : (f : Tree → Tree) (path : List (List ℕ)) (env : Env)
       → items_under path (changed (by_types f) env) ≡ map (item_by f) (items_under path env)
   items_by f path (Env.MakeEnv ss ts vs) =
       ap₂ (λ a b. a ++ b) (structure_items_by f path ss)
@@ -140,7 +140,7 @@ put_alone φ arity name by e a closed =
     (λ i b. variable_at arity 0 i (subst (λ z. i < z) a (closed i b))
     ∙ ap Tree.Bound (let z : 0 + i ≡ i = omega arith in z))
 
-realised_alone : (φ : Realisation) (f : TypeFn) (name : TyName) (by : TypeFn) (s : State)
+pub realised_alone : (φ : Realisation) (f : TypeFn) (name : TyName) (by : TypeFn) (s : State)
     → name_alone f ≡ Some name → φ name ≡ Some by → Respects s name by → realised_function φ f ≡ by
 realised_alone φ f name by s h e r =
     let k : IsAlone f.arity f.body name = alone_is f.arity f.body name h in

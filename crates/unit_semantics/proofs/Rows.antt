@@ -26,94 +26,94 @@ use Rattle.unit_semantics.specs.UnitInference.{top_of_env, top_of_functors, infe
 
 -- ---- phrases
 
-abbrev at : ℕ → At
+abbrev pub at : ℕ → At
 at n = record { line = 1; col = n }
 
-abbrev name : List ℕ → ℕ → Name
+abbrev pub name : List ℕ → ℕ → Name
 name text n = record { text = text; line = 1; col = n }
 
-abbrev long : List (List ℕ) → ℕ → LongName
+abbrev pub long : List (List ℕ) → ℕ → LongName
 long parts n = record { parts = parts; line = 1; col = n }
 
-abbrev type_bind : List Name → Name → TyPhrase → TypPhrase
+abbrev pub type_bind : List Name → Name → TyPhrase → TypPhrase
 type_bind tyvars bound ty = record { tyvars = tyvars; name = bound; ty = ty }
 
-abbrev con_bind : Name → Option TyPhrase → ConPhrase
+abbrev pub con_bind : Name → Option TyPhrase → ConPhrase
 con_bind bound arg = record { name = bound; arg = arg }
 
-abbrev dat_bind : List Name → Name → List ConPhrase → DatPhrase
+abbrev pub dat_bind : List Name → Name → List ConPhrase → DatPhrase
 dat_bind tyvars bound cons = record { tyvars = tyvars; name = bound; cons = cons }
 
-abbrev val_desc : Name → TyPhrase → ValPhrase
+abbrev pub val_desc : Name → TyPhrase → ValPhrase
 val_desc bound ty = record { name = bound; ty = ty }
 
-abbrev type_desc : List Name → Name → TypeDescPhrase
+abbrev pub type_desc : List Name → Name → TypeDescPhrase
 type_desc tyvars bound = record { tyvars = tyvars; name = bound }
 
-abbrev fun_bind : Name → Name → SigPhrase → ModulePhrase → FunPhrase
+abbrev pub fun_bind : Name → Name → SigPhrase → ModulePhrase → FunPhrase
 fun_bind bound param sig body = record { name = bound; param = param; param_sig = sig; body = body }
 
-abbrev funsig_bind : Name → Name → SigPhrase → SigPhrase → FunsigPhrase
+abbrev pub funsig_bind : Name → Name → SigPhrase → SigPhrase → FunsigPhrase
 funsig_bind bound param sig result = record { name = bound; param = param; param_sig = sig; result_sig = result }
 
 -- ---- types, and a part of the initial basis
 
-abbrev name_of : Owner → ℕ → ℕ → Bool → TyName
+abbrev pub name_of : Owner → ℕ → ℕ → Bool → TyName
 name_of own number arity eq = record { owner = own; number = number; arity = arity; eq = eq }
 
-abbrev own_name : ℕ → Bool → TyName
+abbrev pub own_name : ℕ → Bool → TyName
 own_name number eq = name_of (owner.«Unit» (codes "u")) number 0 eq
 
-abbrev bound_name : ℕ → Bool → TyName
+abbrev pub bound_name : ℕ → Bool → TyName
 bound_name number eq = name_of owner.Bound number 0 eq
 
-abbrev named : TyName → Tree
+abbrev pub named : TyName → Tree
 named n = Tree.Made (symbol.Name n) Trees.Nil
 
-abbrev int_tree : Tree
+abbrev pub int_tree : Tree
 int_tree = named (name_of owner.Basis 0 0 true)
 
-abbrev bool_tree : Tree
+abbrev pub bool_tree : Tree
 bool_tree = named (name_of owner.Basis 1 0 true)
 
-abbrev string_tree : Tree
+abbrev pub string_tree : Tree
 string_tree = named (name_of owner.Basis 2 0 true)
 
 -- a type name of the basis over one type
-abbrev over : ℕ → Tree → Tree
+abbrev pub over : ℕ → Tree → Tree
 over number of = Tree.Made (symbol.Name (name_of owner.Basis number 1 true)) (Trees.Cons of Trees.Nil)
 
-abbrev unit_tree : Tree
+abbrev pub unit_tree : Tree
 unit_tree = Tree.Made (symbol.Record []) Trees.Nil
 
-abbrev pair_tree : Tree → Tree → Tree
+abbrev pub pair_tree : Tree → Tree → Tree
 pair_tree a b = Tree.Made (symbol.Record (codes "1" ∷ codes "2" ∷ [])) (Trees.Cons a (Trees.Cons b Trees.Nil))
 
-abbrev arrow_tree : Tree → Tree → Tree
+abbrev pub arrow_tree : Tree → Tree → Tree
 arrow_tree from to = Tree.Made symbol.Arrow (Trees.Cons from (Trees.Cons to Trees.Nil))
 
-abbrev d_of_t : Tree
+abbrev pub d_of_t : Tree
 d_of_t = arrow_tree (named (bound_name 0 false)) (named (bound_name 1 false))
 
-abbrev con : List ℕ → Tree → ConEntry
+abbrev pub con : List ℕ → Tree → ConEntry
 con text body = record { name = text; scheme = record { marks = []; body = body } }
 
-abbrev type_of : ℕ → Tree → List ConEntry → TypeStr
+abbrev pub type_of : ℕ → Tree → List ConEntry → TypeStr
 type_of arity body cons = record { function = record { arity = arity; body = body }; cons = cons }
 
-abbrev plain : Tree → TypeStr
+abbrev pub plain : Tree → TypeStr
 plain body = type_of 0 body []
 
-abbrev value : VidStatus → List Bool → Tree → ValueEntry
+abbrev pub value : VidStatus → List Bool → Tree → ValueEntry
 value kind marks body = record { status = kind; scheme = record { marks = marks; body = body } }
 
-abbrev variable : List Bool → Tree → ValueEntry
+abbrev pub variable : List Bool → Tree → ValueEntry
 variable marks body = value status.Variable marks body
 
-abbrev functor_by : List TyName → Env → List TyName → Env → Functor
+abbrev pub functor_by : List TyName → Env → List TyName → Env → Functor
 functor_by bound param further result = record { bound = bound; param = param; further = further; result = result }
 
-abbrev basis_values : Env
+abbrev pub basis_values : Env
 basis_values =
     with_value (codes "true") (value status.Constructor [] bool_tree)
     (with_value (codes "false") (value status.Constructor [] bool_tree)
@@ -126,46 +126,46 @@ basis_values =
     (arrow_tree (pair_tree (over 6 (Tree.Bound 0)) (Tree.Bound 0)) unit_tree))
     (with_value (codes "+") (variable [] (arrow_tree (pair_tree int_tree int_tree) int_tree)) empty_env))))))
 
-abbrev min_entry : ValueEntry
+abbrev pub min_entry : ValueEntry
 min_entry = variable [] (arrow_tree (pair_tree int_tree int_tree) int_tree)
 
-abbrev basis : Env
+abbrev pub basis : Env
 basis = with_structure (codes "Int") (with_value (codes "min") min_entry empty_env)
     (with_type (codes "int") (plain int_tree)
     (with_type (codes "string") (plain string_tree)
     (with_type (codes "list") (type_of 1 (over 4 (Tree.Bound 0)) []) basis_values)))
 
-abbrev start : Progress
+abbrev pub start : Progress
 start = record { types = no_variable; names = 0 }
 
 -- ---- what comes out
 
-abbrev over_given : Top → Bool → List TopPhrase → Answer Top
+abbrev pub over_given : Top → Bool → List TopPhrase → Answer Top
 over_given given sealing tops = infer_unit 20 (codes "u") basis given sealing tops start >>= λ r. gives r.0
 
-abbrev of : Bool → List TopPhrase → Answer Top
+abbrev pub of : Bool → List TopPhrase → Answer Top
 of sealing tops = over_given empty_top sealing tops
 
-abbrev refused : ℕ → ℕ → List (List ℕ) → Answer Top
+abbrev pub refused : ℕ → ℕ → List (List ℕ) → Answer Top
 refused number col names = Some (Err (diag_at number (outermost (codes "u") basis) (at col) names))
 
-abbrev whole : Answer Top → Answer Top
+abbrev pub whole : Answer Top → Answer Top
 whole answer = answer
 
-abbrev if_any : {A : Type 0} → Option A → Answer A
+abbrev pub if_any : {A : Type 0} → Option A → Answer A
 if_any None = None
 if_any (Some x) = gives x
 
-abbrev seen_value : List (List ℕ) → Answer Top → Answer ValueEntry
+abbrev pub seen_value : List (List ℕ) → Answer Top → Answer ValueEntry
 seen_value path answer = answer >>= λ top. if_any (found_at values path top.env)
 
-abbrev seen_type : List (List ℕ) → Answer Top → Answer TypeStr
+abbrev pub seen_type : List (List ℕ) → Answer Top → Answer TypeStr
 seen_type path answer = answer >>= λ top. if_any (found_at types path top.env)
 
-abbrev seen_functor : List ℕ → Answer Top → Answer Functor
+abbrev pub seen_functor : List ℕ → Answer Top → Answer Functor
 seen_functor text answer = answer >>= λ top. if_any (entry text top.functors)
 
-abbrev seen_funsig : List ℕ → Answer Top → Answer Functor
+abbrev pub seen_funsig : List ℕ → Answer Top → Answer Functor
 seen_funsig text answer = answer >>= λ top. if_any (entry text top.funsigs)
 
 -- ---- units
@@ -655,7 +655,7 @@ refuses_20 : of false (TopPhrase.Funsigs (funsig_bind (name (codes "G") 8) (name
 refuses_20 = refl
 
 -- structure B = struct val z = A.x end, where a structure A is given
-abbrev given_a : Top
+abbrev pub given_a : Top
 given_a = top_of_env (with_structure (codes "A") (with_value (codes "x") (variable [] string_tree) empty_env) empty_env)
 
 defines_given : over_given given_a false (TopPhrase.Structures (ModuleBinds.Bind (name (codes "B") 11)
@@ -674,19 +674,19 @@ refuses_twice : of false (TopPhrase.Structures (ModuleBinds.Bind (name (codes "A
 refuses_twice = refl
 
 -- a type name over its variable
-abbrev stack_tree : Tree
+abbrev pub stack_tree : Tree
 stack_tree = Tree.Made (symbol.Name (name_of (owner.«Unit» (codes "u")) 2 1 false)) (Trees.Cons (Tree.Bound 0) Trees.Nil)
 
-abbrev functor_f : Functor
+abbrev pub functor_f : Functor
 functor_f = functor_by (bound_name 0 false ∷ [])
     (with_type (codes "t") (plain (named (bound_name 0 false))) empty_env) []
     (with_type (codes "u") (plain (named (bound_name 0 false))) empty_env)
 
 -- structures of two units that have a type name each
-abbrev foreign : List ℕ → Tree
+abbrev pub foreign : List ℕ → Tree
 foreign unit = named (name_of (owner.«Unit» unit) 0 0 true)
 
-abbrev given_q : Top
+abbrev pub given_q : Top
 given_q = top_of_env
     (with_structure (codes "Q1")
     (with_value (codes "f") (variable [] (arrow_tree (foreign (codes "p1")) unit_tree)) empty_env)

@@ -1,0 +1,6 @@
+//! Laws alone: an environment is found to match a signature wherever a realisation matches it.
+#![tactic(auto)]
+
+mod laws;
+
+pub use laws::matching_finds_what_matches;
