@@ -1,6 +1,6 @@
 -- A use by the store's record, and a use by a run.
 use Rattle.std.proofs.Common.{◌≡◌, ◌≢◌, ◌⊎◌, ◌∙◌, ap, sym, subst, refl, inl, inr, ℕ, ◌&&◌, Bool, true, false, cond, not, List, Option, Some, None, Result, Ok, Err, arith}
-use Rattle.std.specs.Prelude.{nat_eq, is_some}
+use Rattle.std.specs.Prelude.{nat_eq, is_some, unwrap_or}
 use Rattle.std.specs.Cmp.Lexicographic.{pointwise, nat_list_eq_equiv, same_text}
 use Rattle.cm_base.specs.Causes.{HasCause}
 use Rattle.cm_base.specs.Derived.{derived_text}
@@ -14,7 +14,7 @@ use Rattle.tool_records.specs.Laws.{IsSmallRun}
 use Rattle.tool_records.specs.Stored.{stored_record, with_record, HasTrueRecord}
 use Rattle.tool_records.proofs.Sizes.{small_fits, small_is_short}
 use Rattle.tool_records.proofs.Storing.{record_unit, put_is_stored}
-use Rattle.tool_deriving.specs.Deriving.{ToolUse, tool_use, text_of_use, record_with, record_of_use, served, stored_output, uses, after_use, ran_after, IsSmallUse, Derives, LeavesUse, ToolState, use_by, DerivesBy, RunsOnce}
+use Rattle.tool_deriving.specs.Deriving.{ToolUse, tool_use, text_of_use, record_with, record_of_use, served, stored_output, text_over, uses, after_use, ran_after, IsSmallUse, Derives, LeavesUse, ToolState, use_by, DerivesBy, RunsOnce}
 use Rattle.tool_deriving.specs.declared.fault.DeriveFault.{DeriveFault}
 use Rattle.tool_deriving.specs.declared.fault.DeriveFault.TheVariants as fault
 
@@ -73,13 +73,21 @@ true_output job (Some run) text derived e =
     ∙ ap (λ (rule : List ℕ). derived_text rule job.unit run.input) (same_text run.rule job.rule (sym two.0))
     ∙ ap (derived_text job.rule job.unit) (same_text run.input job.input (sym two.1))
 
-pub stored_text : (files : Files) (job : ToolUse) (text : List ℕ) → HasTrueRecord files job.unit
+stored_text : (files : Files) (job : ToolUse) (text : List ℕ) → HasTrueRecord files job.unit
     → stored_output files job ≡ Some text → text ≡ text_of_use job
 unfolding stored_output
 stored_text files job text true_record e =
     true_output job (stored_record files job.unit) text
     (λ run is. true_record.derived run is
     ∙ ap (λ (unit : List ℕ). derived_text run.rule unit run.input) (record_unit files job.unit run is)) e
+
+-- so the text over the store is the text
+pub text_is : (files : Files) (job : ToolUse) → HasTrueRecord files job.unit → text_over files job ≡ text_of_use job
+text_is files job true_record = by_output (stored_output files job) refl
+  where
+    by_output : (o : Option (List ℕ)) → stored_output files job ≡ o → unwrap_or o (text_of_use job) ≡ text_of_use job
+    by_output None e = refl
+    by_output (Some text) e = stored_text files job text true_record e
 
 -- where the store has an output, the tool rests
 rests_where : (files : Files) (job : ToolUse) (text : List ℕ) → stored_output files job ≡ Some text → uses files job ≡ false
@@ -109,7 +117,7 @@ stopped state unit input f before after other same = record {
   class = refl;
   rule = refl;
   derives = record {
-    text = λ files is true_record. tt;
+    text = λ files is. tt;
     runs = λ files is. tt;
     puts = λ files is. tt;
     rests = λ files is none. (refl, same);
@@ -126,7 +134,7 @@ by_record state unit input text before after same found = record {
   class = refl;
   rule = refl;
   derives = record {
-    text = λ files is true_record. stored_text files job text true_record (sym (found files is));
+    text = λ files is. ap (λ (o : Option (List ℕ)). unwrap_or o (text_of_use job)) (found files is);
     runs = λ files is. ap (λ (b : Bool). ran_after b state.ran) (sym (rests_where files job text (sym (found files is))));
     puts = λ files is.
         same ∙ is
@@ -177,13 +185,14 @@ by_run old new unit input r before middle after cause class rule same none once 
     derives : (r : Result (List ℕ) DeriveFault) → RunsOnce job r middle after old.ran new.ran
         → Derives job r before after old.ran new.ran
     derives (Err f) once = record {
-      text = λ files is true_record. tt;
+      text = λ files is. tt;
       runs = λ files is. tt;
       puts = λ files is. tt;
       rests = absent;
     }
     derives (Ok text) once = record {
-      text = λ files is true_record. once.0;
+      text = λ files is.
+          once.0 ∙ ap (λ (o : Option (List ℕ)). unwrap_or o (text_of_use job)) (none files is);
       runs = λ files is.
           once.1 ∙ ap (λ (b : Bool). ran_after b old.ran) (sym (runs_where files job (sym (none files is))));
       puts = λ files is.

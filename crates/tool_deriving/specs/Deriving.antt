@@ -1,5 +1,5 @@
 -- A use of a tool: when it runs, and what it answers and leaves.
-use Rattle.std.specs.Prelude.{ℕ, ◌≡◌, ◌⊎◌, ◌≤◌, ◌&&◌, Bool, true, false, not, is_some, nat_eq, if◌then◌else◌, List, length, Option, None, Some, Result, Ok, Err, IfOk, OnOk}
+use Rattle.std.specs.Prelude.{ℕ, ◌≡◌, ◌⊎◌, ◌≤◌, ◌&&◌, Bool, true, false, not, is_some, nat_eq, if◌then◌else◌, List, length, Option, None, Some, Result, Ok, Err, IfOk, OnOk, unwrap_or}
 use Rattle.std.specs.Cmp.Lexicographic.{pointwise}
 use Rattle.cm_base.specs.Causes.{HasCause, one_more}
 use Rattle.cm_base.specs.Derived.{derived_text}
@@ -60,6 +60,10 @@ uses files job = not (is_some (stored_output files job))
 abbrev pub after_use : Files → ToolUse → Files
 after_use files job = if uses files job then with_record files (record_of_use job) else files
 
+-- the text that a use gives over a store as it stands: the output that the store has for it, or else its text
+abbrev pub text_over : Files → ToolUse → List ℕ
+text_over files job = unwrap_or (stored_output files job) (text_of_use job)
+
 -- a count of runs after one that is made or not
 abbrev pub ran_after : Bool → ℕ → ℕ
 ran_after true ran = one_more ran
@@ -72,12 +76,11 @@ pub record IsSmallUse (job : ToolUse) : Type 0 where
   pub rule : length job.rule ≤ 1048581
   pub input : length job.input ≤ 1048576
 
--- what a use answers and leaves in a folder that tells its files: where the unit's record, if it has one, is true, the
--- text; one run more exactly where it runs; and then the record. Where it doesn't run, nothing changes, whatever it
--- answers
+-- what a use answers and leaves in a folder that tells its files: its text over the store as it stands; one run more
+-- exactly where it runs; and then the record. Where it doesn't run, nothing changes, whatever it answers
 pub record Derives (job : ToolUse) (result : Result (List ℕ) DeriveFault) (old new : Option Files) (ran now : ℕ)
     : Type 0 where
-  pub text : Told old (λ files. HasTrueRecord files job.unit → IfOk result (λ text. text ≡ text_of_use job))
+  pub text : Told old (λ files. IfOk result (λ text. text ≡ text_over files job))
   pub runs : Told old (λ files. OnOk result (now ≡ ran_after (uses files job) ran))
   pub puts : Told old (λ files. OnOk result (new ≡ Some (after_use files job)))
   pub rests : Told old (λ files. uses files job ≡ false → (now ≡ ran) × (new ≡ old))
@@ -116,6 +119,16 @@ pub record DerivesBy (old new : ToolState) (unit input : List ℕ) (result : Res
 -- a use that follows one of the same tool, unit and input finds its record, whatever became of the text
 abbrev pub SecondUseRests : Type 0
 SecondUseRests = (files : Files) (job : ToolUse) → IsSmallUse job → uses (after_use files job) job ≡ false
+
+-- where the unit's record, if it has one, is true, the text over the store is the text that the rule derives
+abbrev pub TrueRecordsGiveTheText : Type 0
+TrueRecordsGiveTheText = (files : Files) (job : ToolUse) → HasTrueRecord files job.unit
+    → text_over files job ≡ text_of_use job
+
+-- .. and a use leaves the records of all units true
+abbrev pub UsesKeepRecordsTrue : Type 0
+UsesKeepRecordsTrue = (files : Files) (job : ToolUse) (unit : List ℕ) → HasTrueRecord files unit
+    → HasTrueRecord (after_use files job) unit
 
 -- ---- one run, without a look at the store
 

@@ -1,0 +1,4 @@
+pub mod Giving
+pub mod Good
+pub mod Naming
+pub mod Uses
