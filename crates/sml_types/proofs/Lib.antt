@@ -9,3 +9,4 @@ pub mod Looking
 pub mod Sorting
 pub mod Covering
 pub mod Freezing
+pub mod Ages

@@ -12,7 +12,7 @@ ghost use Rattle.type_nodes.specs.Nodes.{IsNode};
 ghost use Rattle.type_nodes.specs.Tables.{Has, store_of, state, whole, type_of, types_of, with_variable_of, IsFrontOf};
 ghost use Rattle.type_nodes.specs.Facts.{capped};
 ghost use Rattle.type_schemes.specs.Instances.{Extends, births_of};
-ghost use Rattle.type_schemes.specs.Schemes.{HaveAll, closed_scheme};
+ghost use Rattle.type_schemes.specs.Schemes.{HaveAll, closed_scheme, schemes_since, is_left, MayBeFirstOf, AreSchemesOf};
 ghost use Rattle.sml_types.specs.Covering.{CoversIn};
 ghost use Rattle.sml_types.specs.Looking.{IsLook, IsRecordType};
 ghost use Rattle.sml_types.specs.Unifying.{Grown, Sought, NamesOwn, IsMostGeneralFor};
@@ -28,7 +28,7 @@ use semantic_objects::{Scheme, Symbol, TyId, TyName};
 use std::alloc::Global;
 use std::marker::Model;
 use type_nodes::{Birth, Mark, Node, TypeBindings};
-use type_schemes::{generalise, instantiate};
+use type_schemes::{generalise, generalise_since, instantiate, left_since};
 
 /// Types with variables, and what stands for these.
 #[derive(Drop)]
@@ -214,6 +214,38 @@ impl TypeTable {
     {
         self.bindings.is_kept();
         Ok(generalise(&self.bindings, self.alloc, ty, kept)?)
+    }
+
+    /// The schemes of what some ids stand for, as a declaration closes them that began at a mark: over the variables that
+    /// were made since and stand in nothing that stands for an older one. In each they are numbered by first occurrence,
+    /// with the marks that they have now, and all others stay free. Rigid variables are closed as others are. No older
+    /// mark was undone since. It takes as long as what was made since the mark and the types are large.
+    /// The Definition of Standard ML (Revised), section 4.8.
+    pub fn generalise_since(&mut self, tys: &List<TyId>, since: &Mark) -> Result<List<Scheme>, NoMemory>
+        requires has { HaveAll self.old tys.now }
+        requires front { IsFrontOf since.now self.old }
+        ensures schemes { IfOk result (λ schemes. schemes ≡ schemes_since self.old (state since.now).next tys.now) }
+        ensures of { IfOk result (AreSchemesOf (state self.old)) }
+        ensures same { self.new ≡ self.old }
+    {
+        self.bindings.is_kept();
+        Ok(generalise_since(&self.bindings, self.alloc, tys, since)?)
+    }
+
+    /// The place of the first of some variables that such a declaration may not close: it is older, or stands in what
+    /// stands for an older one, or in what an id of `unclosed` stands for, whose type isn't closed.
+    pub fn left_since(
+        &mut self,
+        own: &List<TyId>,
+        unclosed: &List<TyId>,
+        since: &Mark,
+    ) -> Result<Option<usize>, NoMemory>
+        requires unclosed { HaveAll self.old unclosed.now }
+        requires front { IsFrontOf since.now self.old }
+        ensures left { IfOk result (MayBeFirstOf (is_left self.old (state since.now).next unclosed.now) own.now) }
+        ensures same { self.new ≡ self.old }
+    {
+        Ok(left_since(&self.bindings, self.alloc, own, unclosed, since)?)
     }
 
     /// An instance of a scheme: one new variable for each mark, in the order of the marks and with the mark, and the

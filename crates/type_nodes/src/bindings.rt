@@ -95,6 +95,14 @@ impl TypeBindings {
         self.trail.len()
     }
 
+    /// An entry of the trail: what happened to a variable.
+    pub fn entry(&self, at: usize) -> Entry
+        requires { at < length self.now.trail }
+        ensures { slice_get self.now.trail at ≡ Some result }
+    {
+        self.trail[at]
+    }
+
     /// How a variable was made.
     pub fn birth(&self, variable: usize) -> Birth
         requires { variable < length self.now.births }

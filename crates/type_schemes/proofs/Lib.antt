@@ -5,3 +5,5 @@ pub mod Noticing
 pub mod Reaching
 pub mod Numbering
 pub mod Flattening
+pub mod Walks
+pub mod Ages

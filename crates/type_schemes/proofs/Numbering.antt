@@ -1,8 +1,8 @@
 -- the variables that a type is closed over
-use Rattle.std.proofs.Common.{◌≡◌, ℕ, zero, suc, List, [], ◌∷◌, ◌++◌, length, refl, sym, ap, ap₂, ◌∙◌, Option, Some, None, Bool, true, false, cond, slice_get, nat_eq}
-use Rattle.std.proofs.lemmas.Bool.{eq-eqb, eqb-true}
+use Rattle.std.proofs.Common.{◌≡◌, ℕ, zero, suc, ◌<◌, List, [], ◌∷◌, ◌++◌, length, refl, sym, ap, ap₂, ◌∙◌, Option, Some, None, Bool, true, false, cond, arith, slice_get, nat_eq}
+use Rattle.std.proofs.lemmas.Bool.{eq-eqb, eqb-true, ltb-true}
 use Rattle.std.specs.Option.{is_some}
-use Rattle.std.specs.Prelude.{eqb, ◌||◌}
+use Rattle.std.specs.Prelude.{eqb, ltb, ◌||◌}
 use Rattle.semantic_objects.specs.declared.name.TyId.{TyId}
 use Rattle.semantic_objects.specs.declared.name.TyId.TheVariants as id
 use Rattle.semantic_objects.specs.declared.symbol.Symbol.TheVariants as symbol
@@ -13,9 +13,10 @@ use Rattle.unification.proofs.Closing.{found_all, found_only, found_same}
 use Rattle.type_nodes.specs.Tables.{Table, whole, whole_all}
 use Rattle.type_schemes.specs.declared.reach.Reached.{Reached}
 use Rattle.type_schemes.specs.declared.number.Numbers.{Numbers}
+use Rattle.type_schemes.specs.declared.kept.Kept.{Kept}
 use Rattle.type_schemes.specs.Schemes.{is_kept, closed_variables, all_variables}
 use Rattle.type_schemes.specs.Reaching.{place_in, variables_of, noticed_all, found, IsReached}
-use Rattle.type_schemes.specs.Numbering.{number_of, is_reached, AreNumbers, HasAllVariables}
+use Rattle.type_schemes.specs.Numbering.{number_of, is_reached, keeps, AreNumbers, HasAllVariables}
 use Rattle.type_schemes.proofs.Noticing.{noticed_among, noticed_only}
 use Rattle.type_schemes.proofs.Reaching.{IsSet, variable_among}
 
@@ -118,23 +119,31 @@ numbered_has t r kept vs h e i v k =
     (λ m. absurd (cc))
 
 -- those that a type is closed over
-pub numbers_closed : (t : Table) (outer r none : Reached) (kept : List TyId) (a : TyId) (vs : List ℕ) → IsReached t outer
-    → ((k : ℕ → Bool) → found k outer ≡ found_in_all k (whole_all t kept) []) → none.ids ≡ []
+pub numbers_but : (t : Table) (r none : Reached) (kept : ℕ → Bool) (a : TyId) (vs : List ℕ) → none.ids ≡ []
     → ((k : ℕ → Bool) → found k r ≡ found_in k (whole t a) (found k none))
-    → vs ≡ noticed_all (is_reached outer) (variables_of r.ids) [] → vs ≡ closed_variables t kept a
-numbers_closed t outer r none kept a vs h f e g k = k ∙ g (is_reached outer)
-    ∙ ap (λ z. found_in (is_reached outer) (whole t a) (noticed_all (is_reached outer) (variables_of z) [])) e
-    ∙ found_same (is_reached outer) (is_kept t kept) (whole t a) [] (λ n o. reached_is t outer kept h f n)
+    → vs ≡ noticed_all kept (variables_of r.ids) [] → vs ≡ found_in kept (whole t a) []
+numbers_but t r none kept a vs e g k = k ∙ g kept
+    ∙ ap (λ z. found_in kept (whole t a) (noticed_all kept (variables_of z) [])) e
+
+pub numbers_kept : (t : Table) (outer : Reached) (kept : ℕ → Bool) (ids : List TyId) (a : TyId) → IsReached t outer
+    → ((k : ℕ → Bool) → found k outer ≡ found_in_all k (whole_all t ids) []) → ((v : ℕ) → kept v ≡ is_reached outer v)
+    → found_in kept (whole t a) [] ≡ closed_variables t ids a
+numbers_kept t outer kept ids a h f g =
+    found_same kept (is_kept t ids) (whole t a) [] (λ n o. g n ∙ reached_is t outer ids h f n)
+
+-- no variable is below none
+below_none : (v : ℕ) → ltb v 0 ≡ false
+below_none v = either_way (ltb v 0) (λ e. absurd (let l : v < 0 = ltb-true v 0 e in omega (arith, l))) (λ e. e)
+
+pub keeps_some : (k : Kept) (v : ℕ) → k.older ≡ 0 → keeps k v ≡ is_some (place_in k.variables v)
+keeps_some k v e = ap (λ b. b || is_some (place_in k.variables v)) (ap (ltb v) e ∙ below_none v)
+
+pub keeps_none : (k : Kept) (v : ℕ) → k.older ≡ 0 → place_in k.variables v ≡ None → keeps k v ≡ false
+keeps_none k v e f = keeps_some k v e ∙ ap is_some f
 
 -- all variables
-nothing_reached : (t : Table) (none : Reached) (v : ℕ) → IsReached t none → none.ids ≡ [] → is_reached none v ≡ false
-nothing_reached t none v h e = either_way (is_reached none v)
-    (λ r. option_place (place_in none.variables v) r (λ p k.
-    let l : slice_get [] p ≡ Some (id.Variable v) = sym (ap (λ z. slice_get z p) e) ∙ h.variables v p k in absurd (cc)))
-    (λ r. r)
-
-pub numbers_all : (t : Table) (r none : Reached) (ids : List TyId) (vs : List ℕ) → IsReached t none → none.ids ≡ []
+pub numbers_all : (t : Table) (r : Reached) (kept : ℕ → Bool) (ids : List TyId) (vs : List ℕ) → ((v : ℕ) → kept v ≡ false)
     → ((k : ℕ → Bool) → found k r ≡ found_in_all k (whole_all t ids) [])
-    → vs ≡ noticed_all (is_reached none) (variables_of r.ids) [] → vs ≡ all_variables t ids
-numbers_all t r none ids vs h e f k = k ∙ f (is_reached none)
-    ∙ found_same (is_reached none) no_variable_kept (as_type (whole_all t ids)) [] (λ n o. nothing_reached t none n h e)
+    → vs ≡ noticed_all kept (variables_of r.ids) [] → vs ≡ all_variables t ids
+numbers_all t r kept ids vs e f k = k ∙ f kept
+    ∙ found_same kept no_variable_kept (as_type (whole_all t ids)) [] (λ n o. e n)

@@ -74,18 +74,18 @@ ends_more t old b p a h k (inl e) = h.ends p a e
 ends_more t old b p a h k (inr e) = (subst (Has t) e.1 k.0, subst (IsEnd t) e.1 k.1)
 
 -- where a place was set, and where it wasn't
-set_or : {P : Type 0} (n m p place : ℕ) (before : Option ℕ) → cond (nat_eq n m) (Some place) before ≡ Some p
+pub set_or : {P : Type 0} (n m p place : ℕ) (before : Option ℕ) → cond (nat_eq n m) (Some place) before ≡ Some p
     → (n ≡ m → place ≡ p → P) → (before ≡ Some p → P) → P
 set_or n m p place before h f g = either_way (nat_eq n m)
     (λ e. f (eqb-true n m e) (let k : Some place ≡ Some p = sym (ap (λ b. cond b (Some place) before) e) ∙ h in some_same place p k))
     (λ e. g (sym (ap (λ b. cond b (Some place) before) e) ∙ h))
 
-set_some : (n m place : ℕ) (before : Option ℕ) → is_some before ≡ true → is_some (cond (nat_eq n m) (Some place) before) ≡ true
+pub set_some : (n m place : ℕ) (before : Option ℕ) → is_some before ≡ true → is_some (cond (nat_eq n m) (Some place) before) ≡ true
 set_some n m place before h = either_way (nat_eq n m)
     (λ e. ap (λ b. is_some (cond b (Some place) before)) e)
     (λ e. ap (λ b. is_some (cond b (Some place) before)) e ∙ h)
 
-set_it : (n place : ℕ) (before : Option ℕ) → is_some (cond (nat_eq n n) (Some place) before) ≡ true
+pub set_it : (n place : ℕ) (before : Option ℕ) → is_some (cond (nat_eq n n) (Some place) before) ≡ true
 set_it n place before = ap (λ b. is_some (cond b (Some place) before)) (eq-eqb n n refl)
 
 abbrev pub IsSet : Places → Places → ℕ → ℕ → Type 0

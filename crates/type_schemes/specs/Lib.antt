@@ -3,3 +3,4 @@ pub mod Schemes
 pub mod Reaching
 pub mod Numbering
 pub mod Flattening
+pub mod Ages

@@ -5,10 +5,12 @@
 mod close;
 mod flat;
 mod instances;
+mod kept;
 mod number;
 mod places;
 mod reach;
+mod young;
 
-pub use close::generalise;
+pub use close::{generalise, generalise_since, left_since};
 pub use instances::instantiate;
 pub use number::variables_in;

@@ -5,8 +5,9 @@ ghost use Rattle.unification.specs.Closing.{noticed};
 ghost use Rattle.type_nodes.specs.Tables.{state};
 ghost use Rattle.type_schemes.specs.Schemes.{HaveAll, all_variables};
 ghost use Rattle.type_schemes.specs.Reaching.{variables_of, noticed_all};
-ghost use Rattle.type_schemes.specs.Numbering.{number_of, is_reached, AreNumbers, HasAllVariables};
+ghost use Rattle.type_schemes.specs.Numbering.{number_of, keeps, AreNumbers, HasAllVariables};
 
+use crate::kept::Kept;
 use crate::places::Places;
 use crate::reach::{Reached, reach};
 use cm_base::{List, NoMemory};
@@ -57,19 +58,22 @@ impl Numbers {
         }
     }
 
-    /// Gives a variable a number, unless it was reached from outside.
-    fn meet(&mut self, id: TyId, outer: &Reached) -> Result<(), NoMemory>
+    /// Gives a variable a number, unless it stays free.
+    fn meet(&mut self, id: TyId, kept: &Kept) -> Result<(), NoMemory>
         requires { AreNumbers self.old }
         ensures numbers { OnOk result (AreNumbers self.new) }
         ensures variables { OnOk result (
-            self.new.variables ≡ noticed_all (is_reached outer.now) (variables_of (id ∷ [])) self.old.variables
+            self.new.variables ≡ noticed_all (keeps kept.now) (variables_of (id ∷ [])) self.old.variables
             ) }
     {
         match id {
-            TyId::Variable(number) => match outer.variables.of(number) {
-                Some(_) => Ok(()),
-                None => Ok(self.notice(number)?),
-            },
+            TyId::Variable(number) => {
+                if kept.has(number) {
+                    Ok(())
+                } else {
+                    Ok(self.notice(number)?)
+                }
+            }
             TyId::Made(_) => Ok(()),
         }
     }
@@ -87,15 +91,15 @@ impl Numbers {
     }
 }
 
-/// Numbers the variables that were reached, but none that was reached from outside.
-pub(crate) fn number(alloc: Global, reached: &Reached, outer: &Reached) -> Result<Numbers, NoMemory>
+/// Numbers the variables that were reached, but none that stays free.
+pub(crate) fn number(alloc: Global, reached: &Reached, kept: &Kept) -> Result<Numbers, NoMemory>
     ensures numbers { IfOk result AreNumbers }
     ensures variables { IfOk result (λ numbers.
-        numbers.variables ≡ noticed_all (is_reached outer.now) (variables_of reached.now.ids) []) }
+        numbers.variables ≡ noticed_all (keeps kept.now) (variables_of reached.now.ids) []) }
 {
     let mut numbers = Numbers::new(alloc);
     for id in reached.ids.as_slice() {
-        numbers.meet(*id, outer)?;
+        numbers.meet(*id, kept)?;
     }
     Ok(numbers)
 }
@@ -110,7 +114,7 @@ pub fn variables_in(
     ensures { IfOk result (λ variables. variables ≡ all_variables table.now ids.now) }
 {
     let reached = reach(table, alloc, ids)?;
-    let nothing = Reached::new(alloc);
+    let nothing = Kept::nothing(alloc);
     let numbers = number(alloc, &reached, &nothing)?;
     Ok(numbers.variables)
 }

@@ -5,8 +5,10 @@ ghost use Rattle.std.specs.Prelude.{◌≡◌, ◌++◌, ◌<◌, [], ℕ, lengt
 ghost use Rattle.unification.specs.Closing.{found_in, found_in_all, noticed};
 ghost use Rattle.type_nodes.specs.Tables.{Table, Has, IsEnd, whole, whole_all};
 ghost use Rattle.type_schemes.specs.Schemes.{HaveAll};
+ghost use Rattle.type_schemes.specs.Numbering.{keeps, is_reached};
 ghost use Rattle.type_schemes.specs.Reaching.{StepHas, IsReached, IsPassed, AllPassed, MayBePlaceOf, StepTaken, IsOpened, entered, found};
 
+use crate::kept::Kept;
 use crate::places::Places;
 use cm_base::{List, NoMemory};
 use semantic_objects::TyId;
@@ -38,6 +40,16 @@ impl Reached {
             ids: List::new(alloc),
             nodes: Places::new(alloc),
             variables: Places::new(alloc),
+        }
+    }
+
+    /// The variables that were reached, to be kept.
+    pub(crate) fn into_kept(self) -> Kept
+        ensures { (v : ℕ) → keeps result v ≡ is_reached self v }
+    {
+        Kept {
+            older: 0,
+            variables: self.variables,
         }
     }
 
