@@ -118,7 +118,7 @@ impl EnvGraph {
         self.add_env(tables)
     }
 
-    /// Adds the environment of these tables with entries over them. Want of memory leaves the graph as it was.
+    /// Adds the environment of these tables, for a crate that walks the graph.with entries over them. Want of memory leaves the graph as it was.
     fn add_over(
         &mut self,
         tables: EnvTables,
@@ -198,8 +198,8 @@ impl EnvGraph {
         Ok(())
     }
 
-    /// Adds the environment of these tables.
-    pub(crate) fn add_env(&mut self, tables: EnvTables) -> Result<EnvId, NoMemory>
+    /// Adds the environment of these tables, for a crate that walks the graph.
+    pub fn add_env(&mut self, tables: EnvTables) -> Result<EnvId, NoMemory>
         requires { AreEnvTables self.old.items tables }
         ensures ok { IfOk result (λ id. Adds self.old self.new
             (Item.EnvItem (env_of_tables self.old.items tables)) id.place) }

@@ -64,6 +64,11 @@ impl EnvGraph {
         Ok(())
     }
 
+    /// The allocator of its nodes.
+    pub fn alloc(&self) -> Global {
+        self.alloc
+    }
+
     /// How many names were made since the last `enter`. It takes no memory.
     pub fn made(&self) -> u64
         ensures { result ≡ length self.now.made }
@@ -97,16 +102,16 @@ impl EnvGraph {
         Ok(name)
     }
 
-    /// The node at a place.
-    pub(crate) fn node_at(&self, place: usize) -> Option<&Node>
+    /// The node at a place, for a crate that walks the graph.
+    pub fn node_at(&self, place: usize) -> Option<&Node>
         ensures node { IfSome result (λ node. StandsAt self.now.items place node.now) }
         ensures none { IfNone result (at self.now.items place ≡ Item.Nowhere) }
     {
         self.nodes.get(place)
     }
 
-    /// Adds a node, and answers its place.
-    pub(crate) fn add(&mut self, node: Node) -> Result<usize, NoMemory>
+    /// Adds a node over earlier ones, and answers its place.
+    pub fn add(&mut self, node: Node) -> Result<usize, NoMemory>
         requires { IsNodeAfter self.old.items node }
         ensures ok { IfOk result (λ place. Adds self.old self.new (node_item self.old.items node) place) }
         ensures err { OnErr result (self.new ≡ self.old) }
@@ -117,14 +122,14 @@ impl EnvGraph {
     }
 
     /// How many nodes there are.
-    pub(crate) fn len(&self) -> usize
+    pub fn len(&self) -> usize
         ensures { result ≡ length self.now.items }
     {
         self.nodes.len()
     }
 
-    /// Takes away all nodes but so many.
-    pub(crate) fn cut(&mut self, len: usize)
+    /// Takes away all nodes but so many, and with them what their ids stood for: a call that made these takes them back.
+    pub fn cut(&mut self, len: usize)
         ensures { self.new ≡ cut len self.old }
     {
         let mut nodes = mem::replace(&mut self.nodes, List::new(self.alloc)).into_vec();
@@ -143,7 +148,7 @@ impl EnvGraph {
     }
 
     /// The facts kept at a place, and those of no type where there are none.
-    pub(crate) fn facts_at(&self, place: usize) -> Facts
+    pub fn facts_at(&self, place: usize) -> Facts
         ensures { result ≡ item_facts (at self.now.items place) }
     {
         match self.node_at(place) {

@@ -13,4 +13,5 @@ mod tops;
 pub use env_parts::Facts;
 pub use graph::EnvGraph;
 pub use id::{EnvId, FunId, SigId, TopId};
+pub use node::{EnvNode, FunNode, KeptType, KeptValue, Kind, Node, SigNode};
 pub use parts::{FunParts, NamedEnv, NamedType, NamedValue, SigParts};

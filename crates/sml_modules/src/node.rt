@@ -1,4 +1,5 @@
-//! The nodes of a graph. Each names its parts by the places of earlier nodes.
+//! The nodes of a graph. Each names its parts by the places of earlier nodes. They are public for crates that walk
+//! whole graphs.
 
 ghost use Rattle.std.specs.Prelude.{◌≡◌};
 ghost use Rattle.sml_modules.specs.Nodes.{node_kind, kept_facts};
@@ -9,44 +10,44 @@ use semantic_objects::{TyName, TypeStr, ValueEntry};
 
 /// A type structure with its facts.
 #[derive(Drop)]
-pub(crate) struct KeptType {
-    pub(crate) entry: TypeStr,
-    pub(crate) facts: Facts,
+pub struct KeptType {
+    pub entry: TypeStr,
+    pub facts: Facts,
 }
 
 /// A value with its facts.
 #[derive(Drop)]
-pub(crate) struct KeptValue {
-    pub(crate) entry: ValueEntry,
-    pub(crate) facts: Facts,
+pub struct KeptValue {
+    pub entry: ValueEntry,
+    pub facts: Facts,
 }
 
 /// An environment with its facts.
 #[derive(Drop)]
-pub(crate) struct EnvNode {
-    pub(crate) tables: EnvTables,
-    pub(crate) facts: Facts,
+pub struct EnvNode {
+    pub tables: EnvTables,
+    pub facts: Facts,
 }
 
 /// A signature.
 #[derive(Drop)]
-pub(crate) struct SigNode {
-    pub(crate) bound: List<TyName>,
-    pub(crate) env: usize,
+pub struct SigNode {
+    pub bound: List<TyName>,
+    pub env: usize,
 }
 
 /// A functor or a signature of functors.
 #[derive(Drop)]
-pub(crate) struct FunNode {
-    pub(crate) bound: List<TyName>,
-    pub(crate) param: usize,
-    pub(crate) further: List<TyName>,
-    pub(crate) result: usize,
+pub struct FunNode {
+    pub bound: List<TyName>,
+    pub param: usize,
+    pub further: List<TyName>,
+    pub result: usize,
 }
 
 /// A node.
 #[derive(Drop)]
-pub(crate) enum Node {
+pub enum Node {
     TypeStr(KeptType),
     Value(KeptValue),
     Env(EnvNode),
@@ -57,7 +58,7 @@ pub(crate) enum Node {
 
 /// Of which kind a node is, or that there is none.
 #[derive(Clone, Copy)]
-pub(crate) enum Kind {
+pub enum Kind {
     Nothing,
     TypeStr,
     Value,
@@ -68,7 +69,8 @@ pub(crate) enum Kind {
 }
 
 impl Node {
-    pub(crate) fn kind(&self) -> Kind
+    /// Of which kind the node is.
+    pub fn kind(&self) -> Kind
         ensures { result ≡ node_kind self.now }
     {
         match self {
@@ -82,7 +84,7 @@ impl Node {
     }
 
     /// The facts kept with a node, and those of no type where none are kept.
-    pub(crate) fn facts(&self) -> Facts
+    pub fn facts(&self) -> Facts
         ensures { result ≡ kept_facts self.now }
     {
         match self {

@@ -22,7 +22,7 @@ use semantic_objects::{TypeStr, ValueEntry};
 
 impl EnvGraph {
     /// The tables of an environment. An id of another node, which no call gives, is refused as want of memory is.
-    pub(crate) fn env_tables(&self, env: EnvId) -> Result<&EnvTables, NoMemory>
+    pub fn env_tables(&self, env: EnvId) -> Result<&EnvTables, NoMemory>
         requires { HasEnv self.now env }
         ensures { IfOk result (λ tables. ReadsEnv self.now.items (env_at self.now env) tables.now) }
     {
@@ -36,7 +36,7 @@ impl EnvGraph {
     }
 
     /// The environment and the tables of a top.
-    pub(crate) fn top_tables(&self, top: TopId) -> Result<&TopTables, NoMemory>
+    pub fn top_tables(&self, top: TopId) -> Result<&TopTables, NoMemory>
         requires { HasTop self.now top }
         ensures { IfOk result (λ tables. ReadsTop self.now.items (top_at self.now top) tables.now) }
     {
