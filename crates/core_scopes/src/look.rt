@@ -5,6 +5,7 @@ ghost use Rattle.std.specs.Option.{option_map};
 ghost use Rattle.semantic_objects.specs.declared.entry.ValueEntry.{ValueEntry};
 ghost use Rattle.semantic_objects.specs.Tables.{entry};
 ghost use Rattle.semantic_objects.specs.Environments.{structures, types, values};
+ghost use Rattle.sml_modules.specs.Items.{function_of};
 ghost use Rattle.sml_modules.specs.Graphs.{env_at, HasEnv, FindsEnv};
 ghost use Rattle.name_trails.specs.Trails.{last_entry};
 ghost use Rattle.core_scopes.specs.Scopes.{seen, entry_of, IsScopeOf};
@@ -13,8 +14,8 @@ use crate::scope::Scope;
 use crate::value::ValueInScope;
 use cm_base::{NoMemory, Text};
 use env_parts::copy_type;
-use semantic_objects::TypeStr;
-use sml_modules::{EnvGraph, EnvId};
+use semantic_objects::{TypeFn, TypeStr};
+use sml_modules::{EnvGraph, EnvId, copy_function};
 
 impl<V: Copy + Drop> Scope<V> {
     /// The structure that was bound under a name.
@@ -48,6 +49,18 @@ impl<V: Copy + Drop> Scope<V> {
         match self.types.find(name) {
             Some(entry) => Ok(Some(copy_type(self.alloc, entry)?)),
             None => g.find_type(self.below, name),
+        }
+    }
+
+    /// The type function of that name. No constructor is copied, however many there are.
+    pub fn find_type_function(&self, g: &EnvGraph, name: &Text) -> Result<Option<TypeFn>, NoMemory>
+        requires { IsScopeOf g.now self.now }
+        ensures { IfOk result (λ found. (read : V → ValueEntry)
+            → found ≡ option_map function_of (entry name.now (types (seen g.now read self.now)))) }
+    {
+        match self.types.find(name) {
+            Some(entry) => Ok(Some(copy_function(self.alloc, &entry.function)?)),
+            None => g.find_type_function(self.below, name),
         }
     }
 

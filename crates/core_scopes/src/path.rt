@@ -4,6 +4,7 @@ ghost use Rattle.std.specs.Prelude.{◌≡◌, IfOk};
 ghost use Rattle.std.specs.Option.{option_map};
 ghost use Rattle.semantic_objects.specs.declared.entry.ValueEntry.{ValueEntry};
 ghost use Rattle.semantic_objects.specs.Environments.{structures, types, values};
+ghost use Rattle.sml_modules.specs.Items.{function_of};
 ghost use Rattle.sml_modules.specs.Graphs.{env_at, HasEnv, FindsEnv};
 ghost use Rattle.static_semantics.specs.Inferring.{found_at};
 ghost use Rattle.core_scopes.specs.Scopes.{seen, entry_of, IsScopeOf};
@@ -13,7 +14,7 @@ use crate::look::value_of_env;
 use crate::scope::Scope;
 use crate::value::ValueInScope;
 use cm_base::{NoMemory, Text};
-use semantic_objects::TypeStr;
+use semantic_objects::{TypeFn, TypeStr};
 use sml_modules::{EnvGraph, EnvId};
 
 /// The structure to which names lead from a structure on, each of the one before it.
@@ -65,6 +66,28 @@ impl<V: Copy + Drop> Scope<V> {
         }
         match self.find_long_structure(g, front)? {
             Some(env) => g.find_type(env, last),
+            None => Ok(None),
+        }
+    }
+
+    /// The type function of a long name: none where a part is missing. No constructor is copied, however many there are.
+    pub fn find_long_type_function(
+        &self,
+        g: &EnvGraph,
+        parts: &[Text],
+    ) -> Result<Option<TypeFn>, NoMemory>
+        requires { IsScopeOf g.now self.now }
+        ensures { IfOk result (λ found. (read : V → ValueEntry)
+            → found ≡ option_map function_of (found_at types parts.now (seen g.now read self.now))) }
+    {
+        let Some((last, front)) = parts.split_last() else {
+            return Ok(None);
+        };
+        if front.is_empty() {
+            return self.find_type_function(g, last);
+        }
+        match self.find_long_structure(g, front)? {
+            Some(env) => g.find_type_function(env, last),
             None => Ok(None),
         }
     }

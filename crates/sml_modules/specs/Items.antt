@@ -1,5 +1,6 @@
 -- What the nodes of a graph stand for, each as a tree.
 use Rattle.std.specs.Prelude.{ℕ, List, [], map, get_or}
+use Rattle.semantic_objects.specs.declared.entry.TypeFn.{TypeFn}
 use Rattle.semantic_objects.specs.declared.entry.TypeStr.{TypeStr}
 use Rattle.semantic_objects.specs.declared.entry.ValueEntry.{ValueEntry}
 use Rattle.semantic_objects.specs.declared.entry.VidStatus.TheVariants.{Variable}
@@ -28,6 +29,10 @@ at items p = get_or items p Item.Nowhere
 abbrev pub as_type : Item → TypeStr
 as_type (Item.TypeItem entry) = entry
 as_type _ = record { function = record { arity = 0; body = Tree.Bound 0 }; cons = [] }
+
+-- the type function of a type structure
+abbrev pub function_of : TypeStr → TypeFn
+function_of str = str.function
 
 abbrev pub as_value : Item → ValueEntry
 as_value (Item.ValueItem entry) = entry

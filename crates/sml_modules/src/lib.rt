@@ -15,3 +15,4 @@ pub use graph::EnvGraph;
 pub use id::{EnvId, FunId, SigId, TopId};
 pub use node::{EnvNode, FunNode, KeptType, KeptValue, Kind, Node, SigNode};
 pub use parts::{FunParts, NamedEnv, NamedType, NamedValue, SigParts};
+pub use reading::copy_function;

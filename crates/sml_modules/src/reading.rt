@@ -1,6 +1,7 @@
 //! What stands in environments and tops, by name, and what signatures and functors are made of.
 
 ghost use Rattle.std.specs.Prelude.{◌≡◌, ◌↔◌, IfOk, IsTrue};
+ghost use Rattle.std.specs.Option.{option_map};
 ghost use Rattle.semantic_objects.specs.Symbols.{AreRising};
 ghost use Rattle.semantic_objects.specs.Tables.{entry, names_of};
 ghost use Rattle.semantic_objects.specs.Environments.{structures, types, values};
@@ -11,6 +12,7 @@ ghost use Rattle.sml_modules.specs.Graphs.{HasEnv, HasSignature, HasFunctor, Has
 ghost use Rattle.sml_modules.specs.Graphs.{FindsEnv, FindsSignature, FindsFunctor, IsIdOf};
 ghost use Rattle.sml_modules.specs.Graphs.{HasSigParts, HasFunParts, signature_of, functor_of};
 ghost use Rattle.sml_modules.specs.Adding.{ReadsEnv, ReadsTop};
+ghost use Rattle.sml_modules.specs.Items.{function_of};
 
 use crate::graph::EnvGraph;
 use crate::id::{EnvId, FunId, SigId, TopId};
@@ -18,7 +20,18 @@ use crate::node::{Kind, Node};
 use crate::parts::{FunParts, SigParts};
 use cm_base::{List, NoMemory, Text};
 use env_parts::{EnvTables, Facts, TopTables, copy_names, copy_type, copy_value};
-use semantic_objects::{TypeStr, ValueEntry};
+use semantic_objects::{TypeFn, TypeStr, ValueEntry};
+use std::alloc::Global;
+
+/// The same type function.
+pub fn copy_function(alloc: Global, function: &TypeFn) -> Result<TypeFn, NoMemory>
+    ensures { IfOk result (λ copy. copy ≡ function.now) }
+{
+    Ok(TypeFn {
+        arity: function.arity,
+        body: function.body.copy(alloc)?,
+    })
+}
 
 impl EnvGraph {
     /// The tables of an environment. An id of another node, which no call gives, is refused as want of memory is.
@@ -104,6 +117,21 @@ impl EnvGraph {
         }
     }
 
+    /// The type function of the type structure of that name. No constructor is copied, however many there are.
+    pub fn find_type_function(&self, env: EnvId, name: &Text) -> Result<Option<TypeFn>, NoMemory>
+        requires { HasEnv self.now env }
+        ensures { IfOk result (λ found. found ≡ option_map function_of (entry name.now (types (env_at self.now env)))) }
+    {
+        let tables = self.env_tables(env)?;
+        match tables.types.get(name) {
+            Some(place) => {
+                let function = self.function_at(place)?;
+                Ok(Some(function))
+            }
+            None => Ok(None),
+        }
+    }
+
     /// The value of that name.
     pub fn find_value(&self, env: EnvId, name: &Text) -> Result<Option<ValueEntry>, NoMemory>
         requires { HasEnv self.now env }
@@ -126,6 +154,19 @@ impl EnvGraph {
         match self.node_at(place) {
             Some(node) => match node {
                 Node::TypeStr(kept) => copy_type(self.alloc, &kept.entry),
+                _ => Err(NoMemory),
+            },
+            None => Err(NoMemory),
+        }
+    }
+
+    /// The type function of the type structure at a place.
+    fn function_at(&self, place: usize) -> Result<TypeFn, NoMemory>
+        ensures { IfOk result (λ function. function ≡ function_of (as_type (at self.now.items place))) }
+    {
+        match self.node_at(place) {
+            Some(node) => match node {
+                Node::TypeStr(kept) => copy_function(self.alloc, &kept.entry.function),
                 _ => Err(NoMemory),
             },
             None => Err(NoMemory),
