@@ -15,4 +15,5 @@ pub mod SeenBodies
 pub mod ClosingAlike
 pub mod CoreAlike
 pub mod PutAlike
+pub mod Naming
 pub mod Promised

@@ -15,6 +15,7 @@ use Rattle.static_semantics.specs.Growing.{TyIn, IsReady}
 use Rattle.inference_laws.specs.Nodes.{Nodes, TyOf, EnvOf, ScopeOf, IsOf, ExpOf, DecOf, PatOf, Makes, below_number}
 use Rattle.inference_laws.specs.Spelling.{TySpelt, PatSpelt, ExpSpelt, RulesSpelt, DecSpelt, DatSpelt, ExSpelt}
 use Rattle.inference_laws.specs.Alike.{RowsAlike, Both, SeenAlike, FirmEnv, SameTy, in_env, ExpsAlike, PatsAlike, DecsAlike}
+use Rattle.inference_laws.specs.Naming.{NamedEnv}
 use Rattle.inference_laws.specs.WellFormed.{well_formed, AreKnown, KnowsMore}
 
 -- the unit's names in the scope and the state have numbers below the next one
@@ -105,3 +106,14 @@ pub record HangsOnWhatIsSeen : Type 0 where
 pub record SeesWhatIsPut : Type 0 where
   pub one : (s : Substitution) (e f : Env) → SeenAlike s e f → put_env s e ≡ put_env s f
   pub alike : (s : Substitution) (e f : Env) → FirmEnv e → FirmEnv f → put_env s e ≡ put_env s f → SeenAlike s e f
+
+-- where the names of the environment and those that a declaration has are such as one asks for, so are those of what it
+-- makes: of values, types, constructors and structures
+pub record KeepsNames : Type 0 where
+  pub dec : (good : List ℕ → Bool) (depth : ℕ) (sc : Scope) (dec : DecPhrase) (st : Progress) → DecSpelt good dec
+      → NamedEnv good sc.env → Given (λ r. NamedEnv good r.0) (infer_dec depth sc dec st)
+  pub datatypes : (good : List ℕ → Bool) (sc : Scope) (refused : List (List ℕ)) (binds : List DatPhrase)
+      (st : Progress) → AllItems (DatSpelt good) binds
+      → Given (λ r. NamedEnv good r.0) (datatypes_of sc refused binds st)
+  pub exceptions : (good : List ℕ → Bool) (sc : Scope) (binds : List ExPhrase) → AllItems (ExSpelt good) binds
+      → Given (NamedEnv good) (exceptions_of sc binds)
