@@ -156,7 +156,8 @@ PatNamed good r = BoundNamed good r.1
 
 pat_sized : (good : List ℕ → Bool) (sc : Scope) (at : At) (r : Ty × Bound × Progress) → PatNamed good r
     → Given (PatNamed good) (sized_pat sc at r)
-pat_sized good sc at r h = given_where (PatNamed good) (is_too_large (put r.2.types.stands r.0)) 38 sc at (λ u. gives r) h
+pat_sized good sc at r h = given_where (PatNamed good) (is_too_large (put r.2.types.stands r.0)) 38 sc at
+    (λ u. gives r) h
 
 bind_named : (good : List ℕ → Bool) (sc : Scope) (at : At) (name : List ℕ) (bound : Bound) (st : Progress)
     → IsGood good name → BoundNamed good bound → Given (PatNamed good) (bind_variable sc at name bound st)
@@ -191,7 +192,8 @@ applied_named : (good : List ℕ → Bool) (depth : ℕ) (sc : Scope) (at : At) 
 applied_named good depth sc at value arg k =
     let o : Option (Ty × Ty) = arrow_in value.scheme.body (new_instance value.scheme arg.2).0 in
     given_where (PatNamed good) (not (is_con value.status)) 34 sc at _
-    (given_then (λ v. Unit {0}) (PatNamed good) (with_argument sc at o) _ (given_any (with_argument sc at o)) (λ parts _.
+    (given_then (λ v. Unit {0}) (PatNamed good) (with_argument sc at o) _ (given_any (with_argument sc at o))
+    (λ parts _.
     given_then (λ v. Unit {0}) (PatNamed good)
     (unify_at depth sc at parts.0 arg.0 (new_instance value.scheme arg.2).1) _
     (given_any (unify_at depth sc at parts.0 arg.0 (new_instance value.scheme arg.2).1)) (λ u _. k)))
@@ -259,7 +261,8 @@ binds_named : (good : List ℕ → Bool) (depth : ℕ) (sc : Scope) (rules : Rul
 binds_named good depth sc Rules.EndOfRules bound groups st p h k = (h, k)
 binds_named good depth sc (Rules.Rule pat exp rest) bound groups st p h k =
     let Q : Bound × List Group × Progress → Type 0 = λ r. BoundNamed good r.0 × GroupsNamed good r.1 in
-    given_then (PatNamed good) Q (infer_pat depth sc pat bound st) _ (pat_named good depth sc pat bound st p.0 h) (λ a i.
+    given_then (PatNamed good) Q (infer_pat depth sc pat bound st) _ (pat_named good depth sc pat bound st p.0 h)
+    (λ a i.
     given_then (λ v. Unit {0}) Q (infer_exp depth sc exp a.2) _ (given_any (infer_exp depth sc exp a.2)) (λ e _.
     given_then (λ v. Unit {0}) Q (unify_at depth sc (pat_at pat) a.0 e.0 e.1) _
     (given_any (unify_at depth sc (pat_at pat) a.0 e.0 e.1)) (λ u _.
@@ -274,7 +277,8 @@ rec_pats_named : (good : List ℕ → Bool) (depth : ℕ) (sc : Scope) (rules : 
 rec_pats_named good depth sc Rules.EndOfRules made bound st p h k = h
 rec_pats_named good depth sc (Rules.Rule pat exp rest) made bound st p h k =
     let Q : RecPats × Progress → Type 0 = λ r. RecsNamed good r.0 in
-    given_then (PatNamed good) Q (infer_pat depth sc pat bound st) _ (pat_named good depth sc pat bound st p.0 k) (λ a i.
+    given_then (PatNamed good) Q (infer_pat depth sc pat bound st) _ (pat_named good depth sc pat bound st p.0 k)
+    (λ a i.
     given_where Q (not (is_variable sc.env pat)) 34 sc (pat_at pat) _
     (rec_pats_named good depth sc rest (made ++ (a.0, added bound a.1) ∷ []) a.1 a.2 p.2
     (items_after (λ (row : Ty × Bound). BoundNamed good row.1) made ((a.0, added bound a.1) ∷ []) h
@@ -339,7 +343,8 @@ infer_cons_named good sc refused [] before made p k = k
 infer_cons_named good sc refused (con ∷ cons) before made p k =
     given_where (ConsNamed good) (is_one_of refused con.name.text) 34 sc (name_at con.name) _
     (given_where (ConsNamed good) (is_named con.name.text (before ++ made)) 40 sc (name_at con.name) _
-    (given_then (λ v. Unit {0}) (ConsNamed good) (infer_optional_ty sc con.arg) _ (given_any (infer_optional_ty sc con.arg))
+    (given_then (λ v. Unit {0}) (ConsNamed good) (infer_optional_ty sc con.arg) _
+    (given_any (infer_optional_ty sc con.arg))
     (λ arg _. infer_cons_named good sc refused cons before (made ++ (con.name.text, arg) ∷ []) p.1
     (rows_after good NamedArg made ((con.name.text, arg) ∷ []) k (p.0.0, tt, tt)))))
 
@@ -350,7 +355,8 @@ dats_named good sc refused [] made st p k = k
 dats_named good sc refused (bind ∷ binds) made st p k =
     let Q : List Dat × Progress → Type 0 = λ r. AllItems (DatNamed good) r.0 in
     given_then (λ v. Unit {0}) Q (listed sc bind.tyvars [] st) _ (given_any (listed sc bind.tyvars [] st)) (λ r _.
-    given_then (ConsNamed good) Q (infer_cons (with_written_alone (as_written r.0) sc) refused bind.cons (cons_of made) [])
+    given_then (ConsNamed good) Q (infer_cons (with_written_alone (as_written r.0) sc) refused bind.cons (cons_of made)
+    [])
     _ (infer_cons_named good (with_written_alone (as_written r.0) sc) refused bind.cons (cons_of made) [] p.0.1 tt)
     (λ cons m.
     let dat : Dat = record { name = bind.name.text; variables = r.0; cons = cons } in
@@ -449,7 +455,8 @@ mutual
       (infer_binds depth inner rules [] [] own.1) _ (binds_named good depth inner rules [] [] own.1 p.0 tt tt) (λ b k.
       given_then (λ r. RecsNamed good r.0) (DecNamed good) (infer_rec_pats depth inner recs [] b.0 b.2) _
       (rec_pats_named good depth inner recs [] b.0 b.2 p.1 tt k.0) (λ r l.
-      given_then (λ v. Unit {0}) (DecNamed good) (infer_rec_exps depth (under_bound (rec_bound r.0) inner) recs r.0 r.1) _
+      given_then (λ v. Unit {0}) (DecNamed good) (infer_rec_exps depth (under_bound (rec_bound r.0) inner) recs r.0
+      r.1) _
       (given_any (infer_rec_exps depth (under_bound (rec_bound r.0) inner) recs r.0 r.1)) (λ u _.
       let groups : List Group = b.1 ++ rec_groups sc.env recs r.0 in
       let kept : ℕ → Bool = is_kept sc u.types.stands in

@@ -74,7 +74,8 @@ pub record KeepsWellFormed : Type 0 where
       → Given (λ r. GivesWellFormed good sc.home known st r.1 (DecOf r)) (datatypes_of sc refused binds st)
 
 -- inference hangs on the environment as it is seen through the state: in another one that is seen alike it gives
--- nothing, or the same diagnostic, or the same state with what is one through it. Types, and so what a `datatype` makes,
+-- nothing, or the same diagnostic, or the same state with what is one through it. Types, and so what a `datatype`
+-- makes,
 -- are even the same
 abbrev pub Any : ℕ → Type 0
 Any n = Unit {0}

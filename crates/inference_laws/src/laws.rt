@@ -1,6 +1,7 @@
 //! The laws, so that crates above have them from a call.
 
-ghost use Rattle.inference_laws.specs.Promises.{MakesOfGiven, KeepsWellFormed, KeepsNames, HangsOnWhatIsSeen, SeesWhatIsPut};
+ghost use Rattle.inference_laws.specs.Promises.{MakesOfGiven, KeepsWellFormed, KeepsNames};
+ghost use Rattle.inference_laws.specs.Promises.{HangsOnWhatIsSeen, SeesWhatIsPut};
 
 /// What inference makes is made of what it is given, and of type names that it numbers one after another.
 #[tactic(auto, using(crate::proofs::Promised::makes_of_given))]
