@@ -70,7 +70,8 @@ both_plain G R Q (Some (Ok x)) (Some (Err e)) f g h k l = absurd k
 both_plain G R Q (Some (Ok x)) (Some (Ok y)) f g h k l = l x y h k
 
 -- answers of three parts
-abbrev pub AtState3 : {A B : Type 0} → (Progress → A → A → B → B → Type 0) → A × B × Progress → A × B × Progress → Type 0
+abbrev pub AtState3 : {A B : Type 0} → (Progress → A → A → B → B → Type 0) → A × B × Progress → A × B × Progress → Type
+    0
 AtState3 R x y = (x.2 ≡ y.2) × R x.2 x.0 y.0 x.1 y.1
 
 pub both_then3 : {A B C : Type 0} (G : A × B × Progress → Type 0) (R : Progress → A → A → B → B → Type 0)

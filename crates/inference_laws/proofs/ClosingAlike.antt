@@ -47,7 +47,8 @@ exceptions_in_alike s sc f [] made other h k = k
 exceptions_in_alike s sc f (bind ∷ binds) made other h k =
     both_where (SeenAlike s) (is_one_of reserved_constructors bind.name.text)
     (is_one_of reserved_constructors bind.name.text) 34 sc f (name_at bind.name) _ _ refl
-    (both_where (SeenAlike s) (is_some (entry bind.name.text (values made))) (is_some (entry bind.name.text (values other)))
+    (both_where (SeenAlike s) (is_some (entry bind.name.text (values made)))
+    (is_some (entry bind.name.text (values other)))
     40 sc f (name_at bind.name) _ _ (found_some (ValuesAlike s) (entry bind.name.text (values made))
     (entry bind.name.text (values other)) (rows_alike_found (ValuesAlike s) bind.name.text (values made) (values other)
     (alike_values (ValuesAlike s) TypesSame made other k)))
@@ -71,8 +72,10 @@ replication_alike s sc f name long h =
     (known (in_env f sc) long (found_at types long.parts f)) _ _
     (given_any (known sc long (found_at types long.parts sc.env)))
     (both_known TypesSame sc f long (found_at types long.parts sc.env) (found_at types long.parts f)
-    (alike_found (ValuesAlike s) TypesSame TypesSame types (alike_types (ValuesAlike s) TypesSame) long.parts sc.env f h))
-    (λ x y _ k. subst (λ z. SeenAlike s (with_datatype name.text x empty_env) (with_datatype name.text z empty_env)) k.same
+    (alike_found (ValuesAlike s) TypesSame TypesSame types (alike_types (ValuesAlike s) TypesSame) long.parts sc.env f
+    h))
+    (λ x y _ k. subst (λ z. SeenAlike s (with_datatype name.text x empty_env) (with_datatype name.text z empty_env))
+    k.same
     (datatype_itself s name.text x empty_env k.shaped (alike_nothing (ValuesAlike s) TypesSame)))
 
 open_in_alike : (s : Substitution) (sc : Scope) (f : Env) (longs : List LongName) (made other : Env)
@@ -84,7 +87,8 @@ open_in_alike s sc f (long ∷ longs) made other h k =
     (known (in_env f sc) long (found_at structures long.parts f)) _ _
     (given_any (known sc long (found_at structures long.parts sc.env)))
     (both_known (SeenAlike s) sc f long (found_at structures long.parts sc.env) (found_at structures long.parts f)
-    (alike_found (ValuesAlike s) TypesSame (SeenAlike s) structures (alike_structures (ValuesAlike s) TypesSame) long.parts
+    (alike_found (ValuesAlike s) TypesSame (SeenAlike s) structures (alike_structures (ValuesAlike s) TypesSame)
+    long.parts
     sc.env f h))
     (λ x y _ l. open_in_alike s sc f longs (modified_by made x) (modified_by other y) h
     (alike_modified (ValuesAlike s) TypesSame made other x y k l))
@@ -161,7 +165,8 @@ left_same : (kept other : ℕ → Bool) (s : State) (made : Env) (own : List (Li
     → left_over kept s made own ≡ left_over other s made own
 left_same kept other s made [] h = refl
 left_same kept other s made (row ∷ rows) h =
-    ap₂ (λ b o. cond (b || free_in_env row.1 s.stands made) (Some row.0) o) (h row.1) (left_same kept other s made rows h)
+    ap₂ (λ b o. cond (b || free_in_env row.1 s.stands made) (Some row.0) o) (h row.1)
+    (left_same kept other s made rows h)
 
 none_left_same : (sc : Scope) (f : Env) (at : At) (x : Env × Progress) (o : Option (List ℕ))
     → none_left sc at x o ≡ none_left (in_env f sc) at x o

@@ -92,7 +92,8 @@ exp_sized sc f at a b u h = both_where ExpsAlike (is_too_large (put u.types.stan
 
 dec_sized : (sc : Scope) (f : Env) (at : At) (a b : Env) (u : Progress) → DecAt u a b
     → Both DecsAlike (sized_dec sc at (a, u)) (sized_dec (in_env f sc) at (b, u))
-dec_sized sc f at a b u h = both_where DecsAlike (has_too_large u.types.stands a) (has_too_large u.types.stands b) 38 sc f
+dec_sized sc f at a b u h = both_where DecsAlike (has_too_large u.types.stands a) (has_too_large u.types.stands b) 38
+    sc f
     at _ _ (large_same u.types.stands a b h) (refl, h)
 
 -- ---- steps of expressions
@@ -105,7 +106,8 @@ known_alike : (sc : Scope) (f : Env) (long : LongName) (st : Progress) → IsRea
 known_alike sc f long st h k =
     both_plain (λ v. Unit {0}) (ValuesAlike st.types.stands) ExpsAlike
     (known sc long (found_at values long.parts sc.env)) (known (in_env f sc) long (found_at values long.parts f)) _ _
-    (given_any (known sc long (found_at values long.parts sc.env))) (value_alike st.types.stands sc f long k) (λ v w _ l. (
+    (given_any (known sc long (found_at values long.parts sc.env))) (value_alike st.types.stands sc f long k)
+    (λ v w _ l. (
       instance_state_same v.scheme w.scheme st l.marks,
       same_later st (new_instance v.scheme st).1 (new_instance v.scheme st).0 (new_instance w.scheme st).0
           (grows_instance Any v.scheme st h.fit h.new).touches (instance_same v.scheme w.scheme st l.body),
@@ -117,7 +119,8 @@ applied_same : (depth : ℕ) (sc : Scope) (f : Env) (at : At) (a b c d : Ty) (st
 applied_same depth sc f at a b c d st h k =
     both_same (unify_at depth sc at a (arrow_ty b (new_variable st).0) (new_variable st).1)
     (unify_at depth (in_env f sc) at c (arrow_ty d (new_variable st).0) (new_variable st).1) _ _
-    (unify_same depth sc f at a (arrow_ty b (new_variable st).0) c (arrow_ty d (new_variable st).0) (new_variable st).1 h
+    (unify_same depth sc f at a (arrow_ty b (new_variable st).0) c (arrow_ty d (new_variable st).0) (new_variable st).1
+    h
     (arrow_same st.types.stands b (new_variable st).0 d (new_variable st).0 k refl)) (λ u. refl)
 
 joined_alike : (depth : ℕ) (sc : Scope) (f : Env) (at : At) (a b t : Ty) (st : Progress) → IsReady Any sc st
@@ -250,7 +253,8 @@ mutual
   exp_alike depth sc f (ExpPhrase.Handle exp rules at) st h k =
       both_then (ExpIn Any st) ExpAt ExpsAlike (infer_exp depth sc exp st) (infer_exp depth (in_env f sc) exp st) _ _
       (exp_grows Any depth sc exp st h) (exp_alike depth sc f exp st h k) (λ a b u g l.
-      both_then (ExpIn Any u) ExpAt ExpsAlike (infer_match depth sc rules u) (infer_match depth (in_env f sc) rules u) _ _
+      both_then (ExpIn Any u) ExpAt ExpsAlike (infer_match depth sc rules u) (infer_match depth (in_env f sc) rules u)
+      _ _
       (match_grows Any depth sc rules u (ready_later Any sc st u h g.0))
       (match_alike depth sc f rules u (ready_later Any sc st u h g.0) (seen_later st u sc.env f g.0.touches k))
       (λ m n v i j.
@@ -265,16 +269,19 @@ mutual
       (raised_same depth sc f at a b u l) (given_any (raised depth sc at a u)) (λ r _.
       exp_sized sc f at r.0 r.0 r.1 refl))
   exp_alike depth sc f (ExpPhrase.Fn rules at) st h k =
-      both_then (λ r. Unit {0}) ExpAt ExpsAlike (infer_match depth sc rules st) (infer_match depth (in_env f sc) rules st)
+      both_then (λ r. Unit {0}) ExpAt ExpsAlike (infer_match depth sc rules st)
+      (infer_match depth (in_env f sc) rules st)
       _ _ (given_any (infer_match depth sc rules st)) (match_alike depth sc f rules st h k)
       (λ a b u _ l. exp_sized sc f at a b u l)
 
   pub exp_fields_alike : (depth : ℕ) (sc : Scope) (f : Env) (fields : ExpFields) (made other : Table Ty) (st : Progress)
       → IsReady Any sc st → SeenAlike st.types.stands sc.env f → RowsAlike (SameTy st.types.stands) made other
-      → Both FieldsAlike (infer_exp_fields depth sc fields made st) (infer_exp_fields depth (in_env f sc) fields other st)
+      → Both FieldsAlike (infer_exp_fields depth sc fields made st) (infer_exp_fields depth (in_env f sc) fields other
+      st)
   exp_fields_alike depth sc f ExpFields.EndOfFields made other st h k l = (refl, l)
   exp_fields_alike depth sc f (ExpFields.Field label exp rest) made other st h k l =
-      both_where FieldsAlike (is_some (entry label.text made)) (is_some (entry label.text other)) 40 sc f (name_at label)
+      both_where FieldsAlike (is_some (entry label.text made)) (is_some (entry label.text other)) 40 sc f
+      (name_at label)
       _ _ (found_some (SameTy st.types.stands) (entry label.text made) (entry label.text other)
       (rows_alike_found (SameTy st.types.stands) label.text made other l))
       (both_then (ExpIn Any st) ExpAt FieldsAlike (infer_exp depth sc exp st) (infer_exp depth (in_env f sc) exp st) _ _
@@ -289,7 +296,8 @@ mutual
       → Both ExpsAlike (infer_match depth sc rules st) (infer_match depth (in_env f sc) rules st)
   match_alike depth sc f Rules.EndOfRules st h k = (refl, refl)
   match_alike depth sc f (Rules.Rule pat exp rest) st h k =
-      both_then3 (PatIn Any st) PatAt ExpsAlike (infer_pat depth sc pat [] st) (infer_pat depth (in_env f sc) pat [] st) _ _
+      both_then3 (PatIn Any st) PatAt ExpsAlike (infer_pat depth sc pat [] st)
+      (infer_pat depth (in_env f sc) pat [] st) _ _
       (pat_grows Any depth sc pat [] st h tt) (pat_alike depth sc f pat [] [] st h tt k tt) (λ a b c d u g l.
       let ready : IsReady Any (under_bound c sc) u = ready_bound Any c sc u g.2 (ready_later Any sc st u h g.0) in
       both_then (ExpIn Any u) ExpAt ExpsAlike (infer_exp depth (under_bound c sc) exp u)
@@ -298,7 +306,8 @@ mutual
       (bound_alike u.types.stands c d sc.env f l.1 (seen_later st u sc.env f g.0.touches k))) (λ x y v i m.
       let all : Grows Any st v = grows_then Any st u v g.0 i.0 in
       let e : SameTy v.types.stands a b = same_later u v a b i.0.touches l.0 in
-      same_then (Grows Any v) ExpsAlike (infer_rules depth sc a x rest v) (infer_rules depth (in_env f sc) b y rest v) _ _
+      same_then (Grows Any v) ExpsAlike (infer_rules depth sc a x rest v) (infer_rules depth (in_env f sc) b y rest v)
+      _ _
       (equal_answers (infer_rules depth sc a x rest v) (infer_rules depth (in_env f sc) b y rest v)
       (rules_alike depth sc f a x b y rest v (ready_later Any sc st v h all) (seen_later st v sc.env f all.touches k)
       (ty_later Any u v a i.0 g.1) i.1 e m))
@@ -311,7 +320,8 @@ mutual
       → Both SameState (infer_rules depth sc from to rules st) (infer_rules depth (in_env f sc) other goal rules st)
   rules_alike depth sc f from to other goal Rules.EndOfRules st h k i j l m = refl
   rules_alike depth sc f from to other goal (Rules.Rule pat exp rest) st h k i j l m =
-      both_then3 (PatIn Any st) PatAt SameState (infer_pat depth sc pat [] st) (infer_pat depth (in_env f sc) pat [] st) _ _
+      both_then3 (PatIn Any st) PatAt SameState (infer_pat depth sc pat [] st)
+      (infer_pat depth (in_env f sc) pat [] st) _ _
       (pat_grows Any depth sc pat [] st h tt) (pat_alike depth sc f pat [] [] st h tt k tt) (λ a b c d u g n.
       same_then (Grows Any u) SameState (unify_at depth sc (pat_at pat) a from u)
       (unify_at depth (in_env f sc) (pat_at pat) b other u) _ _
@@ -331,21 +341,25 @@ mutual
       (unify_same depth sc f (exp_at exp) x to y goal w q (same_later st w to goal g3.touches m))
       (unify_grows Any depth sc (exp_at exp) x to w p.0.fit p.1 (ty_later Any st w to g3 j)) (λ r s.
       let g4 : Grows Any st r = grows_then Any st w r g3 s in
-      rules_alike depth sc f from to other goal rest r (ready_later Any sc st r h g4) (seen_later st r sc.env f g4.touches k)
+      rules_alike depth sc f from to other goal rest r (ready_later Any sc st r h g4)
+      (seen_later st r sc.env f g4.touches k)
       (ty_later Any st r from g4 i) (ty_later Any st r to g4 j) (same_later st r from other g4.touches l)
       (same_later st r to goal g4.touches m)))))
 
-  pub binds_alike : (depth : ℕ) (sc : Scope) (f : Env) (rules : Rules) (c d : Bound) (gs hs : List Group) (st : Progress)
+  pub binds_alike : (depth : ℕ) (sc : Scope) (f : Env) (rules : Rules) (c d : Bound) (gs hs : List Group)
+      (st : Progress)
       → IsReady Any sc st → AllRows (TyIn Any st.types) c → SeenAlike st.types.stands sc.env f
       → RowsAlike (SameTy st.types.stands) c d → ItemsAlike (GroupAlike st.types.stands) gs hs
       → Both BindsAlike (infer_binds depth sc rules c gs st) (infer_binds depth (in_env f sc) rules d hs st)
   binds_alike depth sc f Rules.EndOfRules c d gs hs st h i k l m = (refl, (l, m))
   binds_alike depth sc f (Rules.Rule pat exp rest) c d gs hs st h i k l m =
-      both_then3 (PatIn Any st) PatAt BindsAlike (infer_pat depth sc pat c st) (infer_pat depth (in_env f sc) pat d st) _ _
+      both_then3 (PatIn Any st) PatAt BindsAlike (infer_pat depth sc pat c st) (infer_pat depth (in_env f sc) pat d st)
+      _ _
       (pat_grows Any depth sc pat c st h i) (pat_alike depth sc f pat c d st h i k l) (λ a b x y u g n.
       both_then (ExpIn Any u) ExpAt BindsAlike (infer_exp depth sc exp u) (infer_exp depth (in_env f sc) exp u) _ _
       (exp_grows Any depth sc exp u (ready_later Any sc st u h g.0))
-      (exp_alike depth sc f exp u (ready_later Any sc st u h g.0) (seen_later st u sc.env f g.0.touches k)) (λ t r v o p.
+      (exp_alike depth sc f exp u (ready_later Any sc st u h g.0) (seen_later st u sc.env f g.0.touches k))
+      (λ t r v o p.
       same_then (Grows Any v) BindsAlike (unify_at depth sc (pat_at pat) a t v)
       (unify_at depth (in_env f sc) (pat_at pat) b r v) _ _
       (unify_same depth sc f (pat_at pat) a t b r v (same_later u v a b o.0.touches n.0) p)
@@ -396,7 +410,8 @@ mutual
       let ready : IsReady Any inner own.1 = ready_written Any own.0 sc own.1 g.1 (ready_later Any sc st own.1 h g.0) in
       let seen : SeenAlike own.1.types.stands sc.env f = seen_later st own.1 sc.env f g.0.touches k in
       both_then3 (BindsIn Any own.1) BindsAt DecsAlike (infer_binds depth inner rules [] [] own.1)
-      (infer_binds depth (in_env f inner) rules [] [] own.1) _ _ (binds_grow Any depth inner rules [] [] own.1 ready tt tt)
+      (infer_binds depth (in_env f inner) rules [] [] own.1) _ _ (binds_grow Any depth inner rules [] [] own.1 ready tt
+      tt)
       (binds_alike depth inner f rules [] [] [] [] own.1 ready tt seen tt tt) (λ c d gs hs u b l.
       let ready_u : IsReady Any inner u = ready_later Any inner own.1 u ready b.0 in
       let seen_u : SeenAlike u.types.stands sc.env f = seen_later own.1 u sc.env f b.0.touches seen in
@@ -412,7 +427,8 @@ mutual
       (equal_answers (infer_rec_exps depth whole recs xs v)
       (infer_rec_exps depth (under_bound (rec_bound ys) (in_env f inner)) recs ys v)
       (rec_exps_alike depth whole (with_bound (rec_bound ys) f) recs xs ys v ready_v p.1
-      (bound_alike v.types.stands (rec_bound xs) (rec_bound ys) sc.env f (rec_bound_alike v.types.stands xs ys m) seen_v)
+      (bound_alike v.types.stands (rec_bound xs) (rec_bound ys) sc.env f (rec_bound_alike v.types.stands xs ys m)
+      seen_v)
       m)) (rec_exps_grow Any depth whole recs xs v ready_v p.1) (λ w n.
       let seen_w : SeenAlike w.types.stands sc.env f = seen_later v w sc.env f n.touches seen_v in
       let groups : List Group = gs ++ rec_groups sc.env recs xs in
@@ -452,7 +468,8 @@ mutual
       (exceptions_of (in_env f sc) binds) _ _ (given_any (exceptions_of sc binds))
       (exceptions_alike st.types.stands sc f binds k) (λ a b _ l. dec_sized sc f at a b st l)
   dec_alike depth sc f (DecPhrase.Local hidden shown at) st h k =
-      both_then (MadeIn Any st) DecAt DecsAlike (infer_dec depth sc hidden st) (infer_dec depth (in_env f sc) hidden st) _ _
+      both_then (MadeIn Any st) DecAt DecsAlike (infer_dec depth sc hidden st)
+      (infer_dec depth (in_env f sc) hidden st) _ _
       (dec_grows Any depth sc hidden st h) (dec_alike depth sc f hidden st h k) (λ d e u g l.
       both_then (λ r. Unit {0}) DecAt DecsAlike (infer_dec depth (under d sc) shown u)
       (infer_dec depth (under e (in_env f sc)) shown u) _ _ (given_any (infer_dec depth (under d sc) shown u))

@@ -77,7 +77,8 @@ parts_same s (x ∷ xs) (y ∷ ys) h = ap₂ Types.Cons h.1 (parts_same s xs ys 
 
 pub record_same : (s : Substitution) (xs ys : Table Ty) → RowsAlike (SameTy s) xs ys
     → SameTy s (record_ty xs) (record_ty ys)
-record_same s xs ys h = ap₂ (λ ns ts. Ty.Made (symbol.Record ns) ts) (names_alike (SameTy s) xs ys h) (parts_same s xs ys h)
+record_same s xs ys h = ap₂ (λ ns ts. Ty.Made (symbol.Record ns) ts) (names_alike (SameTy s) xs ys h)
+    (parts_same s xs ys h)
 
 -- ---- constructors
 
@@ -146,7 +147,8 @@ lone_alike : (sc : Scope) (f : Env) (at : At) (c d : Bound) (v w : ValueEntry) (
     → Both PatsAlike (lone_con sc at c v st) (lone_con (in_env f sc) at d w st)
 lone_alike sc f at c d v w st h k l =
     let g : Grows Any st (new_instance v.scheme st).1 = grows_instance Any v.scheme st h.fit h.new in
-    both_passed PatsAlike (not (is_con v.status)) (not (is_con w.status)) 34 sc f at _ _ (ap (λ z. not (is_con z)) l.status)
+    both_passed PatsAlike (not (is_con v.status)) (not (is_con w.status)) 34 sc f at _ _
+    (ap (λ z. not (is_con z)) l.status)
     (λ e. let shaped = l.shaped (not_false (is_con v.status) e) in
     both_where PatsAlike (not (takes_none v.scheme.body)) (not (takes_none w.scheme.body)) 34 sc f at _ _
     (ap not (shape_same st.types.stands v.scheme.body w.scheme.body l.body shaped.0 shaped.1)) (
@@ -167,7 +169,8 @@ applied_alike depth sc f at v w a b c d st h k l =
     let g : Grows Any st u = grows_instance Any v.scheme st h.fit h.new in
     let same : SameTy st.types.stands (new_instance v.scheme st).0 (new_instance w.scheme st).0 =
     instance_same v.scheme w.scheme st l.body in
-    both_passed PatsAlike (not (is_con v.status)) (not (is_con w.status)) 34 sc f at _ _ (ap (λ z. not (is_con z)) l.status)
+    both_passed PatsAlike (not (is_con v.status)) (not (is_con w.status)) 34 sc f at _ _
+    (ap (λ z. not (is_con z)) l.status)
     (λ e. let shaped = l.shaped (not_false (is_con v.status) e) in
     both_plain (λ parts. Unit {0}) (SidesAlike st.types.stands) PatsAlike
     (with_argument sc at (arrow_in v.scheme.body (new_instance v.scheme st).0))
@@ -294,14 +297,16 @@ mutual
       both_plain (ValueHas (SchemeIn Any st.types)) (ValuesAlike st.types.stands) PatsAlike
       (known sc long (found_at values long.parts sc.env)) (known (in_env f sc) long (found_at values long.parts f)) _ _
       (value_in Any st.types sc long h.scope) (value_alike st.types.stands sc f long k) (λ v w j m.
-      both_then3 (PatIn Any st) PatAt PatsAlike (infer_pat depth sc arg c st) (infer_pat depth (in_env f sc) arg d st) _ _
+      both_then3 (PatIn Any st) PatAt PatsAlike (infer_pat depth sc arg c st) (infer_pat depth (in_env f sc) arg d st)
+      _ _
       (pat_grows Any depth sc arg c st h i) (pat_alike depth sc f arg c d st h i k l) (λ a b x y u g n.
       both_then3 (λ r. Unit {0}) PatAt PatsAlike (applied_con depth sc at v (a, x, u))
       (applied_con depth (in_env f sc) at w (b, y, u)) _ _ (given_any (applied_con depth sc at v (a, x, u)))
       (applied_alike depth sc f at v w a b x y u (ready_later Any sc st u h g.0) n
       (values_later st u g.0.touches v w m)) (λ p q z t r _ o. pat_sized sc f at p q z t r o)))
   pat_alike depth sc f (PatPhrase.Typed pat ty at) c d st h i k l =
-      both_then3 (PatIn Any st) PatAt PatsAlike (infer_pat depth sc pat c st) (infer_pat depth (in_env f sc) pat d st) _ _
+      both_then3 (PatIn Any st) PatAt PatsAlike (infer_pat depth sc pat c st) (infer_pat depth (in_env f sc) pat d st)
+      _ _
       (pat_grows Any depth sc pat c st h i) (pat_alike depth sc f pat c d st h i k l) (λ a b x y u g n.
       same_then (λ t. Unit {0}) PatsAlike (infer_ty sc ty) (infer_ty (in_env f sc) ty) _ _
       (ty_same sc f ty (types_of_seen st.types.stands sc.env f k)) (given_any (infer_ty sc ty)) (λ t _.
@@ -310,14 +315,16 @@ mutual
       (unify_touches depth sc at a t u g.0.fit) (λ r o.
       pat_sized sc f at a b x y r (same_later u r a b o n.0, rows_same_later u r x y o n.1))))
   pat_alike depth sc f (PatPhrase.As name ty pat at) c d st h i k l =
-      both_where PatsAlike (stands_for_con (entry name.text (values sc.env))) (stands_for_con (entry name.text (values f)))
+      both_where PatsAlike (stands_for_con (entry name.text (values sc.env)))
+      (stands_for_con (entry name.text (values f)))
       34 sc f at _ _ (name_con_same st.types.stands sc.env f name.text k)
       (both_then3 (PatIn Any st) PatAt PatsAlike (bind_variable sc (name_at name) name.text c st)
       (bind_variable (in_env f sc) (name_at name) name.text d st) _ _ (bind_grows sc (name_at name) name.text c st h i)
       (variable_alike sc f (name_at name) name.text c d st h l) (λ a b x y u g n.
       let ready : IsReady Any sc u = ready_later Any sc st u h g.0 in
       let seen : SeenAlike u.types.stands sc.env f = seen_later st u sc.env f g.0.touches k in
-      same_then (Grows Any u) PatsAlike (typed_variable depth sc at a ty u) (typed_variable depth (in_env f sc) at b ty u)
+      same_then (Grows Any u) PatsAlike (typed_variable depth sc at a ty u)
+      (typed_variable depth (in_env f sc) at b ty u)
       _ _ (typed_same depth sc f at a b ty u seen n.0) (typed_grows depth sc at a ty u ready g.1) (λ v m.
       both_then3 (PatIn Any v) PatAt PatsAlike (infer_pat depth sc pat x v) (infer_pat depth (in_env f sc) pat y v) _ _
       (pat_grows Any depth sc pat x v (ready_later Any sc u v ready m) (rows_later Any u v x m g.2))
@@ -337,10 +344,12 @@ mutual
       (infer_pat_fields depth (in_env f sc) fields other d st)
   pat_fields_alike depth sc f PatFields.EndOfFields made other c d st h j i k m l = (refl, (m, l))
   pat_fields_alike depth sc f (PatFields.Field label pat rest) made other c d st h j i k m l =
-      both_where FieldsAlike (is_some (entry label.text made)) (is_some (entry label.text other)) 40 sc f (name_at label)
+      both_where FieldsAlike (is_some (entry label.text made)) (is_some (entry label.text other)) 40 sc f
+      (name_at label)
       _ _ (found_some (SameTy st.types.stands) (entry label.text made) (entry label.text other)
       (rows_alike_found (SameTy st.types.stands) label.text made other m))
-      (both_then3 (PatIn Any st) PatAt FieldsAlike (infer_pat depth sc pat c st) (infer_pat depth (in_env f sc) pat d st)
+      (both_then3 (PatIn Any st) PatAt FieldsAlike (infer_pat depth sc pat c st)
+      (infer_pat depth (in_env f sc) pat d st)
       _ _ (pat_grows Any depth sc pat c st h i) (pat_alike depth sc f pat c d st h i k l) (λ a b x y u g n.
       pat_fields_alike depth sc f rest (with_entry label.text a made) (with_entry label.text b other) x y u
       (ready_later Any sc st u h g.0)

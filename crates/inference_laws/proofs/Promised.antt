@@ -7,7 +7,7 @@ use Rattle.static_semantics.specs.CoreInference.{infer_exp, infer_match, infer_d
 use Rattle.static_semantics.specs.Holding.{Given}
 use Rattle.static_semantics.proofs.TypesGrow.{given_more}
 use Rattle.inference_laws.specs.Nodes.{Nodes, IsOf, ExpOf, DecOf, Makes}
-use Rattle.inference_laws.specs.Promises.{MakesOfGiven, KeepsWellFormed, HangsOnWhatIsSeen, IsWellFormed, GivesWellFormed}
+use Rattle.inference_laws.specs.Promises.{MakesOfGiven, KeepsWellFormed, HangsOnWhatIsSeen, KeepsNames, IsWellFormed, GivesWellFormed}
 use Rattle.inference_laws.proofs.TypesMade.{ty_of}
 use Rattle.inference_laws.proofs.PatternsMade.{pat_of}
 use Rattle.inference_laws.proofs.DatatypesMade.{datatypes_made, exceptions_made}
@@ -17,6 +17,7 @@ use Rattle.inference_laws.proofs.SeenLater.{types_of_seen}
 use Rattle.inference_laws.proofs.PatternsAlike.{pat_alike}
 use Rattle.inference_laws.proofs.ClosingAlike.{exceptions_alike}
 use Rattle.inference_laws.proofs.CoreAlike.{exp_alike, match_alike, dec_alike}
+use Rattle.inference_laws.proofs.Naming.{dec_named, datatypes_named, exceptions_named}
 use Rattle.inference_laws.proofs.WellFormed.{below_next, ready_below, gives_well_formed}
 
 pub makes_of_given : MakesOfGiven
@@ -62,3 +63,6 @@ hangs_on_what_is_seen = record {
   datatypes = λ sc f s refused binds st h. datatypes_same sc f refused binds st (types_of_seen s sc.env f h);
   exceptions = exceptions_alike;
 }
+
+pub keeps_names : KeepsNames
+keeps_names = record { dec = dec_named; datatypes = datatypes_named; exceptions = exceptions_named }

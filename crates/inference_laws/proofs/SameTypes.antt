@@ -68,7 +68,8 @@ mutual
       (infer_ty_fields (in_env f sc) fields []) _ _ (ty_fields_same sc f fields [] h) (λ made. refl)
   ty_same sc f (TyPhrase.Named args long at) h = both_same (infer_tys sc args) (infer_tys (in_env f sc) args) _ _
       (tys_same sc f args h) (λ made.
-      both_same (known sc long (found_at types long.parts sc.env)) (known (in_env f sc) long (found_at types long.parts f))
+      both_same (known sc long (found_at types long.parts sc.env)) (known (in_env f sc) long
+      (found_at types long.parts f))
       _ _ (known_same sc f long (found_at types long.parts sc.env) (found_at types long.parts f)
       (types_found sc.env f long.parts h)) (λ found.
       where_same (not (eqb (length made) found.function.arity)) 35 sc f at _ _ refl))
@@ -84,7 +85,8 @@ mutual
       (both_same (infer_ty sc ty) (infer_ty (in_env f sc) ty) _ _ (ty_same sc f ty h) (λ t.
       ty_fields_same sc f rest (with_entry label.text t made) h))
 
-  tys_same : (sc : Scope) (f : Env) (tys : TyPhrases) → SameTypes sc.env f → infer_tys sc tys ≡ infer_tys (in_env f sc) tys
+  tys_same : (sc : Scope) (f : Env) (tys : TyPhrases) → SameTypes sc.env f → infer_tys sc tys ≡ infer_tys (in_env f sc)
+      tys
   tys_same sc f TyPhrases.EndOfArgs h = refl
   tys_same sc f (TyPhrases.Arg ty rest) h = both_same (infer_ty sc ty) (infer_ty (in_env f sc) ty) _ _
       (ty_same sc f ty h) (λ t.
@@ -121,7 +123,8 @@ new_types_same sc f (bind ∷ binds) number made =
 optional_same : (sc : Scope) (f : Env) (ty : Option TyPhrase) → SameTypes sc.env f
     → infer_optional_ty sc ty ≡ infer_optional_ty (in_env f sc) ty
 optional_same sc f None h = refl
-optional_same sc f (Some ty) h = both_same (infer_ty sc ty) (infer_ty (in_env f sc) ty) _ _ (ty_same sc f ty h) (λ t. refl)
+optional_same sc f (Some ty) h = both_same (infer_ty sc ty) (infer_ty (in_env f sc) ty) _ _ (ty_same sc f ty h)
+    (λ t. refl)
 
 cons_same : (sc : Scope) (f : Env) (refused : List (List ℕ)) (cons : List ConPhrase) (before made : List Con)
     → SameTypes sc.env f → infer_cons sc refused cons before made ≡ infer_cons (in_env f sc) refused cons before made
@@ -150,7 +153,8 @@ pub datatypes_same : (sc : Scope) (f : Env) (refused : List (List ℕ)) (binds :
 datatypes_same sc f refused binds st h =
     both_same (new_types sc binds st.names empty_env) (new_types (in_env f sc) binds st.names empty_env) _ _
     (new_types_same sc f binds st.names empty_env) (λ new.
-    both_same (infer_dats (under new sc) refused binds [] st) (infer_dats (under new (in_env f sc)) refused binds [] st) _ _
+    both_same (infer_dats (under new sc) refused binds [] st) (infer_dats (under new (in_env f sc)) refused binds []
+    st) _ _
     (dats_same (under new sc) (modified_by f new) refused binds [] st
     (alike_modified AnyValue IsSame sc.env f new new h (types_itself new))) (λ r. refl))
 
@@ -173,7 +177,8 @@ types_are_itself s sc (bind ∷ binds) made st h =
     (given_any (infer_ty (with_written_alone (as_written r.0) sc) bind.ty)) (λ ty l.
     let str : TypeStr = plain_type (type_function (numbers r.0) ty) in
     types_are_itself s sc binds (with_type bind.name.text str made) r.1
-    (alike_with_type (ValuesAlike s) TypesSame bind.name.text str str made made (record { same = refl; shaped = tt }) h))))
+    (alike_with_type (ValuesAlike s) TypesSame bind.name.text str str made made (record { same = refl; shaped = tt })
+    h))))
 
 abbrev pub Shaped : TypeScheme → Type 0
 Shaped σ = is_variable_tree σ.body ≡ false
@@ -221,7 +226,8 @@ made_types_itself s home first choice number (dat ∷ dats) env k =
     (entries_shaped (con_schemes home first choice dat.variables of dat.cons)
     (schemes_shaped home first choice dat.variables of dat.cons refl)) k)
 
-pub datatypes_itself : (s : Substitution) (sc : Scope) (refused : List (List ℕ)) (binds : List DatPhrase) (st : Progress)
+pub datatypes_itself : (s : Substitution) (sc : Scope) (refused : List (List ℕ)) (binds : List DatPhrase)
+    (st : Progress)
     → Given (λ r. ItselfIn s r.0) (datatypes_of sc refused binds st)
 datatypes_itself s sc refused binds st =
     given_then (λ new. Unit {0}) (λ r. ItselfIn s r.0) (new_types sc binds st.names empty_env) _

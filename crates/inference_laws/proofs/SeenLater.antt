@@ -25,12 +25,14 @@ use Rattle.inference_laws.proofs.SameTypes.{AnyValue, IsSame, SameTypes}
 
 -- ---- later on
 
-pub same_later : (st u : Progress) (a b : Ty) → Touches Any st.types u.types → SameTy st.types.stands a b → SameTy u.types.stands a b
+pub same_later : (st u : Progress) (a b : Ty) → Touches Any st.types u.types → SameTy st.types.stands a b → SameTy
+    u.types.stands a b
 same_later st u a b g e =
     put_changed Any st.types u.types g a ∙ ap (put g.change) e
     ∙ sym (put_changed Any st.types u.types g b)
 
-pub rows_same_later : (st u : Progress) (xs ys : Table Ty) → Touches Any st.types u.types → RowsAlike (SameTy st.types.stands) xs ys
+pub rows_same_later : (st u : Progress) (xs ys : Table Ty) → Touches Any st.types u.types → RowsAlike
+    (SameTy st.types.stands) xs ys
     → RowsAlike (SameTy u.types.stands) xs ys
 rows_same_later st u xs ys g h = rows_alike_more (SameTy st.types.stands) (SameTy u.types.stands) xs ys
     (λ a b e. same_later st u a b g e) h
@@ -57,14 +59,16 @@ mutual
   trees_changed s u c Trees.Nil h = refl
   trees_changed s u c (Trees.Cons x xs) h = ap₂ Trees.Cons (tree_changed s u c x h) (trees_changed s u c xs h)
 
-tree_later : (st u : Progress) (x y : Tree) → Touches Any st.types u.types → put_tree st.types.stands x ≡ put_tree st.types.stands y
+tree_later : (st u : Progress) (x y : Tree) → Touches Any st.types u.types → put_tree st.types.stands x ≡ put_tree
+    st.types.stands y
     → put_tree u.types.stands x ≡ put_tree u.types.stands y
 tree_later st u x y g e =
     tree_changed st.types.stands u.types.stands g.change x g.stands
     ∙ ap (put_tree g.change) e
     ∙ sym (tree_changed st.types.stands u.types.stands g.change y g.stands)
 
-pub values_later : (st u : Progress) → Touches Any st.types u.types → (v w : ValueEntry) → ValuesAlike st.types.stands v w
+pub values_later : (st u : Progress) → Touches Any st.types u.types → (v w : ValueEntry) → ValuesAlike st.types.stands
+    v w
     → ValuesAlike u.types.stands v w
 values_later st u g v w h = record {
   status = h.status;
@@ -89,7 +93,8 @@ filled_alike b s x y e = sym (fill_put b s x) ∙ ap (fill b Ty.Var) e ∙ fill_
 pub seen_same : (s : Substitution) (x y : Tree) → put_tree s x ≡ put_tree s y → seen s x ≡ seen s y
 seen_same s x y e = filled_alike (λ i. unit_ty) s x y e
 
-pub instance_same : (σ τ : TypeScheme) (st : Progress) → put_tree st.types.stands σ.body ≡ put_tree st.types.stands τ.body
+pub instance_same : (σ τ : TypeScheme) (st : Progress) → put_tree st.types.stands σ.body ≡ put_tree st.types.stands
+    τ.body
     → SameTy st.types.stands (new_instance σ st).0 (new_instance τ st).0
 instance_same σ τ st e =
     let s : Substitution = st.types.stands in
