@@ -393,7 +393,8 @@ mutual
             i.scope.admits tt tt,
       ))
   match_made good depth sc (Rules.Rule pat exp rest) st p h =
-      given_then (λ a. Makes sc.home (IsOf good sc st) st a.2 (λ q. IsOf good sc st q × PatOf q st a)) (ExpMade good sc st)
+      given_then (λ a. Makes sc.home (IsOf good sc st) st a.2 (λ q. IsOf good sc st q × PatOf q st a))
+      (ExpMade good sc st)
       (infer_pat depth sc pat [] st) _
       (pat_made good depth sc pat [] st st sc.home (IsOf good sc st) (IsOf good sc st) p.0 h (plain refl (λ q i. i))
       (λ q i j. (j, tt))) (λ a k.
@@ -591,6 +592,7 @@ mutual
       given_then (DecMade good sc st) (DecMade good sc st) (infer_dec depth sc dec st) _
       (dec_made good depth sc dec st p.0 h) (λ d k.
       given_then (DecMade good (under d.0 sc) d.1) (DecMade good sc st) (infer_decs depth (under d.0 sc) rest d.1) _
-      (decs_made good depth (under d.0 sc) rest d.1 p.1 (ready_after h k (λ q i j. is_under good q sc st d i j))) (λ v l.
+      (decs_made good depth (under d.0 sc) rest d.1 p.1 (ready_after h k (λ q i j. is_under good q sc st d i j)))
+      (λ v l.
       less (after k l (λ q i j. is_under good q sc st d i j))
       (λ q i j. (j.1.0, has_modified (SchemeOf q) (FunctionOf q) d.0 v.0 j.0.1 j.1.1))))

@@ -49,7 +49,8 @@ names_by home first choice number (arity ∷ arities) =
 -- .. all admitting equality
 abbrev pub names_at_first : List ℕ → ℕ → List ℕ → List TyName
 names_at_first home number [] = []
-names_at_first home number (arity ∷ arities) = own_name home number arity true ∷ names_at_first home (suc number) arities
+names_at_first home number (arity ∷ arities) = own_name home number arity true ∷ names_at_first home (suc number)
+    arities
 
 numbered_by : (home : List ℕ) (first : ℕ) (choice : List Bool) (number : ℕ) (arities : List ℕ)
     → NumberedFrom home number (names_by home first choice number arities) (number + length arities)

@@ -7,4 +7,13 @@ pub mod PatternsMade
 pub mod DatatypesMade
 pub mod CoreMade
 pub mod WellFormed
+pub mod Alike
+pub mod SameTypes
+pub mod SeenLater
+pub mod PatternsAlike
+pub mod SeenBodies
+pub mod ClosingAlike
+pub mod CoreAlike
+pub mod PutAlike
+pub mod Naming
 pub mod Promised

@@ -24,11 +24,12 @@ use Rattle.inference_laws.proofs.Nodes.{ty_filled, FieldsOf, no_fields, field_mo
 use Rattle.inference_laws.proofs.Unifying.{UnifiedOf, unify_of}
 use Rattle.inference_laws.proofs.TypesMade.{state_same, ty_of}
 
-pub record PatFieldsOf (good : List ℕ → Bool) (q : Nodes) (st : Progress) (r : Table Ty × Bound × Progress) : Type 0 where
-  pub names : r.2.names ≡ st.names
-  pub state : StateOf q r.2.types
-  pub fields : FieldsOf good q r.0
-  pub bound : AllRows (TyOf q) r.1
+pub record PatFieldsOf (good : List ℕ → Bool) (q : Nodes) (st : Progress) (r : Table Ty × Bound × Progress) : Type 0
+  where
+    pub names : r.2.names ≡ st.names
+    pub state : StateOf q r.2.types
+    pub fields : FieldsOf good q r.0
+    pub bound : AllRows (TyOf q) r.1
 
 pub at_state : (good : List ℕ → Bool) (q : Nodes) (sc : Scope) (st u : Progress) → IsOf good sc st q → StateOf q u.types
     → IsOf good sc u q
@@ -216,5 +217,6 @@ mutual
       given_more (PatFieldsOf good q r.2) (PatFieldsOf good q st)
       (infer_pat_fields depth sc rest (with_entry label.text r.0 made) r.1 r.2)
       (λ v j. record { names = j.names ∙ i.names; state = j.state; fields = j.fields; bound = j.bound })
-      (pat_fields_of good q depth sc rest (with_entry label.text r.0 made) r.1 r.2 p.2 (at_state good q sc st r.2 h i.state)
+      (pat_fields_of good q depth sc rest (with_entry label.text r.0 made) r.1 r.2 p.2
+      (at_state good q sc st r.2 h i.state)
       (field_more good q label.text r.0 made p.0 i.ty k) i.bound)))

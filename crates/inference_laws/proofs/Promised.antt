@@ -7,11 +7,17 @@ use Rattle.static_semantics.specs.CoreInference.{infer_exp, infer_match, infer_d
 use Rattle.static_semantics.specs.Holding.{Given}
 use Rattle.static_semantics.proofs.TypesGrow.{given_more}
 use Rattle.inference_laws.specs.Nodes.{Nodes, IsOf, ExpOf, DecOf, Makes}
-use Rattle.inference_laws.specs.Promises.{MakesOfGiven, KeepsWellFormed, IsWellFormed, GivesWellFormed}
+use Rattle.inference_laws.specs.Promises.{MakesOfGiven, KeepsWellFormed, HangsOnWhatIsSeen, KeepsNames, IsWellFormed, GivesWellFormed}
 use Rattle.inference_laws.proofs.TypesMade.{ty_of}
 use Rattle.inference_laws.proofs.PatternsMade.{pat_of}
 use Rattle.inference_laws.proofs.DatatypesMade.{datatypes_made, exceptions_made}
 use Rattle.inference_laws.proofs.CoreMade.{exp_made, match_made, dec_made}
+use Rattle.inference_laws.proofs.SameTypes.{ty_same, datatypes_same}
+use Rattle.inference_laws.proofs.SeenLater.{types_of_seen}
+use Rattle.inference_laws.proofs.PatternsAlike.{pat_alike}
+use Rattle.inference_laws.proofs.ClosingAlike.{exceptions_alike}
+use Rattle.inference_laws.proofs.CoreAlike.{exp_alike, match_alike, dec_alike}
+use Rattle.inference_laws.proofs.Naming.{dec_named, datatypes_named, exceptions_named}
 use Rattle.inference_laws.proofs.WellFormed.{below_next, ready_below, gives_well_formed}
 
 pub makes_of_given : MakesOfGiven
@@ -46,3 +52,17 @@ keeps_well_formed = record {
       (datatypes_of sc refused binds st) h
       (makes_of_given.datatypes good sc refused binds st p (below_next good known sc st h));
 }
+
+pub hangs_on_what_is_seen : HangsOnWhatIsSeen
+hangs_on_what_is_seen = record {
+  ty = λ sc f s ty h. ty_same sc f ty (types_of_seen s sc.env f h);
+  pat = pat_alike;
+  exp = exp_alike;
+  rules = match_alike;
+  dec = dec_alike;
+  datatypes = λ sc f s refused binds st h. datatypes_same sc f refused binds st (types_of_seen s sc.env f h);
+  exceptions = exceptions_alike;
+}
+
+pub keeps_names : KeepsNames
+keeps_names = record { dec = dec_named; datatypes = datatypes_named; exceptions = exceptions_named }

@@ -129,7 +129,8 @@ function_closed q vs t h = record { closed = closed_binds vs t; body = tree_clos
 abbrev pub PlainOf : Nodes → Progress → Env × Progress → Type 0
 PlainOf q st r = (r.1.names ≡ st.names) × StateOf q r.1.types × EnvOf q r.0
 
-pub types_of_binds : (good : List ℕ → Bool) (q : Nodes) (sc : Scope) (binds : List TypPhrase) (made : Env) (st : Progress)
+pub types_of_binds : (good : List ℕ → Bool) (q : Nodes) (sc : Scope) (binds : List TypPhrase) (made : Env)
+    (st : Progress)
     → AllItems (TypSpelt good) binds → IsOf good sc st q → EnvOf q made
     → Given (PlainOf q st) (infer_types sc binds made st)
 types_of_binds good q sc [] made st p h k = (refl, h.state, k)
@@ -142,7 +143,8 @@ types_of_binds good q sc (bind ∷ binds) made st p h k =
     given_more (PlainOf q r.1) (PlainOf q st)
     (infer_types sc binds (with_type bind.name.text (plain_type (type_function (numbers r.0) ty)) made) r.1)
     (λ v i. (i.0 ∙ l.names, i.1, i.2))
-    (types_of_binds good q sc binds (with_type bind.name.text (plain_type (type_function (numbers r.0) ty)) made) r.1 p.1
+    (types_of_binds good q sc binds (with_type bind.name.text (plain_type (type_function (numbers r.0) ty)) made) r.1
+    p.1
     (record { scope = h.scope; state = state_same q r.1.types st.types.stands l.stands h.state })
     (has_with_type (SchemeOf q) (FunctionOf q) bind.name.text (plain_type (type_function (numbers r.0) ty)) made
     (function_closed q (numbers r.0) ty m, tt) k)))))

@@ -39,7 +39,8 @@ link_kept q false false v w s h = kept_where q (ltb v w) (assign w (Ty.Var v) s)
     (assign_kept q w (Ty.Var v) s tt h) (assign_kept q v (Ty.Var w) s tt h)
 
 solve_kept : (q : Nodes) (v : ℕ) (t : Ty) (s : State) → TyOf q t → StateOf q s → Kept q (solve v t s)
-solve_kept q v t s h k = kept_where q (s.rigid v) (Err Fault.Clash) (cond (occurs v t) (Err Fault.Circular) (assign v t s))
+solve_kept q v t s h k = kept_where q (s.rigid v) (Err Fault.Clash) (cond (occurs v t) (Err Fault.Circular)
+    (assign v t s))
     tt (kept_where q (occurs v t) (Err Fault.Circular) (assign v t s) tt (assign_kept q v t s h k))
 
 -- what is asked of the unification of parts
@@ -66,7 +67,8 @@ answer_where q false a b h k = k
 
 step_kept : (q : Nodes) (rec : Ty → Ty → State → Answer) → Keeps q rec → (a b : Ty) (s : State) → StateOf q s
     → TyOf q a → TyOf q b → KeptIn q (unify_step rec a b s)
-step_kept q rec h (Ty.Var v) (Ty.Var w) s k l m = kept_where q (eqb v w) (Ok s) (link_by (s.rigid v) (s.rigid w) v w s) k
+step_kept q rec h (Ty.Var v) (Ty.Var w) s k l m = kept_where q (eqb v w) (Ok s) (link_by (s.rigid v) (s.rigid w) v w s)
+    k
     (link_kept q (s.rigid v) (s.rigid w) v w s k)
 step_kept q rec h (Ty.Var v) (Ty.Made d us) s k l m = solve_kept q v (Ty.Made d us) s m k
 step_kept q rec h (Ty.Made c ts) (Ty.Var w) s k l m = solve_kept q w (Ty.Made c ts) s l k

@@ -1,4 +1,6 @@
 pub mod Nodes
 pub mod Spelling
 pub mod WellFormed
+pub mod Alike
+pub mod Naming
 pub mod Promises

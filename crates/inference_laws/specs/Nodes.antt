@@ -49,7 +49,8 @@ abbrev mutual
 abbrev pub StateOf : Nodes → State → Type 0
 StateOf q s = (n : ℕ) → TyOf q (s.stands n)
 
--- .. of a scheme, that has a mark for each of its variables; of a type function, whose arguments are as many as its arity
+-- .. of a scheme, that has a mark for each of its variables; of a type function, whose arguments are as many as its
+-- arity
 pub record SchemeOf (q : Nodes) (σ : TypeScheme) : Type 0 where
   pub closed : IsScheme σ
   pub body : TreeOf q σ.body

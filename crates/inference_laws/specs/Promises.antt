@@ -1,15 +1,21 @@
 -- The laws, as the public functions of this crate state them.
-use Rattle.std.specs.Prelude.{ℕ, List, Bool, ◌≤◌}
+use Rattle.std.specs.Prelude.{◌≡◌, ℕ, List, Bool, ◌≤◌}
 use Rattle.semantic_objects.specs.declared.name.TyName.{TyName}
+use Rattle.semantic_objects.specs.Environments.{Env}
+use Rattle.unification.specs.Types.{Substitution}
 use Rattle.bare_phrases.specs.Phrases.{TyPhrase, PatPhrase, ExpPhrase, Rules, DecPhrase, DatPhrase, ExPhrase}
 use Rattle.static_semantics.specs.Inferring.{Progress, Scope, Bound}
 use Rattle.static_semantics.specs.TypeInference.{infer_ty}
 use Rattle.static_semantics.specs.PatternInference.{infer_pat}
 use Rattle.static_semantics.specs.DatatypeInference.{datatypes_of, exceptions_of}
 use Rattle.static_semantics.specs.CoreInference.{infer_exp, infer_match, infer_dec}
+use Rattle.static_semantics.specs.EnvironmentsPut.{put_env}
 use Rattle.static_semantics.specs.Holding.{Given, AllItems, AllRows}
+use Rattle.static_semantics.specs.Growing.{TyIn, IsReady}
 use Rattle.inference_laws.specs.Nodes.{Nodes, TyOf, EnvOf, ScopeOf, IsOf, ExpOf, DecOf, PatOf, Makes, below_number}
 use Rattle.inference_laws.specs.Spelling.{TySpelt, PatSpelt, ExpSpelt, RulesSpelt, DecSpelt, DatSpelt, ExSpelt}
+use Rattle.inference_laws.specs.Alike.{RowsAlike, Both, SeenAlike, FirmEnv, SameTy, in_env, ExpsAlike, PatsAlike, DecsAlike}
+use Rattle.inference_laws.specs.Naming.{NamedEnv}
 use Rattle.inference_laws.specs.WellFormed.{well_formed, AreKnown, KnowsMore}
 
 -- the unit's names in the scope and the state have numbers below the next one
@@ -66,3 +72,49 @@ pub record KeepsWellFormed : Type 0 where
   pub datatypes : (good : List ℕ → Bool) (known : TyName → Bool) (sc : Scope) (refused : List (List ℕ))
       (binds : List DatPhrase) (st : Progress) → AllItems (DatSpelt good) binds → IsWellFormed good known sc st
       → Given (λ r. GivesWellFormed good sc.home known st r.1 (DecOf r)) (datatypes_of sc refused binds st)
+
+-- inference hangs on the environment as it is seen through the state: in another one that is seen alike it gives
+-- nothing, or the same diagnostic, or the same state with what is one through it. Types, and so what a `datatype`
+-- makes,
+-- are even the same
+abbrev pub Any : ℕ → Type 0
+Any n = Unit {0}
+
+pub record HangsOnWhatIsSeen : Type 0 where
+  pub ty : (sc : Scope) (f : Env) (s : Substitution) (ty : TyPhrase) → SeenAlike s sc.env f
+      → infer_ty sc ty ≡ infer_ty (in_env f sc) ty
+  pub pat : (depth : ℕ) (sc : Scope) (f : Env) (pat : PatPhrase) (bound other : Bound) (st : Progress)
+      → IsReady Any sc st → AllRows (TyIn Any st.types) bound → SeenAlike st.types.stands sc.env f
+      → RowsAlike (SameTy st.types.stands) bound other
+      → Both PatsAlike (infer_pat depth sc pat bound st) (infer_pat depth (in_env f sc) pat other st)
+  pub exp : (depth : ℕ) (sc : Scope) (f : Env) (exp : ExpPhrase) (st : Progress) → IsReady Any sc st
+      → SeenAlike st.types.stands sc.env f
+      → Both ExpsAlike (infer_exp depth sc exp st) (infer_exp depth (in_env f sc) exp st)
+  pub rules : (depth : ℕ) (sc : Scope) (f : Env) (rules : Rules) (st : Progress) → IsReady Any sc st
+      → SeenAlike st.types.stands sc.env f
+      → Both ExpsAlike (infer_match depth sc rules st) (infer_match depth (in_env f sc) rules st)
+  pub dec : (depth : ℕ) (sc : Scope) (f : Env) (dec : DecPhrase) (st : Progress) → IsReady Any sc st
+      → SeenAlike st.types.stands sc.env f
+      → Both DecsAlike (infer_dec depth sc dec st) (infer_dec depth (in_env f sc) dec st)
+  pub datatypes : (sc : Scope) (f : Env) (s : Substitution) (refused : List (List ℕ)) (binds : List DatPhrase)
+      (st : Progress) → SeenAlike s sc.env f
+      → datatypes_of sc refused binds st ≡ datatypes_of (in_env f sc) refused binds st
+  pub exceptions : (s : Substitution) (sc : Scope) (f : Env) (binds : List ExPhrase) → SeenAlike s sc.env f
+      → Both (SeenAlike s) (exceptions_of sc binds) (exceptions_of (in_env f sc) binds)
+
+-- environments that are seen alike are one with everything put in; the other way round this holds of environments in
+-- whose types no variable of the table stands
+pub record SeesWhatIsPut : Type 0 where
+  pub one : (s : Substitution) (e f : Env) → SeenAlike s e f → put_env s e ≡ put_env s f
+  pub alike : (s : Substitution) (e f : Env) → FirmEnv e → FirmEnv f → put_env s e ≡ put_env s f → SeenAlike s e f
+
+-- where the names of the environment and those that a declaration has are such as one asks for, so are those of what it
+-- makes: of values, types, constructors and structures
+pub record KeepsNames : Type 0 where
+  pub dec : (good : List ℕ → Bool) (depth : ℕ) (sc : Scope) (dec : DecPhrase) (st : Progress) → DecSpelt good dec
+      → NamedEnv good sc.env → Given (λ r. NamedEnv good r.0) (infer_dec depth sc dec st)
+  pub datatypes : (good : List ℕ → Bool) (sc : Scope) (refused : List (List ℕ)) (binds : List DatPhrase)
+      (st : Progress) → AllItems (DatSpelt good) binds
+      → Given (λ r. NamedEnv good r.0) (datatypes_of sc refused binds st)
+  pub exceptions : (good : List ℕ → Bool) (sc : Scope) (binds : List ExPhrase) → AllItems (ExSpelt good) binds
+      → Given (NamedEnv good) (exceptions_of sc binds)
