@@ -37,7 +37,7 @@ use Rattle.matching_laws.specs.Promises.{FindsRows, MatchesWhereOneDoes}
 
 -- ---- answers
 
-present_there : {A B : Type 0} (sc : Scope) (at : At) (path : List (List ℕ)) (found : Option A) (x : A)
+pub present_there : {A B : Type 0} (sc : Scope) (at : At) (path : List (List ℕ)) (found : Option A) (x : A)
     (next : A → Answer B) → found ≡ Some x → (present sc at path found >>= next) ≡ next x
 present_there sc at path found x next e = ap (λ o. present sc at path o >>= next) e
 
@@ -66,7 +66,7 @@ first_of : (c : Bool) (f by : TypeFn) (rest more : Option TypeFn) → (rest ≡ 
 first_of true f by rest more k h = h
 first_of false f by rest more k h = k h
 
-none_some : (by : TypeFn) → None ≡ Some by → ⊥
+pub none_some : (by : TypeFn) → None ≡ Some by → ⊥
 none_some by h = cc
 
 stays : (rows more : Rows) → StaysIn rows (rows ++ more)
@@ -96,7 +96,7 @@ there (Some by) h = (by, refl)
 
 -- ---- the first walk
 
-abbrev Holds : State → Env → Realisation → Item → Type 0
+abbrev pub Holds : State → Env → Realisation → Item → Type 0
 Holds s env φ x = EnrichesItem s env (item_by (realised_tree φ) x)
 
 -- rows that are given after some items: they put what the realisation puts, all that they put before, and something for
@@ -142,7 +142,7 @@ str_of_item : (path other : List (List ℕ)) (str strs : TypeStr) → Item.TypeI
 str_of_item path other str strs e = cc
 
 -- what is found under a type that a name is alone at
-is_by : (s : State) (env : Env) (sig : Signature) (φ : Realisation) → Matches s env sig φ → (path : List (List ℕ))
+pub is_by : (s : State) (env : Env) (sig : Signature) (φ : Realisation) → Matches s env sig φ → (path : List (List ℕ))
     (str : TypeStr) (n : TyName) → name_alone str.function ≡ Some n → is_listed n sig.bound ≡ true
     → Holds s env φ (Item.TypeItem path str)
     → (found : TypeStr) × (found_at types path env ≡ Some found) × (φ n ≡ Some found.function)
@@ -398,11 +398,11 @@ all_pass sc at s env (x ∷ xs) of own h =
 
 -- ---- both
 
-mapped : (P : Item → Type 0) (f : Item → Item) (xs : List Item) → AllItems P (map f xs) → AllItems (λ x. P (f x)) xs
+pub mapped : (P : Item → Type 0) (f : Item → Item) (xs : List Item) → AllItems P (map f xs) → AllItems (λ x. P (f x)) xs
 mapped P f [] h = tt
 mapped P f (x ∷ xs) h = (h.0, mapped P f xs h.1)
 
-finds : (sc : Scope) (at : At) (s : State) (env : Env) (sig : Signature) (φ : Realisation) → IsOfState s env
+pub finds : (sc : Scope) (at : At) (s : State) (env : Env) (sig : Signature) (φ : Realisation) → IsOfState s env
     → StandAlone sig → AllItems (IsItemOf s) (items (realised φ sig.env)) → Matches s env sig φ
     → FindsRows sc at s env sig φ
 finds sc at s env sig φ of alone own m =

@@ -3,4 +3,4 @@
 
 mod laws;
 
-pub use laws::matching_finds_what_matches;
+pub use laws::{matching_accepts_exactly_what_matches, matching_finds_what_matches};
