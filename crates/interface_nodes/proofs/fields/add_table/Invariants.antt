@@ -1,0 +1,8 @@
+use Rattle.std.proofs.Common.{◌≡◌, ◌++◌, drop}
+use Rattle.std.specs.List.{flat_map}
+use Rattle.interface_nodes.specs.Fields.{row_items, table_items}
+use Rattle.interface_nodes.proofs.fields.add_table.Given as goal
+
+abbrev pub invariant-loop-row : goal.invariant-loop-row
+invariant-loop-row l =
+    l.items ++ flat_map row_items (drop l.row-index l.fn.rows) ≡ l.fn.items ++ table_items l.fn.rows
