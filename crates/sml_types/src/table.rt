@@ -221,7 +221,11 @@ impl TypeTable {
     /// with the marks that they have now, and all others stay free. Rigid variables are closed as others are. No older
     /// mark was undone since. It takes as long as what was made since the mark and the types are large.
     /// The Definition of Standard ML (Revised), section 4.8.
-    pub fn generalise_since(&mut self, tys: &List<TyId>, since: &Mark) -> Result<List<Scheme>, NoMemory>
+    pub fn generalise_since(
+        &mut self,
+        tys: &List<TyId>,
+        since: &Mark,
+    ) -> Result<List<Scheme>, NoMemory>
         requires has { HaveAll self.old tys.now }
         requires front { IsFrontOf since.now self.old }
         ensures schemes { IfOk result (λ schemes. schemes ≡ schemes_since self.old (state since.now).next tys.now) }
