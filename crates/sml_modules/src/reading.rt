@@ -123,7 +123,8 @@ impl EnvGraph {
         ensures { IfOk result (λ found. found ≡ option_map function_of (entry name.now (types (env_at self.now env)))) }
     {
         let tables = self.env_tables(env)?;
-        match tables.types.get(name) {
+        let found = tables.types.get(name);
+        match found {
             Some(place) => {
                 let function = self.function_at(place)?;
                 Ok(Some(function))
