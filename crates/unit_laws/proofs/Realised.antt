@@ -127,7 +127,8 @@ mutual
   realised_all_bind : (φ : Realisation) (i : ℕ) (ts : Trees) → binds_any i (realised_trees φ ts) ≡ true
       → binds_any i ts ≡ true
   realised_all_bind φ i Trees.Nil h = h
-  realised_all_bind φ i (Trees.Cons t ts) h = or_either (binds i (realised_tree φ t)) (binds_any i (realised_trees φ ts)) h
+  realised_all_bind φ i (Trees.Cons t ts) h = or_either (binds i (realised_tree φ t)) (binds_any i (realised_trees φ
+      ts)) h
       (λ e. or_left (binds i t) (binds_any i ts) (realised_binds φ i t e))
       (λ e. or_right (binds i t) (binds_any i ts) (realised_all_bind φ i ts e))
 

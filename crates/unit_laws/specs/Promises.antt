@@ -20,9 +20,9 @@ IsOfUnit good basis given st q = IsOfTop good (with_given basis given) st q
 abbrev pub IsBelowNext : (List ℕ → Bool) → List ℕ → Env → Top → Progress → Type 0
 IsBelowNext good home basis given st = IsOfUnit good basis given st (below_number home st.names)
 
--- whatever nodes one looks at, as long as those of the language and of what is given are among them: with the names that
--- it makes, which are numbered one after another from the state's next number on, so are those of what the unit defines.
--- In a signature or a functor the names that it binds stand too, which are numbered from 0, and no others
+-- whatever nodes one looks at, as long as those of the language and of what is given are among them: with the names
+-- that it makes, which are numbered one after another from the state's next number on, so are those of what the unit
+-- defines. In a signature or a functor the names that it binds stand too, which are numbered from 0, and no others
 pub record UnitsMakeOfGiven : Type 0 where
   pub all : (good : List ℕ → Bool) (depth : ℕ) (home : List ℕ) (basis : Env) (given : Top) (sealing : Bool)
       (tops : List TopPhrase) (st : Progress) → AllItems (TopSpelt good) tops → IsBelowNext good home basis given st
