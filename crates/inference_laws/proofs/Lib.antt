@@ -14,6 +14,9 @@ pub mod PatternsAlike
 pub mod SeenBodies
 pub mod ClosingAlike
 pub mod CoreAlike
-pub mod PutAlike
+pub mod EnvsWith
 pub mod Naming
+pub mod Firm
+pub mod PutAlike
+pub mod Opened
 pub mod Promised

@@ -1,11 +1,6 @@
 -- The names of what inference makes are those of what it is given.
-use Rattle.std.proofs.Common.{ℕ, zero, suc, List, [], ◌∷◌, ◌++◌, length, drop, get_or, ◌-◌, Option, Some, None, Bool, true, false, not}
+use Rattle.std.proofs.Common.{ℕ, suc, List, [], ◌∷◌, ◌++◌, length, get_or, ◌-◌, Option, Some, None, Bool, true, false, not}
 use Rattle.std.specs.Option.{is_some}
-use Rattle.std.specs.FinMap.Entries.{by_order}
-use Rattle.std.specs.declared.cmp.Ordering.{Ordering}
-use Rattle.std.specs.declared.cmp.Ordering.TheVariants as ordering
-use Rattle.std.specs.Ordering.{eq_by_cmp}
-use Rattle.std.specs.Prelude.{cond}
 use Rattle.sml_trees.specs.declared.name.At.{At}
 use Rattle.sml_trees.specs.declared.name.LongName.{LongName}
 use Rattle.semantic_objects.specs.declared.name.TyName.{TyName}
@@ -13,13 +8,13 @@ use Rattle.semantic_objects.specs.declared.entry.ConEntry.{ConEntry}
 use Rattle.semantic_objects.specs.declared.entry.TypeStr.{TypeStr}
 use Rattle.semantic_objects.specs.declared.entry.ValueEntry.{ValueEntry}
 use Rattle.semantic_objects.specs.declared.entry.VidStatus.TheVariants as status
-use Rattle.semantic_objects.specs.Tables.{Table, by_bytes, entry, with_entry, with_all}
+use Rattle.semantic_objects.specs.Tables.{Table, entry, with_entry}
 use Rattle.semantic_objects.specs.Trees.{TypeScheme}
-use Rattle.semantic_objects.specs.Environments.{Env, Structures, table_of, structures_of, structures, types, values, empty_env, with_type, with_value, modified_by}
+use Rattle.semantic_objects.specs.Environments.{Env, structures, types, values, empty_env, with_type, with_value, modified_by}
 use Rattle.unification.specs.Types.{Ty, State}
 use Rattle.bare_phrases.specs.Phrases.{TypPhrase, ConPhrase, DatPhrase, ExPhrase, PatPhrase, PatFields, Rules, DecPhrase, DecPhrases}
 use Rattle.static_semantics.specs.BasicTypes.{int_ty, string_ty, char_ty, record_ty, is_one_of, reserved_names, reserved_constructors}
-use Rattle.static_semantics.specs.Inferring.{Progress, Scope, under, with_written, with_written_alone, gives, name_at, known, unify_at, found_at, found_in_structure, is_named, is_con, stands_for_con, new_variable, new_instance, Bound, under_bound, is_kept, is_too_large, has_too_large, sized_pat, sized_dec}
+use Rattle.static_semantics.specs.Inferring.{Progress, Scope, under, with_written, with_written_alone, gives, name_at, known, unify_at, found_at, is_named, is_con, stands_for_con, new_variable, new_instance, Bound, under_bound, is_kept, is_too_large, has_too_large, sized_pat, sized_dec}
 use Rattle.static_semantics.specs.TypeInference.{infer_ty, listed, numbers, as_written, type_function, plain_type, infer_types}
 use Rattle.static_semantics.specs.PatternInference.{pat_at, bind_variable, takes_none, arrow_in, with_argument, applied_con, known_pat, name_by, name_pat, typed_variable, infer_pat, infer_pat_fields}
 use Rattle.static_semantics.specs.DatatypeInference.{own_name, own_ty, new_types, Con, Dat, infer_optional_ty, infer_cons, cons_of, infer_dats, equality_choice, con_schemes, con_entries, with_cons, with_datatype, datatype_str, made_types, datatypes_of, infer_replication, exception_of, infer_exceptions, exceptions_of}
@@ -29,119 +24,38 @@ use Rattle.static_semantics.specs.Holding.{Given, IfSome, AllItems}
 use Rattle.static_semantics.proofs.Holding.{given_then, given_where, given_known}
 use Rattle.unification.specs.Types.{put}
 use Rattle.inference_laws.specs.Nodes.{IsGood}
-use Rattle.inference_laws.specs.Naming.{RowsNamed, NamedType, NamedValue, NamedEnv, NamedStructures}
+use Rattle.inference_laws.specs.Naming.{RowsWith, NamedType, NamedValue, NamedEnv}
 use Rattle.inference_laws.specs.Spelling.{TypSpelt, ConSpelt, DatSpelt, ExSpelt, PatSpelt, PatFieldsSpelt, RulesSpelt, DecSpelt, DecsSpelt}
+use Rattle.inference_laws.proofs.EnvsWith.{rows_with, rows_after, rows_drop, items_after, env_structures, env_types, env_nothing, env_with_type, env_with_value, env_modified, env_found}
 use Rattle.inference_laws.proofs.SameTypes.{given_any}
-
--- ---- tables
-
-named_order : {A : Type 0} (good : List ℕ → Bool) (R : A → Type 0) (o : Ordering) (a b c : Table A)
-    → RowsNamed good R a → RowsNamed good R b → RowsNamed good R c → RowsNamed good R (by_order o a b c)
-named_order good R ordering.Less a b c h k l = h
-named_order good R ordering.Equal a b c h k l = k
-named_order good R ordering.Greater a b c h k l = l
-
-rows_with : {A : Type 0} (good : List ℕ → Bool) (R : A → Type 0) (name : List ℕ) (x : A) (rows : Table A)
-    → IsGood good name → R x → RowsNamed good R rows → RowsNamed good R (with_entry name x rows)
-rows_with good R name x [] h k l = (h, k, tt)
-rows_with good R name x (row ∷ rows) h k l =
-    named_order good R (by_bytes name row.0) ((name, x) ∷ row ∷ rows) ((row.0, x) ∷ rows) (row ∷ with_entry name x rows)
-    (h, k, l) (l.0, k, l.2) (l.0, l.1, rows_with good R name x rows h k l.2)
-
-rows_with_all : {A : Type 0} (good : List ℕ → Bool) (R : A → Type 0) (rows table : Table A) → RowsNamed good R rows
-    → RowsNamed good R table → RowsNamed good R (with_all rows table)
-rows_with_all good R [] table h k = k
-rows_with_all good R (row ∷ rows) table h k = rows_with_all good R rows (with_entry row.0 row.1 table) h.2
-    (rows_with good R row.0 row.1 table h.0 h.1 k)
-
-found_or : {A : Type 0} (R : A → Type 0) (c : Bool) (x : A) (o : Option A) → R x → IfSome R o
-    → IfSome R (cond c (Some x) o)
-found_or R true x o h k = h
-found_or R false x o h k = k
-
-rows_found : {A : Type 0} (good : List ℕ → Bool) (R : A → Type 0) (name : List ℕ) (rows : Table A)
-    → RowsNamed good R rows → IfSome R (entry name rows)
-rows_found good R name [] h = tt
-rows_found good R name (row ∷ rows) h = found_or R (eq_by_cmp by_bytes name row.0) row.1 (entry name rows) h.1
-    (rows_found good R name rows h.2)
-
-rows_after : {A : Type 0} (good : List ℕ → Bool) (R : A → Type 0) (first second : Table A) → RowsNamed good R first
-    → RowsNamed good R second → RowsNamed good R (first ++ second)
-rows_after good R [] second h k = k
-rows_after good R (row ∷ rows) second h k = (h.0, h.1, rows_after good R rows second h.2 k)
-
-rows_drop : {A : Type 0} (good : List ℕ → Bool) (R : A → Type 0) (n : ℕ) (rows : Table A) → RowsNamed good R rows
-    → RowsNamed good R (drop n rows)
-rows_drop good R zero rows h = h
-rows_drop good R (suc n) [] h = tt
-rows_drop good R (suc n) (row ∷ rows) h = rows_drop good R n rows h.2
-
-items_after : {A : Type 0} (R : A → Type 0) (first second : List A) → AllItems R first → AllItems R second
-    → AllItems R (first ++ second)
-items_after R [] second h k = k
-items_after R (x ∷ xs) second h k = (h.0, items_after R xs second h.1 k)
 
 -- ---- environments
 
 module _ (good : List ℕ → Bool) where
-  named_table : (ss : Structures) → NamedStructures good ss → RowsNamed good (NamedEnv good) (table_of ss)
-  named_table Structures.Nil h = tt
-  named_table (Structures.Cons name env rest) h = (h.0, h.1, named_table rest h.2)
-
-  named_parts : (rows : Table Env) → RowsNamed good (NamedEnv good) rows → NamedStructures good (structures_of rows)
-  named_parts [] h = tt
-  named_parts (row ∷ rows) h = (h.0, h.1, named_parts rows h.2)
-
-  named_structures : (env : Env) → NamedEnv good env → RowsNamed good (NamedEnv good) (structures env)
-  named_structures (Env.MakeEnv ss ts vs) h = named_table ss h.0
-
-  named_types : (env : Env) → NamedEnv good env → RowsNamed good (NamedType good) (types env)
-  named_types (Env.MakeEnv ss ts vs) h = h.1
-
-  named_values : (env : Env) → NamedEnv good env → RowsNamed good NamedValue (values env)
-  named_values (Env.MakeEnv ss ts vs) h = h.2
-
   named_nothing : NamedEnv good empty_env
-  named_nothing = (tt, tt, tt)
+  named_nothing = env_nothing (IsGood good) (NamedType good) NamedValue
 
   named_with_type : (name : List ℕ) (str : TypeStr) (env : Env) → IsGood good name → NamedType good str
       → NamedEnv good env → NamedEnv good (with_type name str env)
-  named_with_type name str env h k l = (
-    named_parts (structures env) (named_structures env l),
-    rows_with good (NamedType good) name str (types env) h k (named_types env l),
-    named_values env l,
-  )
+  named_with_type = env_with_type (IsGood good) (NamedType good) NamedValue
 
   named_with_value : (name : List ℕ) (value : ValueEntry) (env : Env) → IsGood good name → NamedEnv good env
       → NamedEnv good (with_value name value env)
-  named_with_value name value env h l = (
-    named_parts (structures env) (named_structures env l),
-    named_types env l,
-    rows_with good NamedValue name value (values env) h tt (named_values env l),
-  )
+  named_with_value name value env h k =
+      env_with_value (IsGood good) (NamedType good) NamedValue name value env h tt k
 
   named_modified : (env by : Env) → NamedEnv good env → NamedEnv good by → NamedEnv good (modified_by env by)
-  named_modified env by h k = (
-    named_parts (with_all (structures by) (structures env))
-        (rows_with_all good (NamedEnv good) (structures by) (structures env) (named_structures by k)
-        (named_structures env h)),
-    rows_with_all good (NamedType good) (types by) (types env) (named_types by k) (named_types env h),
-    rows_with_all good NamedValue (values by) (values env) (named_values by k) (named_values env h),
-  )
+  named_modified = env_modified (IsGood good) (NamedType good) NamedValue
 
-in_structure : {A : Type 0} (E : Env → Type 0) (R : A → Type 0) (o : Option Env) (find : Env → Option A) → IfSome E o
-    → ((env : Env) → E env → IfSome R (find env)) → IfSome R (found_in_structure o find)
-in_structure E R None find h k = tt
-in_structure E R (Some env) find h k = k env h
+  named_type_found : (parts : List (List ℕ)) (env : Env) → NamedEnv good env
+      → IfSome (NamedType good) (found_at types parts env)
+  named_type_found = env_found (IsGood good) (NamedType good) NamedValue (NamedType good) types
+      (env_types (IsGood good) (NamedType good) NamedValue)
 
-named_found : {A : Type 0} (good : List ℕ → Bool) (R : A → Type 0) (table : Env → Table A)
-    → ((env : Env) → NamedEnv good env → RowsNamed good R (table env)) → (parts : List (List ℕ)) (env : Env)
-    → NamedEnv good env → IfSome R (found_at table parts env)
-named_found good R table k [] env h = tt
-named_found good R table k (name ∷ []) env h = rows_found good R name (table env) (k env h)
-named_found good R table k (name ∷ next ∷ rest) env h = in_structure (NamedEnv good) R (entry name (structures env))
-    (found_at table (next ∷ rest)) (rows_found good (NamedEnv good) name (structures env) (named_structures good env h))
-    (λ inner i. named_found good R table k (next ∷ rest) inner i)
+  named_structure_found : (parts : List (List ℕ)) (env : Env) → NamedEnv good env
+      → IfSome (NamedEnv good) (found_at structures parts env)
+  named_structure_found = env_found (IsGood good) (NamedType good) NamedValue (NamedEnv good) structures
+      (env_structures (IsGood good) (NamedType good) NamedValue)
 
 -- ---- patterns
 
@@ -149,7 +63,7 @@ abbrev NamedTy : Ty → Type 0
 NamedTy t = Unit {0}
 
 abbrev BoundNamed : (List ℕ → Bool) → Bound → Type 0
-BoundNamed good bound = RowsNamed good NamedTy bound
+BoundNamed good bound = RowsWith (IsGood good) NamedTy bound
 
 abbrev PatNamed : (List ℕ → Bool) → Ty × Bound × Progress → Type 0
 PatNamed good r = BoundNamed good r.1
@@ -163,7 +77,7 @@ bind_named : (good : List ℕ → Bool) (sc : Scope) (at : At) (name : List ℕ)
     → IsGood good name → BoundNamed good bound → Given (PatNamed good) (bind_variable sc at name bound st)
 bind_named good sc at name bound st h k = given_where (PatNamed good) (is_one_of reserved_names name) 34 sc at _
     (given_where (PatNamed good) (is_named name bound) 40 sc at _
-    (rows_after good NamedTy bound ((name, (new_variable st).0) ∷ []) k (h, tt, tt)))
+    (rows_after (IsGood good) NamedTy bound ((name, (new_variable st).0) ∷ []) k (h, tt, tt)))
 
 known_named : (good : List ℕ → Bool) (sc : Scope) (long : LongName) (at : At) (bound : Bound) (st : Progress)
     → BoundNamed good bound → Given (PatNamed good) (known_pat sc long at bound st)
@@ -269,7 +183,7 @@ binds_named good depth sc (Rules.Rule pat exp rest) bound groups st p h k =
     let group : Group = (is_nonexpansive sc.env exp, added bound a.1) in
     binds_named good depth sc rest a.1 (groups ++ group ∷ []) u p.2 i
     (items_after (λ (g : Group). BoundNamed good g.1) groups (group ∷ []) k
-    (rows_drop good NamedTy (length bound) a.1 i, tt)))))
+    (rows_drop (IsGood good) NamedTy (length bound) a.1 i, tt)))))
 
 rec_pats_named : (good : List ℕ → Bool) (depth : ℕ) (sc : Scope) (rules : Rules) (made : RecPats) (bound : Bound)
     (st : Progress) → RulesSpelt good rules → RecsNamed good made → BoundNamed good bound
@@ -282,7 +196,7 @@ rec_pats_named good depth sc (Rules.Rule pat exp rest) made bound st p h k =
     given_where Q (not (is_variable sc.env pat)) 34 sc (pat_at pat) _
     (rec_pats_named good depth sc rest (made ++ (a.0, added bound a.1) ∷ []) a.1 a.2 p.2
     (items_after (λ (row : Ty × Bound). BoundNamed good row.1) made ((a.0, added bound a.1) ∷ []) h
-    (rows_drop good NamedTy (length bound) a.1 i, tt)) i))
+    (rows_drop (IsGood good) NamedTy (length bound) a.1 i, tt)) i))
 
 rec_groups_named : (good : List ℕ → Bool) (env : Env) (rules : Rules) (rows : RecPats) → RecsNamed good rows
     → GroupsNamed good (rec_groups env rules rows)
@@ -331,7 +245,7 @@ abbrev NamedArg : Option Ty → Type 0
 NamedArg arg = Unit {0}
 
 abbrev ConsNamed : (List ℕ → Bool) → List Con → Type 0
-ConsNamed good cons = RowsNamed good NamedArg cons
+ConsNamed good cons = RowsWith (IsGood good) NamedArg cons
 
 abbrev DatNamed : (List ℕ → Bool) → Dat → Type 0
 DatNamed good dat = IsGood good dat.name × ConsNamed good dat.cons
@@ -346,7 +260,7 @@ infer_cons_named good sc refused (con ∷ cons) before made p k =
     (given_then (λ v. Unit {0}) (ConsNamed good) (infer_optional_ty sc con.arg) _
     (given_any (infer_optional_ty sc con.arg))
     (λ arg _. infer_cons_named good sc refused cons before (made ++ (con.name.text, arg) ∷ []) p.1
-    (rows_after good NamedArg made ((con.name.text, arg) ∷ []) k (p.0.0, tt, tt)))))
+    (rows_after (IsGood good) NamedArg made ((con.name.text, arg) ∷ []) k (p.0.0, tt, tt)))))
 
 dats_named : (good : List ℕ → Bool) (sc : Scope) (refused : List (List ℕ)) (binds : List DatPhrase) (made : List Dat)
     (st : Progress) → AllItems (DatSpelt good) binds → AllItems (DatNamed good) made
@@ -368,12 +282,12 @@ NamedScheme σ = Unit {0}
 
 schemes_named : (good : List ℕ → Bool) (home : List ℕ) (first : ℕ) (choice : List Bool) (own : List (List ℕ × ℕ))
     (of : Ty) (cons : List Con) → ConsNamed good cons
-    → RowsNamed good NamedScheme (con_schemes home first choice own of cons)
+    → RowsWith (IsGood good) NamedScheme (con_schemes home first choice own of cons)
 schemes_named good home first choice own of [] h = tt
-schemes_named good home first choice own of (con ∷ cons) h = rows_with good NamedScheme con.0 _
+schemes_named good home first choice own of (con ∷ cons) h = rows_with (IsGood good) NamedScheme con.0 _
     (con_schemes home first choice own of cons) h.0 tt (schemes_named good home first choice own of cons h.2)
 
-entries_named : (good : List ℕ → Bool) (rows : Table TypeScheme) → RowsNamed good NamedScheme rows
+entries_named : (good : List ℕ → Bool) (rows : Table TypeScheme) → RowsWith (IsGood good) NamedScheme rows
     → AllItems (λ (con : ConEntry). IsGood good con.name) (con_entries rows)
 entries_named good [] h = tt
 entries_named good (row ∷ rows) h = (h.0, entries_named good rows h.2)
@@ -437,7 +351,7 @@ open_named good sc [] made h k = k
 open_named good sc (long ∷ longs) made h k =
     given_then (NamedEnv good) (NamedEnv good) (known sc long (found_at structures long.parts sc.env)) _
     (given_known (NamedEnv good) sc long (found_at structures long.parts sc.env)
-    (named_found good (NamedEnv good) structures (named_structures good) long.parts sc.env h))
+    (named_structure_found good long.parts sc.env h))
     (λ env l. open_named good sc longs (modified_by made env) h (named_modified good made env k l))
 
 dec_sized : (good : List ℕ → Bool) (sc : Scope) (at : At) (r : Env × Progress) → DecNamed good r
@@ -477,7 +391,7 @@ mutual
       given_then (NamedEnv good) (DecNamed good) (infer_replication sc name long) _
       (given_then (NamedType good) (NamedEnv good) (known sc long (found_at types long.parts sc.env)) _
       (given_known (NamedType good) sc long (found_at types long.parts sc.env)
-      (named_found good (NamedType good) types (named_types good) long.parts sc.env h))
+      (named_type_found good long.parts sc.env h))
       (λ str k. with_datatype_named good name.text str empty_env p k (named_nothing good)))
       (λ made k. dec_sized good sc at (made, st) k)
   dec_named good depth sc (DecPhrase.Exceptions binds at) st p h =

@@ -12,9 +12,11 @@ use Rattle.unification.specs.Closing.{put_tree, put_trees}
 use Rattle.unification.proofs.Walking.{or_false_left, or_false_right}
 use Rattle.static_semantics.specs.Inferring.{is_con}
 use Rattle.static_semantics.specs.EnvironmentsPut.{put_scheme, put_con, put_type, put_value, each_entry, put_env, put_structures}
-use Rattle.static_semantics.specs.Holding.{AllItems, AllRows}
-use Rattle.inference_laws.specs.Alike.{RowsAlike, StructuresAlike, is_variable_tree, IsShaped, ValuesAlike, TypesSame, SeenAlike, IsFirm, FirmType, FirmValue, FirmEnv, FirmStructures}
+use Rattle.static_semantics.specs.Holding.{AllItems}
+use Rattle.inference_laws.specs.Alike.{RowsAlike, StructuresAlike, IsShaped, ValuesAlike, TypesSame, SeenAlike, IsFirm, FirmType, FirmValue, AnyName, FirmEnv}
+use Rattle.inference_laws.specs.Naming.{RowsWith, StructuresWith}
 use Rattle.inference_laws.specs.Promises.{SeesWhatIsPut}
+use Rattle.inference_laws.proofs.Firm.{firm_shaped, dec_firm, datatypes_firm, exceptions_firm}
 
 -- ---- seen alike, so one
 
@@ -66,11 +68,6 @@ mutual
       (firm_put s x (λ n. or_false_left (frees n x) (frees_any n xs) (h n)))
       (firm_puts s xs (λ n. or_false_right (frees n x) (frees_any n xs) (h n)))
 
-firm_shaped : (x : Tree) → IsFirm x → is_variable_tree x ≡ false
-firm_shaped (Tree.Bound i) h = refl
-firm_shaped (Tree.Free n) h = let k : true ≡ false = sym (eq-eqb n n refl) ∙ h n in absurd (cc)
-firm_shaped (Tree.Made c xs) h = refl
-
 firm_cons : (s : Substitution) (cons : List ConEntry) → AllItems (λ (con : ConEntry). IsFirm con.scheme.body) cons
     → map (put_con s) cons ≡ cons
 firm_cons s [] h = refl
@@ -109,7 +106,8 @@ value_alike s v w h k e =
     }
 
 rows_alike : {A : Type 0} (R : A → A → Type 0) (F : A → Type 0) (p : A → A) (xs ys : Table A)
-    → ((x y : A) → F x → F y → p x ≡ p y → R x y) → AllRows F xs → AllRows F ys → each_entry p xs ≡ each_entry p ys
+    → ((x y : A) → F x → F y → p x ≡ p y → R x y) → RowsWith AnyName F xs → RowsWith AnyName F ys → each_entry p xs ≡
+    each_entry p ys
     → RowsAlike R xs ys
 rows_alike R F p [] [] f h k e = tt
 rows_alike R F p [] (y ∷ ys) f h k e = absurd (cc)
@@ -121,8 +119,8 @@ rows_alike {A = A} R F p (x ∷ xs) (y ∷ ys) f h k e =
     let first : one ≡ two = cc in
     let rest : each_entry p xs ≡ each_entry p ys = cc in (
       ap (λ (z : List ℕ × A). z.0) first,
-      f x.1 y.1 h.0 k.0 (ap (λ (z : List ℕ × A). z.1) first),
-      rows_alike R F p xs ys f h.1 k.1 rest,
+      f x.1 y.1 h.1 k.1 (ap (λ (z : List ℕ × A). z.1) first),
+      rows_alike R F p xs ys f h.2 k.2 rest,
     )
 
 mutual
@@ -136,7 +134,8 @@ mutual
         rows_alike (ValuesAlike s) FirmValue (put_value s) vs ws (value_alike s) h.2 k.2 c,
       )
 
-  structures_alike : (s : Substitution) (ss rs : Structures) → FirmStructures ss → FirmStructures rs
+  structures_alike : (s : Substitution) (ss rs : Structures) → StructuresWith AnyName FirmType FirmValue ss →
+      StructuresWith AnyName FirmType FirmValue rs
       → put_structures s ss ≡ put_structures s rs → StructuresAlike (ValuesAlike s) TypesSame ss rs
   structures_alike s Structures.Nil Structures.Nil h k i = tt
   structures_alike s Structures.Nil (Structures.Cons n f others) h k i = absurd (cc)
@@ -145,7 +144,13 @@ mutual
       let a : m ≡ n = cc in
       let b : put_env s e ≡ put_env s f = cc in
       let c : put_structures s rest ≡ put_structures s others = cc in
-      (a, env_alike s e f h.0 k.0 b, structures_alike s rest others h.1 k.1 c)
+      (a, env_alike s e f h.1 k.1 b, structures_alike s rest others h.2 k.2 c)
 
 pub sees_what_is_put : SeesWhatIsPut
-sees_what_is_put = record { one = env_one; alike = env_alike }
+sees_what_is_put = record {
+  one = env_one;
+  alike = env_alike;
+  dec = dec_firm;
+  datatypes = datatypes_firm;
+  exceptions = exceptions_firm;
+}

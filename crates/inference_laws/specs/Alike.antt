@@ -1,5 +1,5 @@
 -- Environments that are seen alike through a state.
-use Rattle.std.specs.Prelude.{◌≡◌, ℕ, [], ◌∷◌, Some, None, Ok, Err, Bool, true, false}
+use Rattle.std.specs.Prelude.{◌≡◌, ℕ, List, [], ◌∷◌, Some, None, Ok, Err, Bool, true, false}
 use Rattle.semantic_objects.specs.declared.entry.ConEntry.{ConEntry}
 use Rattle.semantic_objects.specs.declared.entry.TypeStr.{TypeStr}
 use Rattle.semantic_objects.specs.declared.entry.ValueEntry.{ValueEntry}
@@ -9,7 +9,8 @@ use Rattle.semantic_objects.specs.Environments.{Env, Structures}
 use Rattle.unification.specs.Types.{Ty, Substitution, put}
 use Rattle.unification.specs.Closing.{put_tree}
 use Rattle.static_semantics.specs.Inferring.{Progress, Scope, Answer, Bound, is_con}
-use Rattle.static_semantics.specs.Holding.{AllItems, AllRows}
+use Rattle.static_semantics.specs.Holding.{AllItems}
+use Rattle.inference_laws.specs.Naming.{EnvWith}
 
 -- ---- tables and answers
 
@@ -105,12 +106,10 @@ FirmType str = IsFirm str.function.body × AllItems (λ (con : ConEntry). IsFirm
 abbrev pub FirmValue : ValueEntry → Type 0
 FirmValue value = is_con value.status ≡ true → is_variable_tree value.scheme.body ≡ false
 
+abbrev pub AnyName : List ℕ → Type 0
+AnyName name = Unit {0}
+
 -- no variable of the table stands in the types of an environment, and the type of none of its constructors and
 -- exceptions is such a variable
-abbrev mutual
-  pub FirmEnv : Env → Type 0
-  FirmEnv (Env.MakeEnv ss ts vs) = FirmStructures ss × AllRows FirmType ts × AllRows FirmValue vs
-
-  pub FirmStructures : Structures → Type 0
-  FirmStructures Structures.Nil = Unit {0}
-  FirmStructures (Structures.Cons name env rest) = FirmEnv env × FirmStructures rest
+abbrev pub FirmEnv : Env → Type 0
+FirmEnv env = EnvWith AnyName FirmType FirmValue env

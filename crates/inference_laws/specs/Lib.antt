@@ -1,6 +1,6 @@
 pub mod Nodes
 pub mod Spelling
 pub mod WellFormed
-pub mod Alike
 pub mod Naming
+pub mod Alike
 pub mod Promises

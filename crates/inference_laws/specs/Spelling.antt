@@ -1,4 +1,5 @@
--- Names and labels that a phrase has where it may bind them, or where a record has them.
+-- Names and labels that a phrase has where it may bind them, or where a record has them: each is such as one asks for,
+-- as of 1 to 255 bytes from 33 to 126.
 use Rattle.std.specs.Prelude.{ℕ, List, Option, Some, None, Bool}
 use Rattle.bare_phrases.specs.Phrases.{TyPhrase, TyFields, TyPhrases, TypPhrase, ConPhrase, DatPhrase, ExBodyPhrase, ExPhrase, PatPhrase, PatFields, ExpPhrase, ExpFields, Rules, DecPhrase, DecPhrases}
 use Rattle.static_semantics.specs.Holding.{AllItems}

@@ -1,5 +1,5 @@
 -- Well-formed types over known type names, and how these grow.
-use Rattle.std.specs.Prelude.{◌≡◌, ℕ, ◌<◌, ◌≤◌, List, [], ◌∷◌, length, Bool, true, ◌&&◌, ◌⊎◌, eqb, leb}
+use Rattle.std.specs.Prelude.{◌≡◌, ℕ, ◌<◌, ◌≤◌, List, [], ◌∷◌, length, Bool, true, ◌&&◌, ◌⊎◌, eqb}
 use Rattle.std.specs.List.{list_all}
 use Rattle.std.specs.Ordering.{is_lt}
 use Rattle.semantic_objects.specs.declared.name.Owner.TheVariants as owner
@@ -7,10 +7,6 @@ use Rattle.semantic_objects.specs.declared.name.TyName.{TyName}
 use Rattle.semantic_objects.specs.declared.symbol.Symbol.TheVariants as symbol
 use Rattle.semantic_objects.specs.Tables.{by_bytes}
 use Rattle.inference_laws.specs.Nodes.{Nodes}
-
--- a name or a label as a source has it: 1 to 255 bytes from 33 to 126
-abbrev pub is_printed : List ℕ → Bool
-is_printed text = leb 1 (length text) && (leb (length text) 255 && list_all (λ c. leb 33 c && leb c 126) text)
 
 -- labels that rise strictly by their bytes
 abbrev pub are_rising : List (List ℕ) → Bool

@@ -1,7 +1,7 @@
 //! The laws, so that crates above have them from a call.
 
 ghost use Rattle.inference_laws.specs.Promises.{MakesOfGiven, KeepsWellFormed, KeepsNames};
-ghost use Rattle.inference_laws.specs.Promises.{HangsOnWhatIsSeen, SeesWhatIsPut};
+ghost use Rattle.inference_laws.specs.Promises.{HangsOnWhatIsSeen, SeesWhatIsPut, BindsNewOrFree, BeginsReady};
 
 /// What inference makes is made of what it is given, and of type names that it numbers one after another.
 #[tactic(auto, using(crate::proofs::Promised::makes_of_given))]
@@ -23,4 +23,11 @@ pub fn inference_keeps_what_is_well_formed()
 pub fn inference_hangs_on_what_is_seen()
     ensures hangs { HangsOnWhatIsSeen }
     ensures put { SeesWhatIsPut }
+{}
+
+/// Inference binds variables alone that are new or free around, and every other one stays.
+#[tactic(auto, using(crate::proofs::Opened::binds_new_or_free, crate::proofs::Opened::begins_ready))]
+pub fn inference_binds_new_or_free_variables()
+    ensures binds { BindsNewOrFree }
+    ensures begins { BeginsReady }
 {}

@@ -5,6 +5,6 @@
 mod laws;
 
 pub use laws::{
-    inference_hangs_on_what_is_seen, inference_keeps_what_is_well_formed,
-    inference_makes_of_what_it_is_given,
+    inference_binds_new_or_free_variables, inference_hangs_on_what_is_seen,
+    inference_keeps_what_is_well_formed, inference_makes_of_what_it_is_given,
 };
