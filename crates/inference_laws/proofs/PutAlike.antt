@@ -7,15 +7,17 @@ use Rattle.semantic_objects.specs.declared.entry.ValueEntry.{ValueEntry}
 use Rattle.semantic_objects.specs.Tables.{Table}
 use Rattle.semantic_objects.specs.Trees.{Tree, Trees, TypeScheme, frees, frees_any}
 use Rattle.semantic_objects.specs.Environments.{Env, Structures}
-use Rattle.unification.specs.Types.{Substitution}
+use Rattle.unification.specs.Types.{Substitution, State}
+use Rattle.unification.specs.Unification.{IsSettled}
 use Rattle.unification.specs.Closing.{put_tree, put_trees}
 use Rattle.unification.proofs.Walking.{or_false_left, or_false_right}
 use Rattle.static_semantics.specs.Inferring.{is_con}
 use Rattle.static_semantics.specs.EnvironmentsPut.{put_scheme, put_con, put_type, put_value, each_entry, put_env, put_structures}
 use Rattle.static_semantics.specs.Holding.{AllItems}
-use Rattle.inference_laws.specs.Alike.{RowsAlike, StructuresAlike, IsShaped, ValuesAlike, TypesSame, SeenAlike, IsFirm, FirmType, FirmValue, AnyName, FirmEnv}
+use Rattle.inference_laws.specs.Alike.{is_variable_tree, RowsAlike, StructuresAlike, IsShaped, ValuesAlike, TypesSame, SeenAlike, IsFirm, FirmType, FirmValue, AnyName, FirmEnv}
 use Rattle.inference_laws.specs.Naming.{RowsWith, StructuresWith}
 use Rattle.inference_laws.specs.Promises.{SeesWhatIsPut}
+use Rattle.inference_laws.proofs.SeenLater.{tree_changed}
 use Rattle.inference_laws.proofs.Firm.{firm_shaped, dec_firm, datatypes_firm, exceptions_firm}
 
 -- ---- seen alike, so one
@@ -146,10 +148,47 @@ mutual
       let c : put_structures s rest ≡ put_structures s others = cc in
       (a, env_alike s e f h.1 k.1 b, structures_alike s rest others h.2 k.2 c)
 
+-- ---- an environment with everything put in
+
+shape_kept : (s : Substitution) (x : Tree) → is_variable_tree x ≡ false → is_variable_tree (put_tree s x) ≡ false
+shape_kept s (Tree.Bound i) h = refl
+shape_kept s (Tree.Free n) h = absurd (cc)
+shape_kept s (Tree.Made c xs) h = refl
+
+value_put : (s : State) (v : ValueEntry) → IsSettled s → FirmValue v → ValuesAlike s.stands v (put_value s.stands v)
+value_put s v h k = record {
+  status = refl;
+  marks = refl;
+  body = tree_changed s.stands s.stands s.stands v.scheme.body (λ n. sym (h.solves.types n));
+  shaped = λ e. (k e, shape_kept s.stands v.scheme.body (k e));
+}
+
+type_put : (s : Substitution) (str : TypeStr) → FirmType str → TypesSame str (put_type s str)
+type_put s str h = record { same = sym (firm_type s str h); shaped = cons_shaped str.cons h.1 }
+
+rows_put : {A : Type 0} (R : A → A → Type 0) (F : A → Type 0) (p : A → A) (xs : Table A)
+    → ((x : A) → F x → R x (p x)) → RowsWith AnyName F xs → RowsAlike R xs (each_entry p xs)
+rows_put R F p [] f h = tt
+rows_put R F p (x ∷ xs) f h = (refl, f x.1 h.1, rows_put R F p xs f h.2)
+
+mutual
+  env_put : (s : State) (e : Env) → IsSettled s → FirmEnv e → SeenAlike s.stands e (put_env s.stands e)
+  env_put s (Env.MakeEnv ss ts vs) h k = (
+    structures_put s ss h k.0,
+    rows_put TypesSame FirmType (put_type s.stands) ts (type_put s.stands) k.1,
+    rows_put (ValuesAlike s.stands) FirmValue (put_value s.stands) vs (λ v i. value_put s v h i) k.2,
+  )
+
+  structures_put : (s : State) (ss : Structures) → IsSettled s → StructuresWith AnyName FirmType FirmValue ss
+      → StructuresAlike (ValuesAlike s.stands) TypesSame ss (put_structures s.stands ss)
+  structures_put s Structures.Nil h k = tt
+  structures_put s (Structures.Cons n e rest) h k = (refl, env_put s e h k.1, structures_put s rest h k.2)
+
 pub sees_what_is_put : SeesWhatIsPut
 sees_what_is_put = record {
   one = env_one;
   alike = env_alike;
+  itself = env_put;
   dec = dec_firm;
   datatypes = datatypes_firm;
   exceptions = exceptions_firm;

@@ -48,7 +48,7 @@ mutual
   put_closed_all c (Types.Cons t ts) = ap₂ Trees.Cons (put_closed c t) (put_closed_all c ts)
 
 mutual
-  tree_changed : (s u c : Substitution) (x : Tree) → ((n : ℕ) → u n ≡ put c (s n))
+  pub tree_changed : (s u c : Substitution) (x : Tree) → ((n : ℕ) → u n ≡ put c (s n))
       → put_tree u x ≡ put_tree c (put_tree s x)
   tree_changed s u c (Tree.Bound i) h = refl
   tree_changed s u c (Tree.Free n) h = ap (closed_over []) (h n) ∙ sym (put_closed c (s n))

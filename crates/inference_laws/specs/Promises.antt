@@ -4,6 +4,7 @@ use Rattle.semantic_objects.specs.declared.name.TyName.{TyName}
 use Rattle.semantic_objects.specs.Environments.{Env}
 use Rattle.semantic_objects.specs.Trees.{IsScheme}
 use Rattle.unification.specs.Types.{Ty, Substitution, State}
+use Rattle.unification.specs.Unification.{IsSettled}
 use Rattle.unification.specs.Fitting.{IsFit}
 use Rattle.bare_phrases.specs.Phrases.{TyPhrase, PatPhrase, ExpPhrase, Rules, DecPhrase, DatPhrase, ExPhrase}
 use Rattle.static_semantics.specs.Inferring.{Progress, Scope, outermost, Bound, is_kept}
@@ -104,10 +105,12 @@ pub record HangsOnWhatIsSeen : Type 0 where
       → Both (SeenAlike s) (exceptions_of sc binds) (exceptions_of (in_env f sc) binds)
 
 -- environments that are seen alike are one with everything put in; the other way round this holds of environments in
--- whose types no variable of the table stands, and what inference makes in such ones is such a one
+-- whose types no variable of the table stands, and what inference makes in such ones is such a one. So each such one is
+-- seen as what it is with everything put in
 pub record SeesWhatIsPut : Type 0 where
   pub one : (s : Substitution) (e f : Env) → SeenAlike s e f → put_env s e ≡ put_env s f
   pub alike : (s : Substitution) (e f : Env) → FirmEnv e → FirmEnv f → put_env s e ≡ put_env s f → SeenAlike s e f
+  pub itself : (s : State) (env : Env) → IsSettled s → FirmEnv env → SeenAlike s.stands env (put_env s.stands env)
   pub dec : (depth : ℕ) (sc : Scope) (dec : DecPhrase) (st : Progress) → FirmEnv sc.env
       → Given (λ r. FirmEnv r.0) (infer_dec depth sc dec st)
   pub datatypes : (sc : Scope) (refused : List (List ℕ)) (binds : List DatPhrase) (st : Progress) → FirmEnv sc.env
