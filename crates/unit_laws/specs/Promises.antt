@@ -9,6 +9,8 @@ use Rattle.inference_laws.specs.WellFormed.{well_formed, AreKnown}
 use Rattle.inference_laws.specs.Promises.{GivesWellFormed}
 use Rattle.unit_semantics.specs.UnitPhrases.{TopPhrase}
 use Rattle.unit_semantics.specs.UnitInference.{with_given, infer_unit}
+use Rattle.inference_laws.specs.Naming.{NamedEnv}
+use Rattle.unit_laws.specs.Naming.{TopNamed, NamedTop}
 use Rattle.unit_laws.specs.Spelling.{TopSpelt}
 use Rattle.unit_laws.specs.Parts.{TopOf, IsOfTop}
 
@@ -38,3 +40,10 @@ pub record UnitsKeepWellFormed : Type 0 where
       → AreKnown home st.names known → IsOfUnit good basis given st (well_formed good known)
       → Given (λ r. GivesWellFormed good home known st r.1 (λ q. TopOf q r.0))
       (infer_unit depth home basis given sealing tops st)
+
+-- where the names of what is given and those that a unit binds are such as one asks for, so are those of what it
+-- defines: of structures, types, constructors, values, signatures, functors and funsigs
+pub record UnitsKeepNames : Type 0 where
+  pub all : (good : List ℕ → Bool) (depth : ℕ) (home : List ℕ) (basis : Env) (given : Top) (sealing : Bool)
+      (tops : List TopPhrase) (st : Progress) → AllItems (TopNamed good) tops → NamedEnv good basis
+      → NamedTop good given → Given (λ r. NamedTop good r.0) (infer_unit depth home basis given sealing tops st)
