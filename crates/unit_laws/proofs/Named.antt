@@ -81,7 +81,8 @@ module _ (good : List ℕ → Bool) where
   cons_changed c [] h = tt
   cons_changed c (con ∷ cons) h = (h.0, cons_changed c cons h.1)
 
-  types_changed : (c : Change) (rows : Table TypeStr) → RowsWith N T rows → RowsWith N T (each_row (changed_type c) rows)
+  types_changed : (c : Change) (rows : Table TypeStr) → RowsWith N T rows → RowsWith N T (each_row (changed_type c)
+      rows)
   types_changed c [] h = tt
   types_changed c (row ∷ rows) h = (h.0, cons_changed c row.1.cons h.1, types_changed c rows h.2)
 
@@ -404,7 +405,8 @@ module _ (good : List ℕ → Bool) where
   with_param : (top : Top) (name : Name) (param : Env) → NamedTop good top → N name.text → E param
       → NamedTop good (top_with_param name param top)
   with_param top name param h n k =
-      top_under_named top (with_structure name.text param empty_env) h (one_structure name.text param empty_env n k nothing)
+      top_under_named top (with_structure name.text param empty_env) h (one_structure name.text param empty_env n k
+      nothing)
 
   functors_named : (depth : ℕ) (home : List ℕ) (top : Top) (binds : List FunPhrase) (made : Table Functor)
       (st : Progress) → AllItems (FunNamed good) binds → NamedTop good top → RowsWith N (NamedFunctor good) made
@@ -417,7 +419,8 @@ module _ (good : List ℕ → Bool) where
       (signature_named top.signatures (core_scope home top) bind.param_sig st p.0.param_sig h.signatures h.env) (λ s l.
       let inside : Signature × Progress = opened home s.0 s.1 in
       given_then (λ r. F r.0) (Rows_ F) (infer_body depth home top bind s.0 inside) _
-      (given_then Mod (λ r. F r.0) (infer_module depth home (top_with_param bind.param inside.0.env top) bind.body inside.1) _
+      (given_then Mod (λ r. F r.0) (infer_module depth home (top_with_param bind.param inside.0.env top) bind.body
+      inside.1) _
       (module_named depth home (top_with_param bind.param inside.0.env top) bind.body inside.1 p.0.body
       (with_param top bind.param inside.0.env h p.0.param (env_opened home s.0 s.1 l))) (λ r m.
       given_then Mod (λ r. F r.0) (without_variables (core_scope home top) bind.name r) _
@@ -462,7 +465,8 @@ module _ (good : List ℕ → Bool) where
       (structures_named depth home top binds empty_env st p h nothing)
       (λ r k. record { env = k; signatures = tt; functors = tt; funsigs = tt })
   top_named depth home top (TopPhrase.Signatures binds at) st p h =
-      given_then (Rows_ S) TopIn (infer_signatures home top binds [] st) _ (signatures_named home top binds [] st p h tt)
+      given_then (Rows_ S) TopIn (infer_signatures home top binds [] st) _ (signatures_named home top binds [] st p h
+      tt)
       (λ r k. record { env = nothing; signatures = k; functors = tt; funsigs = tt })
   top_named depth home top (TopPhrase.Functors binds at) st p h =
       given_then (Rows_ (NamedFunctor good)) TopIn (infer_functors depth home top binds [] st) _
