@@ -145,7 +145,8 @@ functor_apart own fun m n i j e = either_way (is_of_param fun m)
     (λ q. absurd (below_further own fun m n i.0 p j.1 q e)))
     (λ p. either_way (is_of_param fun n)
     (λ q. absurd (below_further own fun n m j.0 q i.1 p (sym e)))
-    (λ q. numbers_apart (is_further fun) (names_in_functor fun) (length (met (is_of_param fun) (names_in_functor fun))) own
+    (λ q. numbers_apart (is_further fun) (names_in_functor fun) (length (met (is_of_param fun) (names_in_functor
+    fun))) own
     m n (i.0, is_then_further fun m i.1 p) (j.0, is_then_further fun n j.1 q)
     (sym (as_further own fun m p) ∙ e ∙ as_further own fun n q)))
 

@@ -102,7 +102,8 @@ values_alike h c r (row ∷ rows) = alike_more h row.1.scheme.body (c.scheme row
 mutual
   env_alike : (h : TyName → TyName) (c : Change) → Renames h c → (env : Env)
       → Alike h (types_in env) (types_in (changed c env))
-  env_alike h c r (Env.MakeEnv ss ts vs) = alike_both h (types_in_structures ss) (types_in_types ts ++ types_in_values vs)
+  env_alike h c r (Env.MakeEnv ss ts vs) = alike_both h (types_in_structures ss) (types_in_types ts ++ types_in_values
+      vs)
       (types_in_structures (changed_structures c ss))
       (types_in_types (each_row (changed_type c) ts) ++ types_in_values (each_row (changed_value c) vs))
       (structures_alike h c r ss)

@@ -58,7 +58,8 @@ signature_alike own next h sig other w m =
     λ n l. numbered_renamed is_bound_name is_bound_name h xs ys 0 own next e m.apart n (h n) l (t n l) (λ _. refl)
     (m.keeps n l) (m.others n l) in
     ap₂ sig_of
-    (binder_alike is_bound_name h (signature_name own sig) (signature_name next other) xs (met is_bound_name ys) e agree)
+    (binder_alike is_bound_name h (signature_name own sig) (signature_name next other) xs (met is_bound_name ys) e
+    agree)
     (w.form (signature_name next other)
     ∙ form_agrees (λ n. signature_name next other (h n)) (signature_name own sig) sig.env agree)
 

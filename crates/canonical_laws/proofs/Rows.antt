@@ -61,7 +61,8 @@ canon_1 = refl
 
 -- a structure inside comes before the types beside it, and names of other units stay
 
-canon_2 : canonical home (top_of (with_structure (codes "A") (type_is (codes "a") (own 5) (type_is (codes "b") (foreign 5)
+canon_2 : canonical home (top_of (with_structure (codes "A") (type_is (codes "a") (own 5) (type_is (codes "b")
+    (foreign 5)
     (with_structure (codes "B") (type_is (codes "z") (own 6) empty_env) empty_env))) empty_env) [] [])
     ≡ top_of (with_structure (codes "A") (type_is (codes "a") (own 1) (type_is (codes "b") (foreign 5)
     (with_structure (codes "B") (type_is (codes "z") (own 0) empty_env) empty_env))) empty_env) [] []
@@ -106,18 +107,21 @@ canon_4 : canonical home (top_of empty_env [] ((
         bound = bound 0 ∷ bound 1 ∷ [];
         param = type_is (codes "t") (bound 0) (type_is (codes "u") (bound 1) empty_env);
         further = bound 2 ∷ bound 3 ∷ [];
-        result = type_is (codes "a") (bound 2) (type_is (codes "b") (bound 1) (type_is (codes "c") (bound 3) empty_env));
+        result = type_is (codes "a") (bound 2) (type_is (codes "b") (bound 1) (type_is (codes "c") (bound 3)
+            empty_env));
       } in fun),
     ) ∷ [])
 canon_4 = refl
 
 -- ---- schemes: the variables by first occurrence with their marks, and one that doesn't occur is gone
 
-form_1 : canonical_scheme (scheme (false ∷ false ∷ true ∷ []) (arrow (Tree.Bound 2) (arrow (Tree.Bound 0) (Tree.Bound 2))))
+form_1 : canonical_scheme (scheme (false ∷ false ∷ true ∷ []) (arrow (Tree.Bound 2) (arrow (Tree.Bound 0) (Tree.Bound
+    2))))
     ≡ scheme (true ∷ false ∷ []) (arrow (Tree.Bound 0) (arrow (Tree.Bound 1) (Tree.Bound 0)))
 form_1 = refl
 
-canon_5 : canonical home (top_of (value_is (codes "x") (false ∷ true ∷ []) (arrow (Tree.Bound 1) (alone (own 2))) empty_env)
+canon_5 : canonical home (top_of (value_is (codes "x") (false ∷ true ∷ []) (arrow (Tree.Bound 1) (alone (own 2)))
+    empty_env)
     [] [])
     ≡ top_of (value_is (codes "x") (true ∷ []) (arrow (Tree.Bound 0) (alone (own 0))) empty_env) [] []
 canon_5 = refl

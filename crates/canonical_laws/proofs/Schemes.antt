@@ -99,7 +99,8 @@ found_alike B f a t b = walk_tree B Anything (FindsAlike B f) (FindsAllAlike B f
       free = λ n _ vs h. record { is = refl; all = h };
       made = λ c ts k. k;
       none = λ vs h. record { is = refl; all = h };
-      more = λ u us k ks vs h. (let first : FoundAlike B f (bound_in u vs) (bound_in (plug (by_number f) u) (map f vs)) =
+      more = λ u us k ks vs h. (let first : FoundAlike B f (bound_in u vs) (bound_in (plug (by_number f) u) (map f
+          vs)) =
           k vs h in
           let rest : FoundAlike B f (bound_in_all us (bound_in u vs))
           (bound_in_all (plug_all (by_number f) us) (map f (bound_in u vs))) = ks (bound_in u vs) first.all in

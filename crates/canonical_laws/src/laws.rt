@@ -8,7 +8,8 @@ pub fn canonical_is_canonical()
     ensures { CanonicalIsCanonical }
 {}
 
-/// Whatever numbers the names of a unit and of binders had, and the variables of schemes, the canonical form is the same.
+/// Whatever numbers the names of a unit and of binders had, and the variables of schemes, the canonical form is the
+/// same.
 #[tactic(auto, using(crate::proofs::Promised::numbers_change_nothing))]
 pub fn numbers_change_nothing()
     ensures { NumbersChangeNothing }

@@ -75,7 +75,8 @@ mutual
   realised_all_of : (s : State) (φ : Realisation) → PutsOf s φ → (ts : Trees)
       → ((n : ℕ) → frees_any n ts ≡ true → n < s.next) → (n : ℕ) → frees_any n (realised_trees φ ts) ≡ true → n < s.next
   realised_all_of s φ p Trees.Nil h n e = absurd (cc)
-  realised_all_of s φ p (Trees.Cons t ts) h n e = or_either (frees n (realised_tree φ t)) (frees_any n (realised_trees φ ts)) e
+  realised_all_of s φ p (Trees.Cons t ts) h n e = or_either (frees n (realised_tree φ t)) (frees_any n (realised_trees
+      φ ts)) e
       (λ i. realised_of s φ p t (λ m j. h m (or_left (frees m t) (frees_any m ts) j)) n i)
       (λ i. realised_all_of s φ p ts (λ m j. h m (or_right (frees m t) (frees_any m ts) j)) n i)
 
@@ -92,7 +93,8 @@ items_of s φ p (x ∷ xs) h = (item_of s φ p x h.0, items_of s φ p xs h.1)
 
 env_of : (s : State) (φ : Realisation) (env : Env) → PutsOf s φ → AllItems (IsItemOf s) (items env)
     → AllItems (IsItemOf s) (items (realised φ env))
-env_of s φ env p h = subst (AllItems (IsItemOf s)) (sym (items_by (realised_tree φ) [] env)) (items_of s φ p (items env) h)
+env_of s φ env p h = subst (AllItems (IsItemOf s)) (sym (items_by (realised_tree φ) [] env)) (items_of s φ p (items
+    env) h)
 
 -- ---- what matching puts
 

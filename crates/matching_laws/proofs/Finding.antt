@@ -298,7 +298,8 @@ all_go sc at s env sig φ m (x ∷ xs) rows h w =
 -- ---- no name is left
 
 none_left : (rows : Rows) (bound : List TyName)
-    → ((name : TyName) → is_listed name bound ≡ true → is_left rows name ≡ false) → list_any (is_left rows) bound ≡ false
+    → ((name : TyName) → is_listed name bound ≡ true → is_left rows name ≡ false) → list_any (is_left rows) bound ≡
+    false
 none_left rows [] h = refl
 none_left rows (m ∷ ms) h = ap₂ (λ a b. a || b)
     (h m (or_left (same_name m m) (is_listed m ms) (name_same m)))
@@ -329,7 +330,8 @@ scheme_same σ = and_both (same_list same_bool σ.marks σ.marks) (same_tree σ.
     (tree_same σ.body)
 
 form_same : (a b : ConEntry) → con_form a ≡ con_form b → same_con a b ≡ true
-form_same a b e = and_both (same_text a.name b.name) (same_scheme (canonical_scheme a.scheme) (canonical_scheme b.scheme))
+form_same a b e = and_both (same_text a.name b.name) (same_scheme (canonical_scheme a.scheme) (canonical_scheme
+    b.scheme))
     (subst (λ z. same_text a.name z ≡ true) (ap (λ p. p.0) e) (text_same a.name))
     (subst (λ z. same_scheme (canonical_scheme a.scheme) z ≡ true) (ap (λ p. p.1) e)
     (scheme_same (canonical_scheme a.scheme)))
@@ -439,7 +441,8 @@ finds sc at s env sig φ of alone own m =
 pub where_one_does : MatchesWhereOneDoes
 where_one_does = record {
   finds = finds;
-  gives_it = λ sc at s env sig φ of alone own m. (let r : FindsRows sc at s env sig φ = finds sc at s env sig φ of alone own m in
+  gives_it = λ sc at s env sig φ of alone own m. (let r : FindsRows sc at s env sig φ = finds sc at s env sig φ of
+      alone own m in
       ap (λ q. q >>= λ rows. gives (realised (of_rows rows) sig.env)) r.found
       ∙ ap gives (realised_agrees (of_rows r.rows) φ sig.env (λ name l. r.same name)));
 }

@@ -166,8 +166,8 @@ walk_7 : into (with_structure (codes "A") (x_is string_tree) empty_env)
     ≡ refused 37 7 (codes "A.x" ∷ [])
 walk_7 = refl
 
--- a flexible name that stands alone twice is realised at the first: struct type t = int type u = string end : sig type t
--- type u = t end
+-- a flexible name that stands alone twice is realised at the first: struct type t = int type u = string end : sig
+-- type t type u = t end
 walk_8 : into (t_is int_tree (u_is string_tree empty_env))
     (sig_of (bound_name 0 false ∷ []) (t_is (named (bound_name 0 false)) (u_is (named (bound_name 0 false)) empty_env)))
     ≡ refused 37 7 (codes "u" ∷ [])

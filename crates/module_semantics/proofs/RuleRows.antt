@@ -34,7 +34,8 @@ over_own number = with_value (codes "v") (value status.Variable [] (named (own n
 
 -- a name without arguments
 named_ty : (sc : Scope) (text : List ℕ) (n : ℕ) (found : TypeStr)
-    → Rattle.static_semantics.specs.Inferring.found_at Rattle.semantic_objects.specs.Environments.types (text ∷ []) sc.env
+    → Rattle.static_semantics.specs.Inferring.found_at Rattle.semantic_objects.specs.Environments.types (text ∷ [])
+    sc.env
     ≡ Some found → 0 ≡ found.function.arity
     → ElaboratesTy sc (con_ty text n) (Rattle.static_semantics.specs.TypeInference.applied_to found.function [])
 named_ty sc text n found e a = ElaboratesTy.rule_46 sc TyPhrases.EndOfArgs (long (text ∷ []) n) (at n) found []
@@ -112,7 +113,8 @@ eqtype_row = ElaboratesSpec.rule_70 sigs top 3 4 _ (at 10) _
     (ElaboratesTypeDescs.no_type_descs top true 4 _))
 
 -- datatype t = datatype int
-copied_row : ElaboratesSpec sigs top 3 (SpecPhrase.Replication (name (codes "t") 14) (long (codes "int" ∷ []) 27) (at 5))
+copied_row : ElaboratesSpec sigs top 3 (SpecPhrase.Replication (name (codes "t") 14) (long (codes "int" ∷ []) 27) (at
+    5))
     (sig_of [] (with_type (codes "t") (type_of 0 int_tree []) empty_env)) 3
 copied_row = ElaboratesSpec.rule_72 sigs top 3 (name (codes "t") 14) (long (codes "int" ∷ []) 27) (at 5)
     (type_of 0 int_tree []) refl

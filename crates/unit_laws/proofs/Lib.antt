@@ -5,3 +5,4 @@ pub mod Matched
 pub mod ModulesMade
 pub mod UnitsMade
 pub mod Promised
+pub mod Named

@@ -47,7 +47,8 @@ pub sigs_of : (good : List ℕ → Bool) (home : List ℕ) (q : Nodes) (top : To
 sigs_of good home q top st u h k =
     (record { scope = record { admits = h.admits; env = h.scope.env; written = tt }; state = k }, h.scope.signatures)
 
-pub under_top : (good : List ℕ → Bool) (q : Nodes) (top : Top) (st : Progress) (d : Env × Progress) → IsOfTop good top st q
+pub under_top : (good : List ℕ → Bool) (q : Nodes) (top : Top) (st : Progress) (d : Env × Progress)
+    → IsOfTop good top st q
     → DecOf d q → IsOfTop good (top_under d.0 top) d.1 q
 under_top good q top st d h k = record {
   admits = h.admits;
@@ -146,7 +147,8 @@ result_made good home fun rows st has =
         p.1,
         env_realised (allowing (fun.bound ++ fun.further) q) q (of_rows (rows ++ more))
             (from_allowed q (fun.bound ++ fun.further) (rows ++ more) (empty_stands good q p.0)
-            (items_after (λ (row : TyName × TypeFn). TreeOf q row.1.body) rows more p.3 (between_of q fun.further news n))
+            (items_after (λ (row : TyName × TypeFn). TreeOf q row.1.body) rows more p.3 (between_of q fun.further news
+            n))
             (λ name l. listed_either name fun.bound fun.further l
             (λ i. rows_front rows more name (has name i))
             (λ i. rows_back rows more name
@@ -235,7 +237,8 @@ mutual
   module_made good depth home top (ModulePhrase.Functor name argument at) st p h =
       given_then (λ fun. (q : Nodes) → IsOfTop good top st q → FunctorOf q fun) (ModMade good home top st)
       (known (core_scope home top) (single name) (entry name.text top.functors)) _
-      (given_all (IsOfTop good top st) FunctorOf (known (core_scope home top) (single name) (entry name.text top.functors))
+      (given_all (IsOfTop good top st) FunctorOf (known (core_scope home top) (single name) (entry name.text
+      top.functors))
       (λ q i. given_known (FunctorOf q) (core_scope home top) (single name) (entry name.text top.functors)
       (rows_found (FunctorOf q) name.text top.functors i.scope.functors))) (λ fun f.
       given_then (ModMade good home top st) (ModMade good home top st) (infer_module depth home top argument st) _
@@ -256,7 +259,8 @@ mutual
   dec_of good depth home top (ModuleDec.Core dec) st p h =
       given_more (DecMade good (core_scope home top) st) (ModMade good home top st)
       (infer_dec depth (core_scope home top) dec st) (λ r k. before refl k (λ q i. core_of good home q top st i))
-      (dec_made good depth (core_scope home top) dec st p (λ m l. core_of good home (below_number home m) top st (h m l)))
+      (dec_made good depth (core_scope home top) dec st p (λ m l. core_of good home (below_number home m) top st (h m
+      l)))
   dec_of good depth home top (ModuleDec.Local hidden shown at) st p h =
       given_then (ModMade good home top st) (ModMade good home top st) (infer_module_dec depth home top hidden st) _
       (dec_of good depth home top hidden st p.0 h) (λ d k.

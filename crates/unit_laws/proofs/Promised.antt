@@ -175,7 +175,8 @@ made_well_formed good known home top st r a h k =
       rises = g.rises;
       later = g.later;
       more = g.more;
-      of = g.of (top_more (well_formed good known) (well_formed good g.later) (known_more good known g.later g.more.kept)
+      of = g.of (top_more (well_formed good known) (well_formed good g.later) (known_more good known g.later
+          g.more.kept)
           top h.scope);
     }
 

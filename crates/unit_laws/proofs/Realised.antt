@@ -127,7 +127,8 @@ mutual
   realised_all_bind : (φ : Realisation) (i : ℕ) (ts : Trees) → binds_any i (realised_trees φ ts) ≡ true
       → binds_any i ts ≡ true
   realised_all_bind φ i Trees.Nil h = h
-  realised_all_bind φ i (Trees.Cons t ts) h = or_either (binds i (realised_tree φ t)) (binds_any i (realised_trees φ ts)) h
+  realised_all_bind φ i (Trees.Cons t ts) h = or_either (binds i (realised_tree φ t)) (binds_any i (realised_trees φ
+      ts)) h
       (λ e. or_left (binds i t) (binds_any i ts) (realised_binds φ i t e))
       (λ e. or_right (binds i t) (binds_any i ts) (realised_all_bind φ i ts e))
 
@@ -204,14 +205,14 @@ mutual
       (λ e. or_left (binds i t) (binds_any i ts) (put_tree_binds s i t e))
       (λ e. or_right (binds i t) (binds_any i ts) (put_trees_bind s i ts e))
 
-abbrev to_known : Substitution → Change
+abbrev pub to_known : Substitution → Change
 to_known s = record {
   function = λ x. record { arity = x.arity; body = put_tree s x.body };
   scheme = put_scheme s;
 }
 
 mutual
-  put_is_changed : (s : Substitution) (env : Env) → put_env s env ≡ changed (to_known s) env
+  pub put_is_changed : (s : Substitution) (env : Env) → put_env s env ≡ changed (to_known s) env
   put_is_changed s (Env.MakeEnv ss ts vs) = ap (λ z. Env.MakeEnv z (each_row (changed_type (to_known s)) ts)
       (each_row (changed_value (to_known s)) vs)) (put_structures_are s ss)
 

@@ -111,7 +111,8 @@ val_of q own ty h = record {
 }
 
 vals_of : (good : List ℕ → Bool) (q : Nodes) (sc : Scope) (descs : List ValPhrase) (made : Signature) (st : Progress)
-    → AllItems (ValSpelt good) descs → IsOf good sc st q → SigOf q made → Given (PlainOf q st) (infer_vals sc descs made st)
+    → AllItems (ValSpelt good) descs → IsOf good sc st q → SigOf q made → Given (PlainOf q st) (infer_vals sc descs
+    made st)
 vals_of good q sc [] made st p h k = (refl, h.state, k)
 vals_of good q sc (desc ∷ descs) made st p h k =
     let own : List (List ℕ × ℕ) = (variables_of desc.ty st).0 in
@@ -158,7 +159,8 @@ exceptions_of good q sc (con ∷ cons) made p h k =
 abbrev FromSig : Signature → Progress → Nodes → Type 0
 FromSig made st q = StateOf q st.types × EnvOf q made.env
 
-one_name : (home : List ℕ) (made sig : Signature) (st u : Progress) (name : TyName) → name ≡ own_name home st.names name.arity name.eq
+one_name : (home : List ℕ) (made sig : Signature) (st u : Progress) (name : TyName) → name ≡ own_name home st.names
+    name.arity name.eq
     → u.types.stands ≡ st.types.stands → u.names ≡ st.names
     → ((q : Nodes) → SigOf q made → MayStand q name → SigOf q sig)
     → Makes home (FromSig made st) st (after_names 1 u) (OutOf (sig, after_names 1 u))
@@ -289,7 +291,8 @@ opened_made good home sig st = record {
         (of_rows (rows_between sig.bound (unit_names home st.names sig.bound)))
         (from_allowed q sig.bound (rows_between sig.bound (unit_names home st.names sig.bound))
         (empty_stands good q p.0) (between_of q sig.bound (unit_names home st.names sig.bound) n)
-        (has_between sig.bound (unit_names home st.names sig.bound) (unit_length home st.names sig.bound))) sig.env p.2.env,
+        (has_between sig.bound (unit_names home st.names sig.bound) (unit_length home st.names sig.bound))) sig.env
+        p.2.env,
   );
 }
 
@@ -311,7 +314,8 @@ FromSigs good sigs sc st q = IsOf good sc st q × AllRows (SignatureOf q) sigs
 abbrev FromSpecs : (List ℕ → Bool) → Table Signature → Scope → Signature → Progress → Nodes → Type 0
 FromSpecs good sigs sc made st q = FromSigs good sigs sc st q × EnvOf q made.env
 
-under_specs : (good : List ℕ → Bool) (q : Nodes) (sigs : Table Signature) (sc : Scope) (made : Signature) (st : Progress)
+under_specs : (good : List ℕ → Bool) (q : Nodes) (sigs : Table Signature) (sc : Scope) (made : Signature) (st :
+    Progress)
     → FromSpecs good sigs sc made st q → FromSpecs good sigs (under made.env sc) made st q
 under_specs good q sigs sc made st h =
     ((record { scope = under_of good q made.env sc h.1 h.0.0.scope; state = h.0.0.state }, h.0.1), h.1)
@@ -425,7 +429,8 @@ mutual
       (st : Progress) → SpecSpelt good spec → IsReadyFor sc.home (FromSpecs good sigs sc made st) st.names
       → Given (SpecMade good sigs sc made st) (infer_spec sigs sc spec made st)
   spec_made good sigs sc (SpecPhrase.Vals descs at) made st p h =
-      all_first sc.home (FromSpecs good sigs sc made st) st (λ r. r.1) (λ r q. OutOf r q) (infer_vals sc descs made st) h
+      all_first sc.home (FromSpecs good sigs sc made st) st (λ r. r.1) (λ r q. OutOf r q) (infer_vals sc descs made
+      st) h
       (λ q i. given_more (PlainOf q st) (λ r. (r.1.names ≡ st.names) × OutOf r q) (infer_vals sc descs made st)
       (λ r j. (j.0, (j.1, j.2))) (vals_of good q sc descs made st p i.0.0 i.1))
   spec_made good sigs sc (SpecPhrase.Types descs at) made st p h = descs_made good sigs sc false descs made st h
@@ -478,7 +483,8 @@ mutual
   specs_made good sigs sc (SpecPhrases.Next spec rest) made st p h =
       given_then (SpecMade good sigs (under made.env sc) made st) (SpecMade good sigs sc made st)
       (infer_spec sigs (under made.env sc) spec made st) _
-      (spec_made good sigs (under made.env sc) spec made st p.0 (λ m l. under_specs good (below_number sc.home m) sigs sc made st (h m l)))
+      (spec_made good sigs (under made.env sc) spec made st p.0 (λ m l. under_specs good (below_number sc.home m) sigs
+      sc made st (h m l)))
       (λ r k.
       let l : Makes sc.home (FromSpecs good sigs sc made st) st r.1 (OutOf r) =
       before refl k (λ q i. under_specs good q sigs sc made st i) in

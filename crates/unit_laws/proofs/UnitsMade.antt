@@ -102,7 +102,8 @@ signatures_made good home top (SigBinds.Bind name sig rest) made st p h =
     let first : Makes home From st r.1 (OneOf SignatureOf r) =
     before refl k (λ q i. sigs_of good home q top st st i.0 i.0.state) in
     given_more
-    (λ v. Makes home (FromTable SignatureOf good top (with_entry name.text r.0 made) r.1) r.1 v.1 (TableOf SignatureOf v))
+    (λ v. Makes home (FromTable SignatureOf good top (with_entry name.text r.0 made) r.1) r.1 v.1 (TableOf SignatureOf
+    v))
     Whole (infer_signatures home top rest (with_entry name.text r.0 made) r.1)
     (λ v n. less (after first n (λ q i j. row_after SignatureOf good q top made name.text st r i j)) (λ q i j. j.1))
     (signatures_made good home top rest (with_entry name.text r.0 made) r.1 p.1
@@ -133,7 +134,8 @@ body_made : (good : List ℕ → Bool) (depth : ℕ) (home : List ℕ) (top : To
     (inside : Signature × Progress) (st : Progress) → FunSpelt good bind
     → IsReadyFor home (IsOfTop good top st) st.names
     → Makes home (IsOfTop good top st) st inside.1 (ParamOf param inside)
-    → Given (λ r. Makes home (IsOfTop good top st) st r.1 (OneOf FunctorOf r)) (infer_body depth home top bind param inside)
+    → Given (λ r. Makes home (IsOfTop good top st) st r.1 (OneOf FunctorOf r)) (infer_body depth home top bind param
+    inside)
 body_made good depth home top bind param inside st p h k =
     let inner : Top = top_with_param bind.param inside.0.env top in
     let Whole : Functor × Progress → Type 0 = λ r. Makes home (IsOfTop good top st) st r.1 (OneOf FunctorOf r) in
@@ -186,7 +188,8 @@ result_sig_made : (good : List ℕ → Bool) (home : List ℕ) (top : Top) (bind
 result_sig_made good home top bind param inside st p same h k =
     let inner : Top = top_with_param bind.param inside.0.env top in
     let Whole : Functor × Progress → Type 0 = λ r. Makes home (IsOfTop good top st) st r.1 (OneOf FunctorOf r) in
-    given_then (λ r. Makes home (FromSigs good inner.signatures (core_scope home inner) inside.1) inside.1 r.1 (ClosedOf r))
+    given_then (λ r. Makes home (FromSigs good inner.signatures (core_scope home inner) inside.1) inside.1 r.1
+    (ClosedOf r))
     Whole (signature_of top.signatures (core_scope home inner) bind.result_sig inside.1) _
     (signature_made good inner.signatures (core_scope home inner) bind.result_sig inside.1 p.1
     (ready_after h k (λ q i j. sigs_of good home q inner inside.1 inside.1
@@ -242,7 +245,8 @@ functors_made good depth home top (bind ∷ binds) made st p h =
     (param_made good home top st s k)) (λ r l.
     let first : Makes home From st r.1 (OneOf FunctorOf r) = before refl l (λ q i. i.0) in
     given_more
-    (λ v. Makes home (FromTable FunctorOf good top (with_entry bind.name.text r.0 made) r.1) r.1 v.1 (TableOf FunctorOf v))
+    (λ v. Makes home (FromTable FunctorOf good top (with_entry bind.name.text r.0 made) r.1) r.1 v.1 (TableOf
+    FunctorOf v))
     Whole (infer_functors depth home top binds (with_entry bind.name.text r.0 made) r.1)
     (λ v n. less (after first n (λ q i j. row_after FunctorOf good q top made bind.name.text st r i j)) (λ q i j. j.1))
     (functors_made good depth home top binds (with_entry bind.name.text r.0 made) r.1 p.1
@@ -268,7 +272,8 @@ funsigs_made good home top (bind ∷ binds) made st p h =
     (λ m l. (h m l).0) (param_made good home top st s k)) (λ r l.
     let first : Makes home From st r.1 (OneOf FunctorOf r) = before refl l (λ q i. i.0) in
     given_more
-    (λ v. Makes home (FromTable FunctorOf good top (with_entry bind.name.text r.0 made) r.1) r.1 v.1 (TableOf FunctorOf v))
+    (λ v. Makes home (FromTable FunctorOf good top (with_entry bind.name.text r.0 made) r.1) r.1 v.1 (TableOf
+    FunctorOf v))
     Whole (infer_funsigs home top binds (with_entry bind.name.text r.0 made) r.1)
     (λ v n. less (after first n (λ q i j. row_after FunctorOf good q top made bind.name.text st r i j)) (λ q i j. j.1))
     (funsigs_made good home top binds (with_entry bind.name.text r.0 made) r.1 p.1
@@ -285,7 +290,8 @@ top_made : (good : List ℕ → Bool) (depth : ℕ) (home : List ℕ) (top : Top
 top_made good depth home top (TopPhrase.Structures binds at) st p h =
     given_then (λ r. Makes home (FromBinds good top empty_env st) st r.1 (DecOf r)) (TopMade good home top st)
     (infer_structures depth home top binds empty_env st) _
-    (structures_made good depth home top binds empty_env st p (λ m l. (h m l, nothing_of (below_number home m)))) (λ r k.
+    (structures_made good depth home top binds empty_env st p (λ m l. (h m l, nothing_of (below_number home m)))) (λ r
+    k.
     less (before refl k (λ q i. onto_binds good q top st i)) (λ q i j. (
       j.0,
       record {

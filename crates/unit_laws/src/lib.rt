@@ -3,4 +3,6 @@
 
 mod laws;
 
-pub use laws::{units_keep_what_is_well_formed, units_make_of_what_they_are_given};
+pub use laws::{
+    units_keep_good_names, units_keep_what_is_well_formed, units_make_of_what_they_are_given,
+};

@@ -55,7 +55,8 @@ large_3 : outcome (infer_module_dec 20 (codes "u") (with_pairs 16) (ModuleDec.Lo
 large_3 = refl
 
 -- at the top: structure B = X
-large_4 : outcome (infer_unit 20 (codes "u") basis (with_pairs 16) false (TopPhrase.Structures b_is_x (at 11) ∷ []) start)
+large_4 : outcome (infer_unit 20 (codes "u") basis (with_pairs 16) false (TopPhrase.Structures b_is_x (at 11) ∷ [])
+    start)
     ≡ 1
 large_4 = refl
 
@@ -74,7 +75,8 @@ val_x exp = ModuleDec.Core (DecPhrase.Val [] (Rules.Rule (PatPhrase.Long (long (
 
 -- structure A = struct val x = 1 end
 bare_1 : bare (a_is (val_x (ExpPhrase.Int (pos 1) (at 30))))
-    ≡ gives (top_of_env (with_structure (codes "A") (with_value (codes "x") (variable [] int_tree) empty_env) empty_env))
+    ≡ gives (top_of_env (with_structure (codes "A") (with_value (codes "x") (variable [] int_tree) empty_env)
+    empty_env))
 bare_1 = refl
 
 -- structure A = struct type t = int end
@@ -118,13 +120,15 @@ a_row = ElaboratesModule.rule_51 no_variable (codes "u") a_and_s 3 (long (codes 
 abbrev open_s : Signature
 open_s = with_bound_names (unit_names (codes "u") 3 t_and_v.bound) t_and_v
 
-s_row : ElaboratesSignature a_and_s.signatures (Rattle.unit_semantics.specs.StructureInference.core_scope (codes "u") a_and_s)
+s_row : ElaboratesSignature a_and_s.signatures (Rattle.unit_semantics.specs.StructureInference.core_scope (codes "u")
+    a_and_s)
     3 s_phrase t_and_v 4
 s_row = ElaboratesSignature.rule_65 a_and_s.signatures _ 3 4 s_phrase open_s
     (ElaboratesSig.rule_63 a_and_s.signatures _ 3 (name (codes "S") 20) (at 20) t_and_v refl)
 
 -- A : S
-transparent_row : ElaboratesModule no_variable (codes "u") a_and_s 3 (ModulePhrase.Transparent a_phrase s_phrase (at 15))
+transparent_row : ElaboratesModule no_variable (codes "u") a_and_s 3 (ModulePhrase.Transparent a_phrase s_phrase (at
+    15))
     (with_v int_tree int_tree) 4
 transparent_row = ElaboratesModule.rule_52 no_variable (codes "u") a_and_s 3 3 4 a_phrase s_phrase (at 15)
     (with_v int_tree int_tree) t_and_v int_for a_row s_row matches_row
