@@ -3,10 +3,11 @@
 use crate::tool::CaseTool;
 use crate::tools::tool_of;
 use case_files::{Case, CaseFault, Part, Report, number_of, push_parts};
-use case_texts::{Scene, line, take_steps};
+use case_texts::{Scene, line, push_diag, take_steps};
 use cm_base::{CallKind, FailAt, Left, List, MemFolder, NoMemory, Text, Tool};
+use member_deriving::{MemberFault, derive_source, find_tool};
 use std::alloc::Global;
-use tool_deriving::{DeriveFault, Toolbox, derive};
+use tool_deriving::Toolbox;
 use tool_records::{get_record, tool_path};
 
 /// A folder with a store, and a box of tools.
@@ -24,13 +25,27 @@ fn counted(alloc: Global, word: &[u8], number: u64) -> Result<Vec<u8>, NoMemory>
     Ok(out)
 }
 
-/// The line of a use that failed. Want of memory is handed on.
-fn fault_line(alloc: Global, fault: DeriveFault) -> Result<Vec<u8>, NoMemory> {
+/// The line of a use that gave no source. Want of memory is handed on.
+fn fault_line(alloc: Global, fault: &MemberFault) -> Result<Vec<u8>, NoMemory> {
     match fault {
-        DeriveFault::Folder => line(alloc, b"folder fault"),
-        DeriveFault::Tool => line(alloc, b"tool fault"),
-        DeriveFault::NoMemory => Err(NoMemory),
+        MemberFault::Diag(diag) => {
+            let mut out = Vec::new(alloc);
+            push_diag(alloc, &mut out, diag)?;
+            Ok(out)
+        }
+        MemberFault::Folder => line(alloc, b"folder fault"),
+        MemberFault::Tool => line(alloc, b"tool fault"),
+        MemberFault::NoMemory => Err(NoMemory),
     }
+}
+
+/// So many bytes 0.
+fn zeros(alloc: Global, count: u32) -> Result<Text, NoMemory> {
+    let mut bytes = Vec::new(alloc);
+    for _ in 0..count {
+        bytes.push(0)?;
+    }
+    Ok(Text::from_vec(bytes))
 }
 
 /// What a failed write leaves, by its word.
@@ -60,24 +75,37 @@ impl DeriveScene {
         }
     }
 
-    /// Derives a source, and says how often the tool ran by counting its runs in the box.
+    /// Derives the source of a member of a class.
     fn derive(
         &mut self,
         alloc: Global,
         class: &Text,
         unit: &Text,
         input: &Text,
-    ) -> Result<Option<Vec<u8>>, NoMemory> {
-        if unit.as_bytes().len() > 1_048_576 || input.as_bytes().len() > 1_048_576 {
-            return Ok(None);
-        }
-        let Some(at) = self.tools.find(class) else {
-            return Ok(Some(line(alloc, b"no tool")?));
+    ) -> Result<Vec<u8>, NoMemory> {
+        let Some(at) = find_tool(&self.tools, class) else {
+            return line(alloc, b"no tool");
         };
-        match derive(alloc, &mut self.folder, &mut self.tools, at, unit, input) {
-            Ok(text) => Ok(Some(Vec::from_slice(alloc, text.as_bytes())?)),
-            Err(fault) => Ok(Some(fault_line(alloc, fault)?)),
+        match derive_source(alloc, &mut self.folder, &mut self.tools, at, unit, input) {
+            Ok(text) => Ok(Vec::from_slice(alloc, text.as_bytes())?),
+            Err(fault) => fault_line(alloc, &fault),
         }
+    }
+
+    /// Derives a source of so many bytes 0, and says how long it is.
+    fn derive_zeros(
+        &mut self,
+        alloc: Global,
+        class: &Text,
+        unit: &Text,
+        count: u32,
+    ) -> Result<Vec<u8>, NoMemory> {
+        let input = zeros(alloc, count)?;
+        let answer = self.derive(alloc, class, unit, &input)?;
+        if answer.len() < 100 {
+            return Ok(answer);
+        }
+        counted(alloc, b"bytes ", answer.len() as u64)
     }
 
     /// How many bytes a unit's record has, and whether it is whole.
@@ -115,6 +143,33 @@ impl DeriveScene {
         line(alloc, b"ok")
     }
 
+    /// Changes a byte of the record of a unit.
+    fn spoil(&mut self, alloc: Global, unit: &Text, at: u32) -> Result<Vec<u8>, NoMemory> {
+        let path = tool_path(alloc, unit)?;
+        let Some(file) = self.folder.get(&path) else {
+            return line(alloc, b"none");
+        };
+        let mut bytes = Vec::from_slice(alloc, file)?;
+        if at as usize >= bytes.len() {
+            return line(alloc, b"none");
+        }
+        bytes[at as usize] ^= 1;
+        self.folder.put(&path, bytes.as_slice())?;
+        line(alloc, b"ok")
+    }
+
+    /// Adds a byte to the record of a unit.
+    fn lengthen(&mut self, alloc: Global, unit: &Text) -> Result<Vec<u8>, NoMemory> {
+        let path = tool_path(alloc, unit)?;
+        let Some(file) = self.folder.get(&path) else {
+            return line(alloc, b"none");
+        };
+        let mut bytes = Vec::from_slice(alloc, file)?;
+        bytes.push(0)?;
+        self.folder.put(&path, bytes.as_slice())?;
+        line(alloc, b"ok")
+    }
+
     /// Takes a step with a tool: it is put into the box.
     fn step_tool(
         &mut self,
@@ -138,6 +193,7 @@ impl DeriveScene {
     ) -> Result<Option<Vec<u8>>, NoMemory> {
         match (step, left_of(word.as_bytes())) {
             (b"record", _) => Ok(Some(self.record(alloc, word)?)),
+            (b"lengthen", _) => Ok(Some(self.lengthen(alloc, word)?)),
             (b"fail-write", Some(left)) => Ok(Some(self.fail(alloc, CallKind::Write, left)?)),
             _ => Ok(None),
         }
@@ -154,7 +210,29 @@ impl DeriveScene {
         match (step, number_of(second.as_bytes())) {
             (b"lay", _) => Ok(Some(self.lay(alloc, first, second)?)),
             (b"cut", Some(count)) => Ok(Some(self.cut(alloc, first, count)?)),
+            (b"spoil", Some(at)) => Ok(Some(self.spoil(alloc, first, at)?)),
             (b"register", _) => self.step_tool(alloc, first.as_bytes(), second, 0),
+            _ => Ok(None),
+        }
+    }
+}
+
+impl DeriveScene {
+    /// Takes a step with three words.
+    fn step_of(
+        &mut self,
+        alloc: Global,
+        step: &[u8],
+        class: &Text,
+        first: &Text,
+        second: &Text,
+    ) -> Result<Option<Vec<u8>>, NoMemory> {
+        match (step, number_of(second.as_bytes())) {
+            (b"derive", _) => Ok(Some(self.derive(alloc, class, first, second)?)),
+            (b"zeros", Some(count)) => Ok(Some(self.derive_zeros(alloc, class, first, count)?)),
+            (b"failing", Some(nth)) => {
+                self.step_tool(alloc, class.as_bytes(), first, nth as u64)
+            }
             _ => Ok(None),
         }
     }
@@ -175,11 +253,7 @@ impl Scene for DeriveScene {
             }
             (_, [word]) => self.step_on(alloc, step, word),
             (_, [first, second]) => self.step_with(alloc, step, first, second),
-            (b"derive", [class, unit, input]) => self.derive(alloc, class, unit, input),
-            (b"failing", [class, given, nth]) => match number_of(nth.as_bytes()) {
-                Some(nth) => self.step_tool(alloc, class.as_bytes(), given, nth as u64),
-                None => Ok(None),
-            },
+            (_, [class, first, second]) => self.step_of(alloc, step, class, first, second),
             _ => Ok(None),
         }
     }

@@ -1,22 +1,27 @@
 //! A tool for cases: one of the program's, of which one run fails.
 
+ghost use Rattle.std.specs.Prelude.{◌≤◌, length};
+
 use bundled_tools::BundledTool;
 use cm_base::{NoMemory, Text, Tool, ToolFault};
 use std::alloc::Global;
 
-/// A tool whose run of a number fails, counted from 1; the number 0 is none.
+/// A tool whose run of a number fails, counted from 1; the number 0 is none. It may have another class than the one that
+/// it is made of.
 #[derive(Drop)]
 pub struct CaseTool {
     pub tool: BundledTool,
+    pub class: Text,
     pub failing: u64,
     pub ran: u64,
     pub faults: u64,
+    ghost short: { length class ≤ 1048581 },
 }
 
 impl Tool for CaseTool {
-    ghost use Rattle.bundled_tools.specs.Bundled.{class_of, rule_of};
+    ghost use Rattle.bundled_tools.specs.Bundled.{rule_of};
 
-    ghost class = { λ one. class_of one.tool };
+    ghost class = { λ one. one.class };
 
     ghost rule = { λ one. rule_of one.tool };
 
@@ -25,7 +30,7 @@ impl Tool for CaseTool {
     ghost faults = { λ one. one.faults };
 
     fn class(&self) -> &Text {
-        self.tool.class()
+        &self.class
     }
 
     fn rule(&self, alloc: Global) -> Result<Text, NoMemory> {
