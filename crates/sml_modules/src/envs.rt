@@ -118,7 +118,7 @@ impl EnvGraph {
         self.add_env(tables)
     }
 
-    /// Adds the environment of these tables, for a crate that walks the graph.with entries over them. Want of memory leaves the graph as it was.
+    /// Adds the environment of these tables with entries over them. Want of memory leaves the graph as it was.
     fn add_over(
         &mut self,
         tables: EnvTables,
