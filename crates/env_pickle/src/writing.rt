@@ -24,7 +24,6 @@ fn marked(alloc: Global, bytes: &Text) -> Result<Text, NoMemory>
     Ok(Text::from_vec(all))
 }
 
-#[tactic(auto, using(crate::proofs::Marking::bytes_of, crate::proofs::Marking::length_of, crate::proofs::Marking::too_long))]
 /// The interface of the unit `home` that stands at a place: 12 at the unit where it has more bytes than it may.
 pub fn write_interface(
     alloc: Global,
