@@ -22,7 +22,8 @@ content_same s t c d e = cc
 
 rows_of_table : (home : List ℕ) (ss : Structures) → rows_by (env_node home) (table_of ss) ≡ structure_rows home ss
 rows_of_table home Structures.Nil = refl
-rows_of_table home (Structures.Cons name env rest) = ap (λ rows. (name, env_node home env) ∷ rows) (rows_of_table home rest)
+rows_of_table home (Structures.Cons name env rest) =
+    ap (λ rows. (name, env_node home env) ∷ rows) (rows_of_table home rest)
 
 structures_counted : (home : List ℕ) (ss : Structures) → AreNames (names_of (table_of ss))
     → IsNumber (length (structure_rows home ss))
@@ -122,7 +123,8 @@ functor_of bound param further result =
     record { bound = bound; param = param; further = further; result = result }
 
 functor_same : (f g : Functor) → f.bound ≡ g.bound → f.param ≡ g.param → f.further ≡ g.further
-    → f.result ≡ g.result → functor_of f.bound f.param f.further f.result ≡ functor_of g.bound g.param g.further g.result
+    → f.result ≡ g.result
+    → functor_of f.bound f.param f.further f.result ≡ functor_of g.bound g.param g.further g.result
 functor_same f g h k l m = cc
 
 is_functor : (f : Functor) → functor_of f.bound f.param f.further f.result ≡ f
@@ -171,7 +173,8 @@ top_of env signatures functors funsigs =
     record { env = env; signatures = signatures; functors = functors; funsigs = funsigs }
 
 top_same : (s t : Top) → s.env ≡ t.env → s.signatures ≡ t.signatures → s.functors ≡ t.functors
-    → s.funsigs ≡ t.funsigs → top_of s.env s.signatures s.functors s.funsigs ≡ top_of t.env t.signatures t.functors t.funsigs
+    → s.funsigs ≡ t.funsigs
+    → top_of s.env s.signatures s.functors s.funsigs ≡ top_of t.env t.signatures t.functors t.funsigs
 top_same s t h k l m = cc
 
 is_top : (t : Top) → top_of t.env t.signatures t.functors t.funsigs ≡ t

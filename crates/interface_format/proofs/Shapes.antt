@@ -145,7 +145,8 @@ all_arguments [] h = All-nil IsArgument
 all_arguments (x ∷ xs) h = All-cons IsArgument x xs (argument_has x (All-head IsOf x xs h))
     (all_arguments xs (All-tail IsOf x xs h))
 
-over_is : (home : List ℕ) (c : Symbol) (xs : List Node) → IsOver c (length xs) → All IsOf xs → IsOf (node_over home c xs)
+over_is : (home : List ℕ) (c : Symbol) (xs : List Node) → IsOver c (length xs) → All IsOf xs
+    → IsOf (node_over home c xs)
 over_is home symbol.Arrow xs h each =
     IsNode.node 3 (with_items Content.part xs Content.nothing) (λ e. absurd (let k : 3 ≡ 12 = e in cc))
     (two_parts xs h.parts each)

@@ -75,7 +75,11 @@ value_told x y c d e =
     let b = byte_told (status_byte x.status) (status_byte y.status) (Content.part x.scheme c)
     (Content.part y.scheme d) t.rest in
     let p = part_told x.scheme y.scheme c d b.1 in
-    record { item = value_same x.name y.name x.status y.status x.scheme y.scheme t.item (status_told x.status y.status b.0) p.item; rest = p.rest }
+    record {
+      item = value_same x.name y.name x.status y.status x.scheme y.scheme t.item (status_told x.status y.status b.0)
+          p.item;
+      rest = p.rest;
+    }
 
 -- ---- lists
 

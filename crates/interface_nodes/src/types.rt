@@ -46,7 +46,8 @@ pub fn add_arrow(
 ) -> Result<usize, NoMemory>
     requires from { from < length table.old }
     requires to { to < length table.old }
-    ensures ok { IfOk result (Adds table.old table.new (arrow_node (node_at table.old from ∷ node_at table.old to ∷ []))) }
+    ensures ok { IfOk result (Adds table.old table.new
+        (arrow_node (node_at table.old from ∷ node_at table.old to ∷ []))) }
     ensures err { OnErr result (table.new ≡ table.old) }
 {
     let mut items = List::new(alloc);

@@ -31,7 +31,9 @@ returns-clause-ok c =
     let new = c.insert_full.new.self.keys in
     let row = row_of c.args.tag c.args.items in
     let found = c.in_ok-place.ensures.stored in
-    subst (λ (z : List Node). Adds z (table_nodes new) (Node.node c.args.tag (content_of z c.args.items)) c.in_ok-place.place)
+    subst (λ (z : List Node). Adds z (table_nodes new) (Node.node c.args.tag (content_of z c.args.items))
+    c.in_ok-place.place)
     c.self.view_is
     (row_added rows new row found.0 (list_any (same_row row) rows) c.in_ok-place.place c.self.invariant
-    (parts_of_rows rows c.args.self.now c.args.items c.self.view_is c.requires) c.in_ok-place.ensures.keys found.1 found.2)
+    (parts_of_rows rows c.args.self.now c.args.items c.self.view_is c.requires) c.in_ok-place.ensures.keys
+    found.1 found.2)

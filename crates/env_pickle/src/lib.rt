@@ -1,0 +1,6 @@
+//! Interfaces are written: the unit that stands in a table of nodes becomes its interface.
+#![tactic(auto)]
+
+mod writing;
+
+pub use writing::{INTERFACE_LIMIT, write_interface};
