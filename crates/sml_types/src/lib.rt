@@ -1,6 +1,7 @@
 //! A table of types: variables, types over them, and unification, which is undone where it is refused.
 #![tactic(auto)]
 
+mod applying;
 mod covers;
 mod fault;
 mod frame;
