@@ -1,10 +1,12 @@
 //! A table of types: variables, types over them, and unification, which is undone where it is refused.
 #![tactic(auto)]
 
+mod applying;
 mod covers;
 mod fault;
 mod frame;
 mod look;
+mod made;
 mod notes;
 mod occurs;
 mod pair;

@@ -33,8 +33,8 @@ use type_schemes::{generalise, instantiate};
 /// Types with variables, and what stands for these.
 #[derive(Drop)]
 pub struct TypeTable {
-    bindings: TypeBindings,
-    alloc: Global,
+    pub(crate) bindings: TypeBindings,
+    pub(crate) alloc: Global,
 }
 
 impl Model for TypeTable {
