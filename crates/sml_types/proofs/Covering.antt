@@ -1,14 +1,13 @@
 -- Two schemes are compared by unification over rigid variables.
-use Rattle.std.proofs.Common.{◌≡◌, ℕ, zero, suc, ◌+◌, ◌-◌, ◌<◌, ◌≤◌, refl, sym, ap, ap₂, ◌∙◌, subst, Bool, true, false, ◌||◌, cond, arith, List, [], ◌∷◌, get_or, ◌⊎◌, inl, inr}
+use Rattle.std.proofs.Common.{◌≡◌, ℕ, zero, suc, ◌+◌, ◌-◌, ◌<◌, ◌≤◌, refl, sym, ap, ◌∙◌, subst, Bool, true, false, cond, arith, List, [], ◌∷◌, get_or, ◌⊎◌, inl, inr}
 use Rattle.std.proofs.lemmas.Bool.{eq-eqb, eqb-true, lt-ltb, le-ltb, ltb-true, ltb-false}
 use Rattle.std.specs.Prelude.{eqb, ltb}
 use Rattle.semantic_objects.specs.Trees.{Tree, Trees, TypeScheme, binds, binds_any, frees, frees_any}
 use Rattle.unification.specs.Types.{Ty, Types, Substitution, Marks, State, put, occurs, occurs_any, admits}
 use Rattle.unification.specs.Unification.{Solves, LeavesRigid, MakesEqual, IsSettled, IsMostGeneral}
 use Rattle.unification.specs.Instances.{mark_of, fill, fill_all, with_variable, with_variables, IsInstance, IsMoreGeneral}
-use Rattle.unification.specs.Closing.{put_tree}
 use Rattle.unification.specs.Generality.{IsOf}
-use Rattle.unification.specs.Fitting.{IsBelow, IsFit}
+use Rattle.unification.specs.Fitting.{IsFit}
 use Rattle.unification.proofs.Walking.{either_way, not_both, or_left, or_right, or_either, alike_tree}
 use Rattle.unification.proofs.Putting.{put-put, put_alike, put_still, put_solved}
 use Rattle.unification.proofs.Requiring.{admits_put}

@@ -1,5 +1,5 @@
 -- Variables for which rigid ones are put in.
-use Rattle.std.proofs.Common.{◌≡◌, ℕ, zero, suc, ◌+◌, ◌<◌, ◌≤◌, refl, sym, ap, ap₂, ◌∙◌, subst, Bool, true, false, cond, arith, List, [], ◌∷◌, ◌++◌, length, take, get_or, slice_get, Option, Some, None, ◌⊎◌, inl, inr, ◌↔◌}
+use Rattle.std.proofs.Common.{◌≡◌, ℕ, zero, suc, ◌+◌, ◌<◌, ◌≤◌, refl, sym, ap, ap₂, ◌∙◌, subst, Bool, true, false, cond, arith, List, [], ◌∷◌, length, take, get_or, slice_get, Option, Some, None, ◌⊎◌, inl, inr, ◌↔◌}
 use Rattle.std.proofs.lemmas.Bool.{eq-eqb, eqb-true, ltb-true, ltb-false}
 use Rattle.std.proofs.lemmas.Option.{slice_get-get_or}
 use Rattle.std.proofs.Math.Seq.{take-append_seam}
@@ -7,11 +7,11 @@ use Rattle.std.specs.Prelude.{eqb, ltb, IsTrue, ◌||◌}
 use Rattle.semantic_objects.specs.declared.name.TyId.{TyId}
 use Rattle.semantic_objects.specs.declared.name.TyId.TheVariants as id
 use Rattle.semantic_objects.specs.declared.symbol.Symbol.TheVariants as symbol
-use Rattle.semantic_objects.specs.Trees.{Tree, TypeScheme, binds}
-use Rattle.unification.specs.Types.{Ty, Types, Substitution, State, put, occurs, occurs_any, admits}
-use Rattle.unification.specs.Unification.{Solves, LeavesRigid, MakesEqual, IsMostGeneral, single}
+use Rattle.semantic_objects.specs.Trees.{TypeScheme}
+use Rattle.unification.specs.Types.{Ty, Substitution, State, put, occurs, admits}
+use Rattle.unification.specs.Unification.{Solves, single}
 use Rattle.unification.specs.Instances.{with_variable, with_variables, instance, IsMoreGeneral}
-use Rattle.unification.specs.Closing.{is_among, found_in_all}
+use Rattle.unification.specs.Closing.{is_among}
 use Rattle.unification.specs.Generality.{IsOf}
 use Rattle.unification.specs.Fitting.{IsFit, IsSchemeOf}
 use Rattle.unification.proofs.Walking.{either_way, not_both, or_left, or_right, or_either}
@@ -22,20 +22,18 @@ use Rattle.type_nodes.specs.declared.node.Birth.{Birth}
 use Rattle.type_nodes.specs.Nodes.{rigid_in}
 use Rattle.type_nodes.specs.Tables.{Table, Has, state, link, whole, whole_all, type_of, bound_in, IsEnd, LinkedTo, IsFrontOf, with_variable_of, with_entry}
 use Rattle.type_nodes.specs.declared.entry.Entry.{Entry}
-use Rattle.type_nodes.specs.declared.entry.Entry.TheVariants as entry
-use Rattle.type_nodes.specs.Keeping.{IsKept, IsOpen, MayStand}
-use Rattle.type_nodes.proofs.Making.{length_snoc, id_more}
+use Rattle.type_nodes.specs.Keeping.{IsKept, MayStand}
+use Rattle.type_nodes.proofs.Making.{length_snoc}
 use Rattle.type_nodes.proofs.Binding.{whole_below, put_in, Put}
-use Rattle.type_nodes.proofs.Cells.{front_less}
 use Rattle.type_nodes.proofs.Histories.{take_less}
 use Rattle.type_schemes.specs.Instances.{Extends}
 use Rattle.type_schemes.specs.Schemes.{HaveAll, all_variables, closed_scheme, closed_variables}
 use Rattle.sml_types.proofs.Frames.{some_same, before_or}
 use Rattle.sml_types.specs.Unifying.{Grown}
-use Rattle.sml_types.specs.Covering.{CoversIn, Follows, put_scheme, unit_type, IsNamed, IsFreezing, IsFrozenAt, StaysRigid, GetsName, Freezes, FreezesBelow, HasOwn, AreFrozen, IsFrozen, IsDecided}
-use Rattle.sml_types.proofs.Solving.{open_at, absent_variable, falls_rigid, take_whole}
+use Rattle.sml_types.specs.Covering.{CoversIn, Follows, put_scheme, unit_type, IsNamed, IsFreezing, IsFrozenAt, GetsName, Freezes, FreezesBelow, HasOwn, AreFrozen, IsFrozen, IsDecided}
+use Rattle.sml_types.proofs.Solving.{absent_variable, falls_rigid, take_whole}
 use Rattle.sml_types.proofs.Looking.{extends_variable}
-use Rattle.sml_types.proofs.Covering.{Compared, after_special, after_both, raw, full, covers_where, chosen_where, Choice, solves_then, with_next, stands_both, special_held, raw_is, own_new}
+use Rattle.sml_types.proofs.Covering.{Compared, after_special, after_both, raw, full, covers_where, chosen_where, solves_then, with_next, stands_both, special_held, raw_is, own_new}
 
 -- a type that is closed is a scheme of the table
 pub closed_of : (t : Table) (kept : List TyId) (a : TyId) (σ : TypeScheme) → IsKept t → Has t a → σ ≡ closed_scheme t kept a

@@ -6,6 +6,7 @@ pub mod Heights
 pub mod Pairing
 pub mod Sizing
 pub mod Looking
+pub mod Sides
 pub mod Sorting
 pub mod Covering
 pub mod Freezing

@@ -1,4 +1,5 @@
 pub mod Looking
+pub mod Sides
 pub mod Unifying
 pub mod Frames
 pub mod Occurring

@@ -6,6 +6,7 @@ mod covers;
 mod fault;
 mod frame;
 mod look;
+mod made;
 mod notes;
 mod occurs;
 mod pair;

@@ -1,6 +1,4 @@
-use Rattle.std.proofs.Common.{sym, ◌∙◌}
-use Rattle.type_nodes.specs.Tables.{IsFrontOf, state}
-use Rattle.sml_types.proofs.Freezing.{front_same, fronts_then, front_grown, front_to, have_two, own_at, compared_at, compared_answer, pattern_whole, instance_whole, next_within}
+use Rattle.sml_types.proofs.Freezing.{fronts_then, front_grown, front_to, have_two, own_at, compared_at, compared_answer, pattern_whole, instance_whole, next_within}
 use Rattle.sml_types.proofs.covers.compare.Goals as goal
 
 pub returns-in_err-instance-clause-front : goal.returns-in_err-instance-clause-front

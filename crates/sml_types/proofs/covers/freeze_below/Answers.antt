@@ -1,5 +1,4 @@
-use Rattle.std.proofs.Common.{◌<◌, refl, arith}
-use Rattle.sml_types.proofs.Freezing.{follows_same}
+use Rattle.std.proofs.Common.{arith}
 use Rattle.sml_types.proofs.covers.freeze_below.Goals as goal
 
 pub freeze-requires : goal.freeze-requires

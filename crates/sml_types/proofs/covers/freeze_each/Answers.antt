@@ -1,4 +1,4 @@
-use Rattle.std.proofs.Common.{◌≡◌, ◌≤◌, length, refl, subst, sym, ap, ◌∙◌, arith}
+use Rattle.std.proofs.Common.{◌≡◌, ◌≤◌, length, refl, arith}
 use Rattle.type_nodes.specs.Tables.{state}
 use Rattle.sml_types.proofs.Freezing.{frozen_first, frozen_step, frozen_long, follows_same, follows_then, wider}
 use Rattle.sml_types.proofs.covers.freeze_each.Goals as goal

@@ -1,7 +1,6 @@
-use Rattle.std.proofs.Common.{subst, sym, ap, ◌∙◌}
+use Rattle.std.proofs.Common.{subst, sym}
 use Rattle.unification.specs.Fitting.{IsSchemeOf}
 use Rattle.type_nodes.specs.Tables.{Has, state}
-use Rattle.type_schemes.specs.Schemes.{closed_scheme}
 use Rattle.sml_types.proofs.Freezing.{closed_of}
 use Rattle.sml_types.proofs.table.TypeTable.generalise.Goals as goal
 

@@ -1,0 +1,6 @@
+pub mod Stepping
+pub mod Binding
+pub mod Forms
+pub mod Scoping
+pub mod Joins
+pub mod Fields
