@@ -1,0 +1,4 @@
+pub mod Finding
+pub mod Types
+pub mod Steps
+pub mod Promised
