@@ -3,4 +3,4 @@
 
 mod laws;
 
-pub use laws::types_have_derivations;
+pub use laws::{patterns_have_derivations, types_have_derivations};
