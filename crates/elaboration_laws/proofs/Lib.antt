@@ -1,0 +1,5 @@
+pub mod Finding
+pub mod Types
+pub mod Steps
+pub mod Patterns
+pub mod Promised

@@ -1,0 +1,6 @@
+//! Laws alone: what inference of the core accepts has a derivation by the rules.
+#![tactic(auto)]
+
+mod laws;
+
+pub use laws::{patterns_have_derivations, types_have_derivations};
