@@ -3,7 +3,7 @@ use Rattle.std.proofs.Common.{◌≡◌, ◌≢◌, ◌∙◌, ap, sym, subst, r
 use Rattle.std.specs.Prelude.{IsErrAnd}
 use Rattle.cm_base.specs.Calls.{Gives}
 use Rattle.cm_base.specs.Causes.{HasCause}
-use Rattle.cm_base.specs.Files.{Files}
+use Rattle.cm_base.specs.Files.{Files, Told}
 use Rattle.cm_base.specs.declared.diag.Diag.{Diag}
 use Rattle.cm_base.specs.declared.fault.Fault.{Fault}
 use Rattle.cm_base.specs.declared.fault.Fault.TheVariants as refusal
@@ -107,6 +107,7 @@ refused_input state unit input diag before after large same = record {
         ap (λ (w : Result (Unit {0}) Diag).
         ran_more (length (runs_of files (used_within w texts_over_stores job (work_of files [])).work.uses)) state.ran)
         (sym large);
+    rests = λ files is none. (refl, same);
   };
   leaves = record { once = inl refl; leaves = inl same; failed = λ e. absurd cc };
 }
@@ -121,9 +122,19 @@ wants_memory state unit input before after same = record {
   cause = same_count state.faults (err fault.NoMemory ≡ err fault.Tool) (λ e. absurd cc);
   class = refl;
   rule = refl;
-  sources = record { gives = λ files is. tt; puts = λ files is. tt; runs = λ files is. tt };
+  sources = record {
+    gives = λ files is. tt;
+    puts = λ files is. tt;
+    runs = λ files is. tt;
+    rests = λ files is none. (refl, same);
+  };
   leaves = record { once = inl refl; leaves = inl same; failed = λ e. absurd cc };
 }
+
+-- where no run is among them, the use doesn't run
+no_run : (b : Bool) (job : ToolUse) → ◌≡◌ {A = List ToolUse} (cond b (job ∷ []) []) [] → b ≡ false
+no_run true job e = absurd cc
+no_run false job e = refl
 
 module _ (old new : ToolState) (unit input : List ℕ) (before after : Option Files) where
   abbrev used : ToolUse
@@ -137,18 +148,31 @@ module _ (old new : ToolState) (unit input : List ℕ) (before after : Option Fi
   is_tool derive.Folder e = absurd cc
   is_tool derive.NoMemory e = absurd cc
 
-  unknown : (f : DeriveFault) → Sources used (Err (of_deriving f)) before after old.ran new.ran
-  unknown derive.Tool = record { gives = λ files is. tt; puts = λ files is. tt; runs = λ files is. tt }
-  unknown derive.Folder = record { gives = λ files is. tt; puts = λ files is. tt; runs = λ files is. tt }
-  unknown derive.NoMemory = record { gives = λ files is. tt; puts = λ files is. tt; runs = λ files is. tt }
+  -- a use that isn't meant to run leaves all as it was
+  rests_by : (r : Result (List ℕ) DeriveFault) → within_source unit input ≡ Ok tt → DerivesBy old new unit input r before after
+      → Told before (λ files. runs_of files (source_by texts_over_stores used (work_of files [])).work.uses ≡ []
+      → (new.ran ≡ old.ran) × (after ≡ before))
+  rests_by r small by = λ files is none.
+      by.derives.rests files is (no_run (uses files used) used
+      (ap (λ (w : Result (Unit {0}) Diag). runs_of files (used_within w texts_over_stores used (work_of files [])).work.uses)
+      (sym small) ∙ none))
 
-  pub fails : (f : DeriveFault) → DerivesBy old new unit input (Err f) before after
+  unknown : (f : DeriveFault) → within_source unit input ≡ Ok tt → DerivesBy old new unit input (Err f) before after
+      → Sources used (Err (of_deriving f)) before after old.ran new.ran
+  unknown derive.Tool small by =
+      record { gives = λ files is. tt; puts = λ files is. tt; runs = λ files is. tt; rests = rests_by (Err derive.Tool) small by }
+  unknown derive.Folder small by =
+      record { gives = λ files is. tt; puts = λ files is. tt; runs = λ files is. tt; rests = rests_by (Err derive.Folder) small by }
+  unknown derive.NoMemory small by =
+      record { gives = λ files is. tt; puts = λ files is. tt; runs = λ files is. tt; rests = rests_by (Err derive.NoMemory) small by }
+
+  pub fails : (f : DeriveFault) → within_source unit input ≡ Ok tt → DerivesBy old new unit input (Err f) before after
       → SourcesBy old new unit input (Err (of_deriving f)) before after
-  fails f by = record {
+  fails f small by = record {
     cause = record { later = by.cause.later; rose = λ e. by.cause.rose (is_tool f e) };
     class = by.class;
     rule = by.rule;
-    sources = unknown f;
+    sources = unknown f small by;
     leaves = record {
       once = by.leaves.once;
       leaves = by.leaves.leaves;
@@ -181,6 +205,7 @@ module _ (old new : ToolState) (unit input : List ℕ) (before after : Option Fi
           ∙ ap (λ (w : Result (Unit {0}) Diag).
           ran_more (length (runs_of files (used_within w texts_over_stores used (work_of files [])).work.uses)) old.ran)
           (sym small));
+      rests = rests_by (Ok text) small by;
     }
 
     -- .. whatever is answered then but a failing tool
@@ -228,11 +253,12 @@ stops_before state unit input (Err y) e before after is gives same =
 -- in the use
 pub stops_within : (old new : ToolState) (unit input : List ℕ) (before after : Option Files)
     (r : Result (List ℕ) MemberFault) (f : DeriveFault) → IsErrAnd r (λ y. y ≡ of_deriving f)
-    → DerivesBy old new unit input (Err f) before after → SourcesBy old new unit input r before after
-stops_within old new unit input before after (Ok text) f is by = absurd is
-stops_within old new unit input before after (Err y) f is by =
+    → within_source unit input ≡ Ok tt → DerivesBy old new unit input (Err f) before after
+    → SourcesBy old new unit input r before after
+stops_within old new unit input before after (Ok text) f is small by = absurd is
+stops_within old new unit input before after (Err y) f is small by =
     subst (λ (x : MemberFault). SourcesBy old new unit input (Err x) before after) (sym is)
-    (fails old new unit input before after f by)
+    (fails old new unit input before after f small by)
 
 -- after the use
 after_refusal : (old new : ToolState) (unit input : List ℕ) (before after : Option Files) (text : List ℕ) (e : Fault)

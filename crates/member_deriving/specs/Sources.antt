@@ -62,7 +62,8 @@ OnGiven (Err fault.Tool) so = Unit {0}
 OnGiven (Err fault.NoMemory) so = Unit {0}
 
 -- in a folder that tells its files: the source over the store as it stands, or its refusal; then the files have the
--- record where the tool ran, and it ran once more exactly there
+-- record where the tool ran, and it ran once more exactly there. Where no run is meant, nothing changes, whatever the
+-- answer
 pub record Sources (job : ToolUse) (result : Result (List ℕ) MemberFault) (old new : Option Files) (ran now : ℕ)
     : Type 0 where
   pub gives : Told old (λ files. IsGiven result (source_by texts_over_stores job (work_of files [])).result)
@@ -70,6 +71,8 @@ pub record Sources (job : ToolUse) (result : Result (List ℕ) MemberFault) (old
       (new ≡ Some (source_by texts_over_stores job (work_of files [])).work.files))
   pub runs : Told old (λ files. OnGiven result
       (now ≡ ran_more (length (runs_of files (source_by texts_over_stores job (work_of files [])).work.uses)) ran))
+  pub rests : Told old (λ files. runs_of files (source_by texts_over_stores job (work_of files [])).work.uses ≡ []
+      → (now ≡ ran) × (new ≡ old))
 
 -- whatever it answers: at most one run more, and at the record's path the old bytes, nothing or a front of the record; a
 -- tool that fails ran, and nothing is written
