@@ -1,4 +1,4 @@
-use Rattle.std.proofs.Common.{subst, sym, ap, ◌∙◌}
+use Rattle.std.proofs.Common.{subst, sym}
 use Rattle.type_nodes.specs.Tables.{state}
 use Rattle.type_schemes.specs.Schemes.{HaveAll, AreSchemesOf}
 use Rattle.sml_types.proofs.Ages.{since_of}
