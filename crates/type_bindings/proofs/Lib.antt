@@ -1,1 +1,2 @@
 pub mod ListedSoFar
+pub mod Replicating
