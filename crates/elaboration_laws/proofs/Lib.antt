@@ -4,4 +4,5 @@ pub mod Steps
 pub mod Patterns
 pub mod Expressions
 pub mod Declarations
+pub mod Core
 pub mod Promised
