@@ -1,5 +1,5 @@
 -- Look-ups in environments and tables with types put in.
-use Rattle.std.proofs.Common.{◌≡◌, ℕ, List, [], ◌∷◌, ◌++◌, map, refl, sym, ap, ap₂, ◌∙◌, Option, Some, None, Bool, true, false, cond}
+use Rattle.std.proofs.Common.{◌≡◌, ℕ, List, [], ◌∷◌, ◌++◌, map, refl, sym, ap, ap₂, ◌∙◌, Option, Some, None, Bool, true, false, ◌&&◌, not, cond}
 use Rattle.std.specs.Option.{option_map, is_some}
 use Rattle.std.specs.FinMap.Entries.{by_order}
 use Rattle.std.specs.Ordering.{eq_by_cmp}
@@ -16,6 +16,7 @@ use Rattle.unification.specs.Closing.{closed_over}
 use Rattle.static_semantics.specs.BasicTypes.{types_of, record_ty}
 use Rattle.static_semantics.specs.Inferring.{Scope, under, found_at, found_in_structure, named, is_named, stands_for_con, Bound, variable_entry, with_bound, under_bound}
 use Rattle.static_semantics.specs.EnvironmentsPut.{put_scheme, put_type, put_value, each_entry, put_env, put_structures, put_rows, put_scope}
+use Rattle.static_semantics.specs.RuleConditions.{are_distinct}
 use Rattle.inference_laws.specs.Alike.{in_env}
 use Rattle.inference_laws.proofs.SeenLater.{put_closed}
 
@@ -66,6 +67,18 @@ pub named_put : (s : Substitution) (name : List ℕ) (rows : List (List ℕ × T
 named_put s name [] = refl
 named_put s name (row ∷ rows) = mapped_where (put s) (same_text name row.0) row.1 (named name (put_rows s rows))
     (named name rows) (named_put s name rows)
+
+some_mapped : {A B : Type 0} (f : A → B) (o : Option A) → is_some (option_map f o) ≡ is_some o
+some_mapped f None = refl
+some_mapped f (Some x) = refl
+
+is_named_put : (s : Substitution) (name : List ℕ) (rows : Bound) → is_named name (put_rows s rows) ≡ is_named name rows
+is_named_put s name rows = ap is_some (named_put s name rows) ∙ some_mapped (put s) (named name rows)
+
+pub distinct_put : (s : Substitution) (rows : Bound) → are_distinct (put_rows s rows) ≡ are_distinct rows
+distinct_put s [] = refl
+distinct_put s (row ∷ rows) =
+    ap₂ (λ a b. not a && b) (is_named_put s row.0 rows) (distinct_put s rows)
 
 -- ---- environments
 

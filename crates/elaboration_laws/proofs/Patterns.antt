@@ -39,7 +39,7 @@ use Rattle.inference_laws.proofs.Making.{given_both}
 use Rattle.elaboration_laws.specs.Derived.{SolvesBefore, BindsMore, PatDerived, PatFieldsDerived}
 use Rattle.elaboration_laws.proofs.Finding.{no_entry_put, with_entry_put, rows_after_put, value_found_put, con_put, record_put}
 use Rattle.elaboration_laws.proofs.Types.{given_check, given_new, is_not, TyDerived, ty_derives}
-use Rattle.elaboration_laws.proofs.Steps.{given_each, found_each, Joined, unify_joins, solved_variable, solved_instance, instance_under}
+use Rattle.elaboration_laws.proofs.Steps.{given_each, found_each, Joined, unify_joins, solved_variable, solved_instance, instance_under, ty_known, unify_known}
 
 -- ---- names that differ
 
@@ -286,17 +286,6 @@ applied_derived depth sc long arg at bound st value r g h f d =
           (subst (ElaboratesPat p.marks (put_scope p.stands sc) arg (put_rows p.stands d.own)) (sym (j.same p q))
           (d.derives p (solved_instance value.scheme r.2 h.fit p (j.solved p q))));
     })))
-
-ty_known : (sc : Scope) (ty : TyPhrase) (st : Progress) → IsReady Any sc st
-    → Given (λ t. TyIn Any st.types t × ((s : Substitution) → TyDerived s sc ty t)) (infer_ty sc ty)
-ty_known sc ty st h = given_both (TyIn Any st.types) (λ t. (s : Substitution) → TyDerived s sc ty t) (infer_ty sc ty)
-    (ty_grows Any st.types sc ty h.scope)
-    (given_each (λ s. TyDerived s sc ty) (infer_ty sc ty) (λ s. ty_derives s sc ty))
-
-unify_known : (depth : ℕ) (sc : Scope) (at : At) (a b : Ty) (st : Progress) → IsFit st.types → TyIn Any st.types a
-    → TyIn Any st.types b → Given (λ u. Grows Any st u × Joined a b st u) (unify_at depth sc at a b st)
-unify_known depth sc at a b st h k l = given_both (Grows Any st) (Joined a b st) (unify_at depth sc at a b st)
-    (unify_grows Any depth sc at a b st h k l) (unify_joins depth sc at a b st h)
 
 -- a type that is written at a variable is its type
 record TypedBy (sc : Scope) (ty : Option TyPhrase) (x : Ty) (st u : Progress) : Type 0 where

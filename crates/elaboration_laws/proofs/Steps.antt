@@ -16,6 +16,14 @@ use Rattle.unification.proofs.Fitting.{fit_variable, solves_before}
 use Rattle.static_semantics.specs.Inferring.{Progress, Scope, Answer, unified, unify_at, new_variable, new_instance}
 use Rattle.static_semantics.specs.EnvironmentsPut.{put_scheme}
 use Rattle.static_semantics.specs.Holding.{Given, IfSome}
+use Rattle.static_semantics.specs.Growing.{TyIn, Grows, IsReady}
+use Rattle.static_semantics.specs.TypeInference.{infer_ty}
+use Rattle.bare_phrases.specs.Phrases.{TyPhrase}
+use Rattle.static_semantics.proofs.Growing.{unify_grows}
+use Rattle.static_semantics.proofs.TypesGrow.{ty_grows}
+use Rattle.inference_laws.specs.Promises.{Any}
+use Rattle.inference_laws.proofs.Making.{given_both}
+use Rattle.elaboration_laws.proofs.Types.{TyDerived, ty_derives}
 use Rattle.elaboration_laws.specs.Derived.{SolvesBefore}
 
 -- ---- what holds whatever is put in
@@ -96,3 +104,16 @@ instance_under σ st p q = record {
   is = fill_put (λ i. p.stands (st.types.next + i)) p.stands σ.body
       ∙ sym (put_fill p.stands (λ i. Ty.Var (st.types.next + i)) Ty.Var σ.body);
 }
+
+-- ---- with what is known of how states grow
+
+pub ty_known : (sc : Scope) (ty : TyPhrase) (st : Progress) → IsReady Any sc st
+    → Given (λ t. TyIn Any st.types t × ((s : Substitution) → TyDerived s sc ty t)) (infer_ty sc ty)
+ty_known sc ty st h = given_both (TyIn Any st.types) (λ t. (s : Substitution) → TyDerived s sc ty t) (infer_ty sc ty)
+    (ty_grows Any st.types sc ty h.scope)
+    (given_each (λ s. TyDerived s sc ty) (infer_ty sc ty) (λ s. ty_derives s sc ty))
+
+pub unify_known : (depth : ℕ) (sc : Scope) (at : At) (a b : Ty) (st : Progress) → IsFit st.types → TyIn Any st.types a
+    → TyIn Any st.types b → Given (λ u. Grows Any st u × Joined a b st u) (unify_at depth sc at a b st)
+unify_known depth sc at a b st h k l = given_both (Grows Any st) (Joined a b st) (unify_at depth sc at a b st)
+    (unify_grows Any depth sc at a b st h k l) (unify_joins depth sc at a b st h)

@@ -1,17 +1,19 @@
 -- The laws, as the public functions of this crate state them.
 use Rattle.std.specs.Prelude.{ℕ}
 use Rattle.unification.specs.Types.{Substitution, put}
-use Rattle.bare_phrases.specs.Phrases.{TyPhrase, PatPhrase}
+use Rattle.bare_phrases.specs.Phrases.{TyPhrase, PatPhrase, ExpPhrase, Rules, DecPhrase}
 use Rattle.static_semantics.specs.Inferring.{Progress, Scope, Bound}
 use Rattle.static_semantics.specs.TypeInference.{infer_ty}
 use Rattle.static_semantics.specs.PatternInference.{infer_pat}
+use Rattle.static_semantics.specs.CoreInference.{infer_exp, infer_match, infer_dec}
 use Rattle.static_semantics.specs.EnvironmentsPut.{put_scope}
 use Rattle.static_semantics.specs.Elaborates.{ElaboratesTy}
 use Rattle.static_semantics.specs.Holding.{Given, AllRows}
 use Rattle.static_semantics.specs.Growing.{TyIn, IsReady}
 use Rattle.inference_laws.specs.Alike.{FirmEnv}
 use Rattle.inference_laws.specs.Promises.{Any}
-use Rattle.elaboration_laws.specs.Derived.{PatDerived}
+use Rattle.elaboration_laws.specs.Derived.{PatDerived, ExpDerived, MatchDerived, DecDerived}
+use Rattle.elaboration_laws.specs.Declaring.{IsPlain, ExpHas, RulesHave, DecHas}
 
 -- whatever is put in for the variables of the table, in the scope and in the type that inference gives, the rules give
 -- that type
@@ -25,3 +27,14 @@ pub record PatternsHaveDerivations : Type 0 where
   pub pat : (depth : ℕ) (sc : Scope) (pat : PatPhrase) (bound : Bound) (st : Progress) → FirmEnv sc.env
       → IsReady Any sc st → AllRows (TyIn Any st.types) bound
       → Given (PatDerived sc pat bound st) (infer_pat depth sc pat bound st)
+
+-- for each choice that solves the state after an expression, a match or a declaration in which no `val`, `type` or
+-- `datatype` stands, the rules give it, in the scope under the choice, what inference gives under the choice, from the
+-- number of type names at the start to the one at the end
+pub record ExpressionsHaveDerivations : Type 0 where
+  pub exp : (depth : ℕ) (sc : Scope) (exp : ExpPhrase) (st : Progress) → ExpHas IsPlain exp → FirmEnv sc.env
+      → IsReady Any sc st → Given (ExpDerived sc exp st) (infer_exp depth sc exp st)
+  pub rules : (depth : ℕ) (sc : Scope) (rules : Rules) (st : Progress) → RulesHave IsPlain rules → FirmEnv sc.env
+      → IsReady Any sc st → Given (MatchDerived sc rules st) (infer_match depth sc rules st)
+  pub dec : (depth : ℕ) (sc : Scope) (dec : DecPhrase) (st : Progress) → DecHas IsPlain dec → FirmEnv sc.env
+      → IsReady Any sc st → Given (DecDerived sc dec st) (infer_dec depth sc dec st)

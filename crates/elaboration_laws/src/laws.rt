@@ -1,6 +1,7 @@
 //! The laws, so that crates above have them from a call.
 
 ghost use Rattle.elaboration_laws.specs.Promises.{TypesHaveDerivations, PatternsHaveDerivations};
+ghost use Rattle.elaboration_laws.specs.Promises.{ExpressionsHaveDerivations};
 
 /// The rules give each type that inference gives, whatever is put in for variables.
 #[tactic(auto, using(crate::proofs::Promised::types_have_derivations))]
@@ -12,4 +13,11 @@ pub fn types_have_derivations()
 #[tactic(auto, using(crate::proofs::Promised::patterns_have_derivations))]
 pub fn patterns_have_derivations()
     ensures { PatternsHaveDerivations }
+{}
+
+/// The rules give what inference gives of each expression, match and declaration in which no `val`, `type` or
+/// `datatype` stands.
+#[tactic(auto, using(crate::proofs::Promised::expressions_have_derivations))]
+pub fn expressions_have_derivations()
+    ensures { ExpressionsHaveDerivations }
 {}

@@ -1,0 +1,294 @@
+-- Expressions, matches and declarations without `val`, `type` and `datatype` have derivations.
+use Rattle.std.proofs.Common.{◌≡◌, ℕ, List, [], ◌∷◌, refl, sym, ap, ◌∙◌, subst, Bool, false}
+use Rattle.sml_trees.specs.declared.name.At.{At}
+use Rattle.semantic_objects.specs.Tables.{Table, entry, with_entry}
+use Rattle.semantic_objects.specs.Environments.{Env, empty_env, modified_by}
+use Rattle.semantic_objects.specs.declared.entry.TypeStr.{TypeStr}
+use Rattle.unification.specs.Types.{Ty, Substitution, State, put}
+use Rattle.unification.specs.Unification.{Solves}
+use Rattle.bare_phrases.specs.Phrases.{ExpPhrase, ExpFields, Rules, DecPhrase, DecPhrases}
+use Rattle.static_semantics.specs.BasicTypes.{int_ty, string_ty, char_ty, arrow_ty, record_ty}
+use Rattle.static_semantics.specs.Inferring.{Progress, Scope, under, gives, name_at, unify_at, Bound, with_bound, under_bound, variable_entry}
+use Rattle.static_semantics.specs.TypeInference.{infer_ty}
+use Rattle.static_semantics.specs.PatternInference.{pat_at, infer_pat}
+use Rattle.static_semantics.specs.DatatypeInference.{infer_replication, exceptions_of}
+use Rattle.static_semantics.specs.CoreInference.{exp_at, known_exp, applied, joined, handled, raised, within_let, infer_open, infer_exp, infer_exp_fields, infer_match, infer_rules, infer_dec, infer_decs}
+use Rattle.static_semantics.specs.EnvironmentsPut.{put_env, put_scope}
+use Rattle.static_semantics.specs.Elaborates.{ElaboratesExp, ElaboratesDec, ElaboratesDecs}
+use Rattle.static_semantics.specs.Holding.{Given, AllRows}
+use Rattle.static_semantics.specs.Growing.{TyIn, EnvIn, Grows, IsReady}
+use Rattle.static_semantics.proofs.Holding.{given_then, rows_with}
+use Rattle.static_semantics.proofs.Growing.{grows_then, ty_later, rows_later, ready_later}
+use Rattle.static_semantics.proofs.TypesGrow.{MadeIn, given_more}
+use Rattle.static_semantics.proofs.PatternsGrow.{PatIn}
+use Rattle.static_semantics.proofs.DatatypesGrow.{ready_under}
+use Rattle.static_semantics.proofs.CoreGrow.{ExpIn, ready_bound, exp_grows, match_grows, dec_grows}
+use Rattle.inference_laws.specs.Alike.{FirmType, FirmValue, AnyName, FirmEnv}
+use Rattle.inference_laws.specs.Promises.{Any}
+use Rattle.inference_laws.proofs.EnvsWith.{env_with_value, env_modified}
+use Rattle.inference_laws.proofs.Firm.{dec_firm}
+use Rattle.inference_laws.proofs.Making.{given_both}
+use Rattle.elaboration_laws.specs.Derived.{SolvesBefore, PatDerived, ExpDerived, ExpFieldsDerived, RulesDerived, MatchDerived, DecDerived, DecsDerived}
+use Rattle.elaboration_laws.specs.Declaring.{IsPlain, ExpHas, ExpFieldsHave, RulesHave, DecHas, DecsHave}
+use Rattle.elaboration_laws.proofs.Finding.{under_put, modified_put}
+use Rattle.elaboration_laws.proofs.Types.{given_new, TyDerived, ty_derives}
+use Rattle.elaboration_laws.proofs.Steps.{given_each, Joined, unify_known}
+use Rattle.elaboration_laws.proofs.Patterns.{PatKnown, pat_known}
+use Rattle.elaboration_laws.proofs.Expressions.{exp_sized, constant_derived, long_derived, record_derived, no_fields_derived, field_derived, let_derived, within_derived, app_derived, typed_derived, handle_derived, raise_derived, fn_derived, no_rules_derived, no_match_derived, match_derived, rule_derived}
+use Rattle.elaboration_laws.proofs.Declarations.{dec_sized, stateless_derived, replication_derives, ExceptionsDerived, exceptions_derive, OpenDerived, open_derives}
+
+-- ---- with what is known of how states grow
+
+abbrev ExpKnown : Scope → ExpPhrase → Progress → Ty × Progress → Type 0
+ExpKnown sc exp st r = ExpIn Any st r × ExpDerived sc exp st r
+
+exp_with : (depth : ℕ) (sc : Scope) (exp : ExpPhrase) (st : Progress) → IsReady Any sc st
+    → Given (ExpDerived sc exp st) (infer_exp depth sc exp st) → Given (ExpKnown sc exp st) (infer_exp depth sc exp st)
+exp_with depth sc exp st h d = given_both (ExpIn Any st) (ExpDerived sc exp st) (infer_exp depth sc exp st)
+    (exp_grows Any depth sc exp st h) d
+
+abbrev MatchKnown : Scope → Rules → Progress → Ty × Progress → Type 0
+MatchKnown sc rules st r = ExpIn Any st r × MatchDerived sc rules st r
+
+match_with : (depth : ℕ) (sc : Scope) (rules : Rules) (st : Progress) → IsReady Any sc st
+    → Given (MatchDerived sc rules st) (infer_match depth sc rules st)
+    → Given (MatchKnown sc rules st) (infer_match depth sc rules st)
+match_with depth sc rules st h d = given_both (ExpIn Any st) (MatchDerived sc rules st)
+    (infer_match depth sc rules st) (match_grows Any depth sc rules st h) d
+
+-- .. and that no variable of the table stands in the types of what is made
+abbrev DecKnown : Scope → DecPhrase → Progress → Env × Progress → Type 0
+DecKnown sc dec st r = MadeIn Any st r × (FirmEnv r.0 × DecDerived sc dec st r)
+
+dec_with : (depth : ℕ) (sc : Scope) (dec : DecPhrase) (st : Progress) → FirmEnv sc.env → IsReady Any sc st
+    → Given (DecDerived sc dec st) (infer_dec depth sc dec st) → Given (DecKnown sc dec st) (infer_dec depth sc dec st)
+dec_with depth sc dec st firm h d =
+    given_both (MadeIn Any st) (λ r. FirmEnv r.0 × DecDerived sc dec st r) (infer_dec depth sc dec st)
+    (dec_grows Any depth sc dec st h)
+    (given_both (λ r. FirmEnv r.0) (DecDerived sc dec st) (infer_dec depth sc dec st) (dec_firm depth sc dec st firm) d)
+
+firm_bound : (rows : Bound) (env : Env) → FirmEnv env → FirmEnv (with_bound rows env)
+firm_bound [] env h = h
+firm_bound (row ∷ rows) env h = firm_bound rows _ (env_with_value AnyName FirmType FirmValue row.0
+    (variable_entry row.1) env tt (λ e. absurd (cc)) h)
+
+firm_under : (made : Env) (sc : Scope) → FirmEnv sc.env → FirmEnv made → FirmEnv (under made sc).env
+firm_under made sc h k = env_modified AnyName FirmType FirmValue sc.env made h k
+
+-- ---- declarations one after another
+
+local_derived : (sc : Scope) (hidden shown : DecPhrase) (at : At) (st : Progress) (d r : Env × Progress)
+    → DecDerived sc hidden st d → DecDerived (under d.0 sc) shown d.1 r
+    → DecDerived sc (DecPhrase.Local hidden shown at) st r
+local_derived sc hidden shown at st d r h k = record {
+  solved = λ p q. h.solved p (k.solved p q);
+  derives = λ p q. ElaboratesDec.rule_21 p.marks (put_scope p.stands sc) st.names d.1.names r.1.names hidden shown at
+      (put_env p.stands d.0) (put_env p.stands r.0) (h.derives p (k.solved p q))
+      (subst (λ z. ElaboratesDec p.marks z d.1.names shown (put_env p.stands r.0) r.1.names)
+      (sym (under_put p.stands d.0 sc)) (k.derives p q));
+}
+
+decs_derived : (sc : Scope) (dec : DecPhrase) (rest : DecPhrases) (st : Progress) (d r : Env × Progress)
+    → DecDerived sc dec st d → DecsDerived (under d.0 sc) rest d.1 r
+    → DecsDerived sc (DecPhrases.Dec dec rest) st (modified_by d.0 r.0, r.1)
+decs_derived sc dec rest st d r h k = record {
+  solved = λ p q. h.solved p (k.solved p q);
+  derives = λ p q. subst
+      (λ z. ElaboratesDecs p.marks (put_scope p.stands sc) st.names (DecPhrases.Dec dec rest) z r.1.names)
+      (modified_put p.stands d.0 r.0)
+      (ElaboratesDecs.rule_24 p.marks (put_scope p.stands sc) st.names d.1.names r.1.names dec rest
+      (put_env p.stands d.0) (put_env p.stands r.0) (h.derives p (k.solved p q))
+      (subst (λ z. ElaboratesDecs p.marks z d.1.names rest (put_env p.stands r.0) r.1.names)
+      (sym (under_put p.stands d.0 sc)) (k.derives p q)));
+}
+
+sequence_derived : (sc : Scope) (decs : DecPhrases) (at : At) (st : Progress) (r : Env × Progress)
+    → DecsDerived sc decs st r → DecDerived sc (DecPhrase.Sequence decs at) st r
+sequence_derived sc decs at st r h = record {
+  solved = h.solved;
+  derives = λ p q. ElaboratesDec.rules_23_24 p.marks (put_scope p.stands sc) st.names r.1.names decs at
+      (put_env p.stands r.0) (h.derives p q);
+}
+
+-- ---- the phrases
+
+mutual
+  pub exp_derives : (depth : ℕ) (sc : Scope) (exp : ExpPhrase) (st : Progress) → ExpHas IsPlain exp → FirmEnv sc.env
+      → IsReady Any sc st → Given (ExpDerived sc exp st) (infer_exp depth sc exp st)
+  exp_derives depth sc (ExpPhrase.Int value at) st has firm h = exp_sized sc (ExpPhrase.Int value at) st at (int_ty, st)
+      (constant_derived sc (ExpPhrase.Int value at) int_ty st
+      (λ p. ElaboratesExp.rule_1_int p.marks (put_scope p.stands sc) st.names value at))
+  exp_derives depth sc (ExpPhrase.Str value at) st has firm h =
+      exp_sized sc (ExpPhrase.Str value at) st at (string_ty, st)
+      (constant_derived sc (ExpPhrase.Str value at) string_ty st
+      (λ p. ElaboratesExp.rule_1_string p.marks (put_scope p.stands sc) st.names value at))
+  exp_derives depth sc (ExpPhrase.Char value at) st has firm h =
+      exp_sized sc (ExpPhrase.Char value at) st at (char_ty, st)
+      (constant_derived sc (ExpPhrase.Char value at) char_ty st
+      (λ p. ElaboratesExp.rule_1_char p.marks (put_scope p.stands sc) st.names value at))
+  exp_derives depth sc (ExpPhrase.Long long at) st has firm h =
+      let Q : Ty × Progress → Type 0 = ExpDerived sc (ExpPhrase.Long long at) st in
+      given_then Q Q (known_exp sc long st) _ (long_derived sc long at st firm h)
+      (λ r k. exp_sized sc (ExpPhrase.Long long at) st at r k)
+  exp_derives depth sc (ExpPhrase.Record fields at) st has firm h =
+      given_then (ExpFieldsDerived sc fields [] st) (ExpDerived sc (ExpPhrase.Record fields at) st)
+      (infer_exp_fields depth sc fields [] st) _ (exp_fields_derive depth sc fields [] st has firm h) (λ r k.
+      exp_sized sc (ExpPhrase.Record fields at) st at (record_ty r.0, r.1) (record_derived sc fields at st r k))
+  exp_derives depth sc (ExpPhrase.Let dec body at) st has firm h =
+      let Q : Ty × Progress → Type 0 = ExpDerived sc (ExpPhrase.Let dec body at) st in
+      given_then (DecKnown sc dec st) Q (infer_dec depth sc dec st) _
+      (dec_with depth sc dec st firm h (dec_derives depth sc dec st has.0 firm h)) (λ d k.
+      given_then (ExpDerived (under d.0 sc) body d.1) Q (infer_exp depth (under d.0 sc) body d.1) _
+      (exp_derives depth (under d.0 sc) body d.1 has.1 (firm_under d.0 sc firm k.1.0)
+      (ready_under Any d.0 sc d.1 k.0.1 (ready_later Any sc st d.1 h k.0.0))) (λ r l.
+      given_then Q Q (within_let sc at st.names d.1.names r) _
+      (within_derived sc (ExpPhrase.Let dec body at) st at st.names d.1.names r
+      (let_derived sc dec body at st d r k.1.1 l)) (λ v m.
+      exp_sized sc (ExpPhrase.Let dec body at) st at v m)))
+  exp_derives depth sc (ExpPhrase.App function argument at) st has firm h =
+      let Q : Ty × Progress → Type 0 = ExpDerived sc (ExpPhrase.App function argument at) st in
+      given_then (ExpKnown sc function st) Q (infer_exp depth sc function st) _
+      (exp_with depth sc function st h (exp_derives depth sc function st has.0 firm h)) (λ f k.
+      let ready : IsReady Any sc f.1 = ready_later Any sc st f.1 h k.0.0 in
+      given_then (ExpKnown sc argument f.1) Q (infer_exp depth sc argument f.1) _
+      (exp_with depth sc argument f.1 ready (exp_derives depth sc argument f.1 has.1 firm ready)) (λ a l.
+      given_then Q Q (applied depth sc at f.0 a.0 a.1) _
+      (app_derived depth sc function argument at st f a (ready_later Any sc f.1 a.1 ready l.0.0) k.1 l.1) (λ r m.
+      exp_sized sc (ExpPhrase.App function argument at) st at r m)))
+  exp_derives depth sc (ExpPhrase.Typed exp ty at) st has firm h =
+      let Q : Ty × Progress → Type 0 = ExpDerived sc (ExpPhrase.Typed exp ty at) st in
+      given_then (ExpKnown sc exp st) Q (infer_exp depth sc exp st) _
+      (exp_with depth sc exp st h (exp_derives depth sc exp st has firm h)) (λ e k.
+      given_then (λ t. (s : Substitution) → TyDerived s sc ty t) Q (infer_ty sc ty) _
+      (given_each (λ s. TyDerived s sc ty) (infer_ty sc ty) (λ s. ty_derives s sc ty)) (λ t d.
+      given_then Q Q (joined depth sc at e.0 t e.1) _
+      (typed_derived depth sc exp ty at st e t (ready_later Any sc st e.1 h k.0.0) k.1 d) (λ r m.
+      exp_sized sc (ExpPhrase.Typed exp ty at) st at r m)))
+  exp_derives depth sc (ExpPhrase.Handle exp rules at) st has firm h =
+      let Q : Ty × Progress → Type 0 = ExpDerived sc (ExpPhrase.Handle exp rules at) st in
+      given_then (ExpKnown sc exp st) Q (infer_exp depth sc exp st) _
+      (exp_with depth sc exp st h (exp_derives depth sc exp st has.0 firm h)) (λ e k.
+      let ready : IsReady Any sc e.1 = ready_later Any sc st e.1 h k.0.0 in
+      given_then (MatchKnown sc rules e.1) Q (infer_match depth sc rules e.1) _
+      (match_with depth sc rules e.1 ready (match_derives depth sc rules e.1 has.1 firm ready)) (λ m l.
+      given_then Q Q (handled depth sc at e.0 m.0 m.1) _
+      (handle_derived depth sc exp rules at st e m (ready_later Any sc e.1 m.1 ready l.0.0) k.1 l.1) (λ r i.
+      exp_sized sc (ExpPhrase.Handle exp rules at) st at r i)))
+  exp_derives depth sc (ExpPhrase.Raise exp at) st has firm h =
+      let Q : Ty × Progress → Type 0 = ExpDerived sc (ExpPhrase.Raise exp at) st in
+      given_then (ExpKnown sc exp st) Q (infer_exp depth sc exp st) _
+      (exp_with depth sc exp st h (exp_derives depth sc exp st has firm h)) (λ e k.
+      given_then Q Q (raised depth sc at e.0 e.1) _
+      (raise_derived depth sc exp at st e (ready_later Any sc st e.1 h k.0.0) k.0.1 k.1) (λ r l.
+      exp_sized sc (ExpPhrase.Raise exp at) st at r l))
+  exp_derives depth sc (ExpPhrase.Fn rules at) st has firm h =
+      given_then (MatchDerived sc rules st) (ExpDerived sc (ExpPhrase.Fn rules at) st) (infer_match depth sc rules st) _
+      (match_derives depth sc rules st has firm h)
+      (λ r k. exp_sized sc (ExpPhrase.Fn rules at) st at r (fn_derived sc rules at st r k))
+
+  pub exp_fields_derive : (depth : ℕ) (sc : Scope) (fields : ExpFields) (made : Table Ty) (st : Progress)
+      → ExpFieldsHave IsPlain fields → FirmEnv sc.env → IsReady Any sc st
+      → Given (ExpFieldsDerived sc fields made st) (infer_exp_fields depth sc fields made st)
+  exp_fields_derive depth sc ExpFields.EndOfFields made st has firm h = no_fields_derived sc made st
+  exp_fields_derive depth sc (ExpFields.Field label exp rest) made st has firm h =
+      let Q : Table Ty × Progress → Type 0 = ExpFieldsDerived sc (ExpFields.Field label exp rest) made st in
+      given_new Q label.text made 40 sc (name_at label) _ (λ e.
+      given_then (ExpKnown sc exp st) Q (infer_exp depth sc exp st) _
+      (exp_with depth sc exp st h (exp_derives depth sc exp st has.0 firm h)) (λ r k.
+      given_more (ExpFieldsDerived sc rest (with_entry label.text r.0 made) r.1) Q
+      (infer_exp_fields depth sc rest (with_entry label.text r.0 made) r.1)
+      (λ v l. field_derived sc label exp rest made st r v e k.1 l)
+      (exp_fields_derive depth sc rest (with_entry label.text r.0 made) r.1 has.1 firm
+      (ready_later Any sc st r.1 h k.0.0))))
+
+  pub match_derives : (depth : ℕ) (sc : Scope) (rules : Rules) (st : Progress) → RulesHave IsPlain rules
+      → FirmEnv sc.env → IsReady Any sc st → Given (MatchDerived sc rules st) (infer_match depth sc rules st)
+  match_derives depth sc Rules.EndOfRules st has firm h = no_match_derived sc st h
+  match_derives depth sc (Rules.Rule pat exp rest) st has firm h =
+      let Q : Ty × Progress → Type 0 = MatchDerived sc (Rules.Rule pat exp rest) st in
+      given_then (PatKnown sc pat [] st) Q (infer_pat depth sc pat [] st) _
+      (pat_known depth sc pat [] st firm h tt) (λ r i.
+      let ready : IsReady Any (under_bound r.1 sc) r.2 =
+      ready_bound Any r.1 sc r.2 i.0.2 (ready_later Any sc st r.2 h i.0.0) in
+      given_then (ExpKnown (under_bound r.1 sc) exp r.2) Q (infer_exp depth (under_bound r.1 sc) exp r.2) _
+      (exp_with depth (under_bound r.1 sc) exp r.2 ready
+      (exp_derives depth (under_bound r.1 sc) exp r.2 has.0 (firm_bound r.1 sc.env firm) ready)) (λ e k.
+      let g : Grows Any st e.1 = grows_then Any st r.2 e.1 i.0.0 k.0.0 in
+      given_then (RulesDerived sc r.0 e.0 rest e.1) Q (infer_rules depth sc r.0 e.0 rest e.1) _
+      (rules_derive depth sc r.0 e.0 rest e.1 has.1 firm (ready_later Any sc st e.1 h g)
+      (ty_later Any r.2 e.1 r.0 k.0.0 i.0.1) k.0.1) (λ u l.
+      match_derived sc pat exp rest st r e u i.1 k.1 l)))
+
+  pub rules_derive : (depth : ℕ) (sc : Scope) (from to : Ty) (rules : Rules) (st : Progress)
+      → RulesHave IsPlain rules → FirmEnv sc.env → IsReady Any sc st → TyIn Any st.types from → TyIn Any st.types to
+      → Given (RulesDerived sc from to rules st) (infer_rules depth sc from to rules st)
+  rules_derive depth sc from to Rules.EndOfRules st has firm h f t = no_rules_derived sc from to st
+  rules_derive depth sc from to (Rules.Rule pat exp rest) st has firm h f t =
+      let Q : Progress → Type 0 = RulesDerived sc from to (Rules.Rule pat exp rest) st in
+      given_then (PatKnown sc pat [] st) Q (infer_pat depth sc pat [] st) _
+      (pat_known depth sc pat [] st firm h tt) (λ r i.
+      given_then (λ s. Grows Any r.2 s × Joined r.0 from r.2 s) Q (unify_at depth sc (pat_at pat) r.0 from r.2) _
+      (unify_known depth sc (pat_at pat) r.0 from r.2 i.0.0.fit i.0.1 (ty_later Any st r.2 from i.0.0 f)) (λ s j.
+      let g : Grows Any st s = grows_then Any st r.2 s i.0.0 j.0 in
+      let ready : IsReady Any (under_bound r.1 sc) s =
+      ready_bound Any r.1 sc s (rows_later Any r.2 s r.1 j.0 i.0.2) (ready_later Any sc st s h g) in
+      given_then (ExpKnown (under_bound r.1 sc) exp s) Q (infer_exp depth (under_bound r.1 sc) exp s) _
+      (exp_with depth (under_bound r.1 sc) exp s ready
+      (exp_derives depth (under_bound r.1 sc) exp s has.0 (firm_bound r.1 sc.env firm) ready)) (λ e k.
+      let before : Grows Any st e.1 = grows_then Any st s e.1 g k.0.0 in
+      given_then (λ u. Grows Any e.1 u × Joined e.0 to e.1 u) Q (unify_at depth sc (exp_at exp) e.0 to e.1) _
+      (unify_known depth sc (exp_at exp) e.0 to e.1 k.0.0.fit k.0.1 (ty_later Any st e.1 to before t)) (λ u m.
+      let all : Grows Any st u = grows_then Any st e.1 u before m.0 in
+      given_more (RulesDerived sc from to rest u) Q (infer_rules depth sc from to rest u)
+      (λ v l. rule_derived sc from to pat exp rest st r s e u v i.1 j.1 k.1 m.1 l)
+      (rules_derive depth sc from to rest u has.1 firm (ready_later Any sc st u h all) (ty_later Any st u from all f)
+      (ty_later Any st u to all t))))))
+
+  pub dec_derives : (depth : ℕ) (sc : Scope) (dec : DecPhrase) (st : Progress) → DecHas IsPlain dec → FirmEnv sc.env
+      → IsReady Any sc st → Given (DecDerived sc dec st) (infer_dec depth sc dec st)
+  dec_derives depth sc (DecPhrase.Val tyvars rules recs at) st has firm h = absurd has.0
+  dec_derives depth sc (DecPhrase.Types binds at) st has firm h = absurd has
+  dec_derives depth sc (DecPhrase.Datatypes binds at) st has firm h = absurd has
+  dec_derives depth sc (DecPhrase.Replication name long at) st has firm h =
+      let dec : DecPhrase = DecPhrase.Replication name long at in
+      given_then (λ made. DecDerived sc dec st (made, st)) (DecDerived sc dec st) (infer_replication sc name long) _
+      (replication_derives sc name long at st) (λ made k. dec_sized sc dec st at (made, st) k)
+  dec_derives depth sc (DecPhrase.Exceptions binds at) st has firm h =
+      let dec : DecPhrase = DecPhrase.Exceptions binds at in
+      given_then (ExceptionsDerived sc binds empty_env) (DecDerived sc dec st) (exceptions_of sc binds) _
+      (exceptions_derive sc binds empty_env firm) (λ made k. dec_sized sc dec st at (made, st)
+      (stateless_derived sc dec st made (λ p. ElaboratesDec.rule_20 p.marks (put_scope p.stands sc) st.names binds at
+      (put_env p.stands made) (k p.stands))))
+  dec_derives depth sc (DecPhrase.Local hidden shown at) st has firm h =
+      let Q : Env × Progress → Type 0 = DecDerived sc (DecPhrase.Local hidden shown at) st in
+      given_then (DecKnown sc hidden st) Q (infer_dec depth sc hidden st) _
+      (dec_with depth sc hidden st firm h (dec_derives depth sc hidden st has.0 firm h)) (λ d k.
+      given_then (DecDerived (under d.0 sc) shown d.1) Q (infer_dec depth (under d.0 sc) shown d.1) _
+      (dec_derives depth (under d.0 sc) shown d.1 has.1 (firm_under d.0 sc firm k.1.0)
+      (ready_under Any d.0 sc d.1 k.0.1 (ready_later Any sc st d.1 h k.0.0))) (λ r l.
+      dec_sized sc (DecPhrase.Local hidden shown at) st at r (local_derived sc hidden shown at st d r k.1.1 l)))
+  dec_derives depth sc (DecPhrase.Open longs at) st has firm h =
+      let dec : DecPhrase = DecPhrase.Open longs at in
+      given_then (OpenDerived sc longs empty_env) (DecDerived sc dec st) (infer_open sc longs empty_env) _
+      (open_derives sc longs empty_env) (λ made k. dec_sized sc dec st at (made, st)
+      (stateless_derived sc dec st made (λ p. ElaboratesDec.rule_22 p.marks (put_scope p.stands sc) st.names longs at
+      (put_env p.stands made) (k p.stands))))
+  dec_derives depth sc (DecPhrase.Sequence decs at) st has firm h =
+      given_more (DecsDerived sc decs st) (DecDerived sc (DecPhrase.Sequence decs at) st) (infer_decs depth sc decs st)
+      (sequence_derived sc decs at st) (decs_derive depth sc decs st has firm h)
+  dec_derives depth sc (DecPhrase.Structures binds at) st has firm h = tt
+
+  pub decs_derive : (depth : ℕ) (sc : Scope) (decs : DecPhrases) (st : Progress) → DecsHave IsPlain decs
+      → FirmEnv sc.env → IsReady Any sc st → Given (DecsDerived sc decs st) (infer_decs depth sc decs st)
+  decs_derive depth sc DecPhrases.EndOfDecs st has firm h = record {
+    solved = λ p q. q;
+    derives = λ p q. ElaboratesDecs.rule_23 p.marks (put_scope p.stands sc) st.names;
+  }
+  decs_derive depth sc (DecPhrases.Dec dec rest) st has firm h =
+      let Q : Env × Progress → Type 0 = DecsDerived sc (DecPhrases.Dec dec rest) st in
+      given_then (DecKnown sc dec st) Q (infer_dec depth sc dec st) _
+      (dec_with depth sc dec st firm h (dec_derives depth sc dec st has.0 firm h)) (λ d k.
+      given_then (DecsDerived (under d.0 sc) rest d.1) Q (infer_decs depth (under d.0 sc) rest d.1) _
+      (decs_derive depth (under d.0 sc) rest d.1 has.1 (firm_under d.0 sc firm k.1.0)
+      (ready_under Any d.0 sc d.1 k.0.1 (ready_later Any sc st d.1 h k.0.0))) (λ r l.
+      decs_derived sc dec rest st d r k.1.1 l))
