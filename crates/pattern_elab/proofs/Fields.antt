@@ -1,6 +1,6 @@
 -- The fields of record patterns, one after the other.
-use Rattle.std.proofs.Common.{◌≡◌, ℕ, suc, ◌+◌, ◌<◌, ◌≤◌, List, [], ◌∷◌, ◌++◌, length, map, drop, get_or, refl, sym, ap, ap₂, ◌∙◌, subst, Option, Some, None, add-one, drop-cons}
-use Rattle.std.specs.Prelude.{Result, Ok, Err}
+use Rattle.std.proofs.Common.{◌≡◌, ℕ, ◌+◌, ◌<◌, ◌≤◌, List, [], ◌∷◌, ◌++◌, length, map, drop, get_or, refl, sym, ap, ap₂, ◌∙◌, subst, Some, None, add-one, drop-cons}
+use Rattle.std.specs.Prelude.{Ok, Err}
 use Rattle.cm_base.specs.declared.fault.Fault.{Fault}
 use Rattle.cm_base.specs.declared.fault.Fault.TheVariants as fault
 use Rattle.sml_trees.specs.declared.name.Name.{Name}
@@ -45,7 +45,8 @@ made_later a b rows h k = ap (λ z. with_all z []) (rows_later a b rows h k)
 
 -- ---- one field
 
-pub field_done : (g : Graph) (sc : Scope) (label : Name) (p : PatPhrase) (rows more : Rows TyId) (b : Bound) (st : Progress)
+pub field_done : (g : Graph) (sc : Scope) (label : Name) (p : PatPhrase) (rows more : Rows TyId) (b : Bound) (st :
+    Progress)
     (t new : Table) (a : TyId) (bound : Rows OwnVariable)
     → new_label sc label (made_fields t rows) ≡ gives tt
     → infer_pat depth sc p b st ≡ gives (type_of new a, bound_of bound, progress new g)
@@ -53,7 +54,8 @@ pub field_done : (g : Graph) (sc : Scope) (label : Name) (p : PatPhrase) (rows m
     → infer_field sc label p (made_fields t rows) b st ≡ gives (made_fields new more, bound_of bound, progress new g)
 field_done g sc label p rows more b st t new a bound h k l m e =
     let w : with_entry label.text (type_of new a) (made_fields t rows) ≡ made_fields new more =
-    sym (made_more new rows more label.text a e ∙ ap (with_entry label.text (type_of new a)) (made_later t new rows l m)) in
+    sym (made_more new rows more label.text a e ∙ ap (with_entry label.text (type_of new a)) (made_later t new rows l
+    m)) in
     rw (h, k) (ap (λ (z : Named Ty). gives (z, bound_of bound, progress new g)) w)
 
 pub field_first : (g : Graph) (sc : Scope) (label : Name) (p : PatPhrase) (made : Named Ty) (b : Bound) (st : Progress)
@@ -64,7 +66,8 @@ field_first g sc label p made b st t rows read told (fault.Diag d) h = rw h
 field_first g sc label p made b st t rows read told fault.NoMemory h = tt
 
 pub field_second : (g : Graph) (sc : Scope) (label : Name) (p : PatPhrase) (made : Named Ty) (b : Bound) (st : Progress)
-    (t : Table) (rows : Rows OwnVariable) (read : TyId → Ty × Bound × Progress) (told : Unit {0} → Rows TyId) (e : Fault)
+    (t : Table) (rows : Rows OwnVariable) (read : TyId → Ty × Bound × Progress) (told : Unit {0} → Rows TyId) (e :
+    Fault)
     → new_label sc label made ≡ gives tt → Answers (infer_pat depth sc p b st) read (Err e)
     → InferredFields (infer_field sc label p made b st) told (Err e) t rows g
 field_second g sc label p made b st t rows read told (fault.Diag d) h k = rw (h, k)
@@ -91,7 +94,7 @@ one_field : (sc : Scope) (x : PatField) (rest : List PatField) (made : Named Ty)
     >>= λ q. fields_left sc rest q.0 q.1 q.2)
 one_field sc x rest made b st =
     ap (λ (row : Name × PatPhrase). infer_pat_fields depth sc
-      (PatFields.Field row.0 row.1 (pat_fields (map pat_field_phrase rest))) made b st) (pat_field_phrase-kept x)
+    (PatFields.Field row.0 row.1 (pat_fields (map pat_field_phrase rest))) made b st) (pat_field_phrase-kept x)
     ∙ joined (new_label sc (out-PatField x).label made) (infer_pat depth sc (pat_phrase (out-PatField x).pat) b st)
     (λ r. (with_entry (out-PatField x).label.text r.0 made, r.1, r.2)) (λ q. fields_left sc rest q.0 q.1 q.2)
 
@@ -133,7 +136,8 @@ fields_next g scope first t new all i x rows more before bound after s h e k hav
       ∙ ap (λ fields. fields_left (scope_of g scope) fields (made_fields t rows) (bound_of bound) (progress t g))
       (next_field all i x h e)
       ∙ one_field (scope_of g scope) x (drop (i + 1) all) (made_fields t rows) (bound_of bound) (progress t g)
-      ∙ ap (λ (m : Answer (Named Ty × Bound × Progress)). m >>= λ q. fields_left (scope_of g scope) (drop (i + 1) all) q.0 q.1 q.2) k;
+      ∙ ap (λ (m : Answer (Named Ty × Bound × Progress)). m >>= λ q. fields_left (scope_of g scope) (drop (i + 1)
+      all) q.0 q.1 q.2) k;
   have = have;
   differing = differing;
   goes = binds_then first t new before bound after s.goes goes;
@@ -146,13 +150,15 @@ pub fields_failed : (g : Graph) (scope : Bindings OwnVariable) (first t new : Ta
     → FieldsSoFar g scope first t all i rows before bound → i < length all → x ≡ get_or all i x
     → InferredFields (infer_field (scope_of g scope) (out-PatField x).label (pat_phrase (out-PatField x).pat)
     (made_fields t rows) (bound_of bound) (progress t g)) told (Err e) new after g
-    → InferredFields (fields_left (scope_of g scope) all [] (bound_of before) (progress first g)) read (Err e) new after g
+    → InferredFields (fields_left (scope_of g scope) all [] (bound_of before) (progress first g)) read (Err e) new
+    after g
 fields_failed g scope first t new all i x rows before bound after told read (fault.Diag d) s h e k =
     s.left
     ∙ ap (λ fields. fields_left (scope_of g scope) fields (made_fields t rows) (bound_of bound) (progress t g))
     (next_field all i x h e)
     ∙ one_field (scope_of g scope) x (drop (i + 1) all) (made_fields t rows) (bound_of bound) (progress t g)
-    ∙ ap (λ (m : Answer (Named Ty × Bound × Progress)). m >>= λ q. fields_left (scope_of g scope) (drop (i + 1) all) q.0 q.1 q.2) k
+    ∙ ap (λ (m : Answer (Named Ty × Bound × Progress)). m >>= λ q. fields_left (scope_of g scope) (drop (i + 1) all)
+    q.0 q.1 q.2) k
 fields_failed g scope first t new all i x rows before bound after told read fault.NoMemory s h e k = tt
 
 pub fields_end : (g : Graph) (scope : Bindings OwnVariable) (first t : Table) (all : List PatField) (i : ℕ)

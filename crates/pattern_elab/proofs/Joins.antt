@@ -1,5 +1,5 @@
 -- Patterns with parts: what inference gives of each from what it gives of its parts.
-use Rattle.std.proofs.Common.{◌≡◌, ℕ, List, [], ◌∷◌, refl, sym, ap, ◌∙◌, subst, Option, Some, None, Bool, true, false}
+use Rattle.std.proofs.Common.{◌≡◌, [], refl, sym, ap, subst, Option, Some, None}
 use Rattle.std.specs.Prelude.{Result, Ok, Err, IfOk}
 use Rattle.cm_base.specs.declared.fault.Fault.{Fault}
 use Rattle.cm_base.specs.declared.fault.Fault.TheVariants as fault
@@ -31,12 +31,14 @@ use Rattle.pattern_elab.proofs.Forms.{pat_sized}
 -- ---- a unification, and the size after it
 
 abbrev pub joins : Graph → Bindings OwnVariable → At → Ty → Ty → Progress → Ty → Bound → Answer (Ty × Bound × Progress)
-joins g scope at a b st u bound = unify_at depth (scope_of g scope) at a b st >>= λ s. sized_pat (scope_of g scope) at (u, bound, s)
+joins g scope at a b st u bound = unify_at depth (scope_of g scope) at a b st >>= λ s. sized_pat (scope_of g scope)
+    at (u, bound, s)
 
 pub joined_sized : (g : Graph) (scope : Bindings OwnVariable) (at : At) (a b u : Ty) (rows : Rows OwnVariable)
     (t new : Table) (x : TyId) (r : Result TyId Fault)
     → Unified g at (unify_in depth a b (state t)) (Ok tt) (state new) → type_of new x ≡ u
-    → Answers (sized (home_scope g) at (type_of new x) (progress new g)) (λ (same : TyId). tt) r → IfOk r (λ same. same ≡ x)
+    → Answers (sized (home_scope g) at (type_of new x) (progress new g)) (λ (same : TyId). tt) r → IfOk r (λ same.
+    same ≡ x)
     → InferredPat (joins g scope at a b (progress t g) u (bound_of rows)) r new rows g
 joined_sized g scope at a b u rows t new x r h e k l =
     let m : joins g scope at a b (progress t g) u (bound_of rows)
@@ -90,7 +92,7 @@ pub con_is : (g : Graph) (scope : Bindings OwnVariable) (long : LongName) (p : P
     → infer_pat depth (scope_of g scope) (PatPhrase.Con long p at) b st ≡ joins g scope at from v s2 to c
 con_is g scope long p at b c st s1 s2 value u v from to h i j k e f =
     rw (h, i, j, k, e, f) (given_then (unify_at depth (scope_of g scope) at from u
-      (with_types (instance value.scheme s1.types).1 s1)) to c (λ q. sized_pat (scope_of g scope) at q))
+    (with_types (instance value.scheme s1.types).1 s1)) to c (λ q. sized_pat (scope_of g scope) at q))
 
 pub con_first : (g : Graph) (sc : Scope) (long : LongName) (p : PatPhrase) (at : At) (b : Bound) (st : Progress)
     {R : Type 0} (read : R → ValueEntry) (new : Table) (more : Rows OwnVariable) (e : Fault)
@@ -129,7 +131,8 @@ con_fourth g scope long p at b c st s value u t new more fault.NoMemory h k l m 
 
 pub as_is : (g : Graph) (scope : Bindings OwnVariable) (name : Name) (ty : Option TyPhrase) (p : PatPhrase) (at : At)
     (b c d : Bound) (st s1 s2 s3 : Progress) (u v w : Ty)
-    → refuses_where (stands_for_con (entry name.text (values (scope_of g scope).env))) 34 (scope_of g scope) at ≡ gives tt
+    → refuses_where (stands_for_con (entry name.text (values (scope_of g scope).env))) 34 (scope_of g scope) at ≡
+    gives tt
     → bind_variable (scope_of g scope) (name_at name) name.text b st ≡ gives (u, c, s1)
     → typed_variable depth (scope_of g scope) at u ty s1 ≡ gives s2
     → infer_pat depth (scope_of g scope) p c s2 ≡ gives (w, d, s3) → v ≡ u
@@ -206,7 +209,8 @@ record_failed g sc fields at b st read new more fault.NoMemory h = tt
 
 -- ---- phrases
 
-pub as_phrase : (g : Graph) (sc : Scope) (p q : PatPhrase) (b : Bound) (st : Progress) (t : Table) (rows : Rows OwnVariable)
+pub as_phrase : (g : Graph) (sc : Scope) (p q : PatPhrase) (b : Bound) (st : Progress) (t : Table) (rows : Rows
+    OwnVariable)
     (r : Result TyId Fault) → p ≡ q → InferredPat (infer_pat depth sc q b st) r t rows g
     → InferredPat (infer_pat depth sc p b st) r t rows g
 as_phrase g sc p q b st t rows r e h = subst (λ z. InferredPat (infer_pat depth sc z b st) r t rows g) (sym e) h

@@ -4,3 +4,4 @@ pub mod Forms
 pub mod Scoping
 pub mod Joins
 pub mod Fields
+pub mod Done

@@ -7,7 +7,6 @@ use Rattle.type_nodes.specs.Tables.{Table, Has, type_of}
 use Rattle.sml_modules.specs.Items.{map_rows}
 use Rattle.sml_modules.specs.Graphs.{Graph}
 use Rattle.name_trails.specs.Trails.{Rows}
-use Rattle.static_semantics.specs.Inferring.{Scope}
 use Rattle.core_scopes.specs.Scopes.{Bindings, seen, written_of}
 use Rattle.type_phrases.specs.Inferred.{KeepsTypes, HaveRows, IsScopeOver, scope_in}
 use Rattle.pattern_elab.specs.declared.own.OwnVariable.{OwnVariable}

@@ -1,5 +1,5 @@
 -- Single steps: unification at a place, the check of sizes.
-use Rattle.std.proofs.Common.{◌≡◌, ℕ, ◌+◌, ◌<◌, ◌≤◌, List, [], ◌∷◌, length, refl, sym, ap, ◌∙◌, subst, arith, Option, Some, None, Bool, true, false}
+use Rattle.std.proofs.Common.{◌≡◌, ℕ, ◌+◌, ◌<◌, ◌≤◌, List, [], length, refl, sym, ap, ◌∙◌, subst, arith, Option, Some, None, true, false}
 use Rattle.std.specs.Prelude.{Result, Ok, Err, IsErrAnd, ltb}
 use Rattle.std.proofs.lemmas.Bool.{lt-ltb, le-ltb}
 use Rattle.cm_base.specs.declared.fault.Fault.{Fault}
@@ -14,7 +14,7 @@ use Rattle.unification.specs.Unification.{unify_in, depth}
 use Rattle.unification.specs.Unification as unifying
 use Rattle.type_nodes.specs.Facts.{capped}
 use Rattle.type_nodes.specs.Nodes.{IsIdOf, type_in, made}
-use Rattle.type_nodes.specs.Tables.{Table, Has, state, whole, type_of}
+use Rattle.type_nodes.specs.Tables.{Table, state, whole, type_of}
 use Rattle.type_nodes.specs.Keeping.{IsKept}
 use Rattle.sml_modules.specs.Graphs.{Graph}
 use Rattle.sml_types.specs.Sides.{AreSides, IsSides}
@@ -86,7 +86,8 @@ sized_refused g at ty st r e h k =
 -- ---- values in scope
 
 arrow_of : (body : Tree) (base : ℕ)
-    → arrow_in body (fill (λ i. Ty.Var (base + i)) Ty.Var body) ≡ arrow_parts (fill (λ i. Ty.Var (base + i)) Ty.Var body)
+    → arrow_in body (fill (λ i. Ty.Var (base + i)) Ty.Var body) ≡ arrow_parts (fill (λ i. Ty.Var (base + i)) Ty.Var
+    body)
 arrow_of (Tree.Bound i) base = refl
 arrow_of (Tree.Free n) base = refl
 arrow_of (Tree.Made c ts) base = refl

@@ -1,6 +1,6 @@
 -- What is in scope where a phrase of the core is elaborated, and the variables that a pattern binds.
 -- The Definition of Standard ML (Revised), sections 4.2 and 4.3.
-use Rattle.std.specs.Prelude.{◌<◌, List, [], ◌∷◌, length}
+use Rattle.std.specs.Prelude.{◌<◌, [], ◌∷◌, length}
 use Rattle.semantic_objects.specs.declared.name.TyId.{TyId}
 use Rattle.semantic_objects.specs.declared.name.TyId.TheVariants as id
 use Rattle.semantic_objects.specs.declared.entry.ValueEntry.{ValueEntry}

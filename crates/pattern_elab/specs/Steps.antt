@@ -1,5 +1,5 @@
 -- What single steps of elaboration answer, and what they leave.
-use Rattle.std.specs.Prelude.{◌≡◌, ℕ, List, [], length, take, Option, Some, None, Result, Ok, Err, IfOk, OnOk}
+use Rattle.std.specs.Prelude.{◌≡◌, [], length, take, Option, Some, None, Result, Ok, Err, IfOk, OnOk}
 use Rattle.cm_base.specs.declared.diag.Diag.{Diag}
 use Rattle.cm_base.specs.declared.fault.Fault.{Fault}
 use Rattle.cm_base.specs.declared.fault.Fault.TheVariants as fault
@@ -75,7 +75,8 @@ pub record BindsOn (old new : Table) (rows after : Rows OwnVariable) : Type 0 wh
 -- what a call answers for a pattern in a scope, and what it leaves
 pub record IsPat (g : Graph) (old : Table) (scope : Bindings OwnVariable) (phrase : PatPhrase) (new : Table)
     (before after : Rows OwnVariable) (result : Result TyId Fault) : Type 0 where
-  pub infers : InferredPat (infer_pat depth (scope_of g scope) phrase (bound_of before) (progress old g)) result new after g
+  pub infers : InferredPat (infer_pat depth (scope_of g scope) phrase (bound_of before) (progress old g)) result new
+      after g
   pub has : IfOk result (Has new)
   pub goes : BindsOn old new before after
 
@@ -89,7 +90,8 @@ pub record AreFields (g : Graph) (old : Table) (scope : Bindings OwnVariable) (f
   pub goes : BindsOn old new before after
 
 -- .. for one field behind others
-pub record IsField (g : Graph) (old : Table) (scope : Bindings OwnVariable) (label : Name) (phrase : PatPhrase) (new : Table)
+pub record IsField (g : Graph) (old : Table) (scope : Bindings OwnVariable) (label : Name) (phrase : PatPhrase) (new
+    : Table)
     (rows more : Rows TyId) (before after : Rows OwnVariable) (result : Result (Unit {0}) Fault) : Type 0 where
   pub infers : InferredFields (infer_field (scope_of g scope) label phrase (made_fields old rows) (bound_of before)
       (progress old g)) (λ u. more) result new after g

@@ -12,12 +12,7 @@ use std::alloc::Global;
 
 /// A type name of the initial basis without arguments.
 #[tactic(auto, using(type_phrases::proofs::Keeping::keeps_all, type_phrases::proofs::Keeping::keeps_extended))]
-fn basis_type(
-    alloc: Global,
-    t: &mut TypeTable,
-    number: u64,
-    eq: bool,
-) -> Result<TyId, NoMemory>
+fn basis_type(alloc: Global, t: &mut TypeTable, number: u64, eq: bool) -> Result<TyId, NoMemory>
     ensures made { IfOk result (λ id. type_of t.new id ≡ basis_ty number eq) }
     ensures state { IfOk result (λ id. state t.new ≡ state t.old) }
     ensures has { IfOk result (Has t.new) }

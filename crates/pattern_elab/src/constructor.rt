@@ -99,7 +99,7 @@ pub(crate) fn sides_of(
 ) -> Result<(TyId, TyId), Fault>
     ensures finds { FindsSides g.now at
         (inference.arrow_in (entry_of own_entry value.now).scheme.body
-            (schemes.instance (entry_of own_entry value.now).scheme (state t.old)).0) result t.new }
+        (schemes.instance (entry_of own_entry value.now).scheme (state t.old)).0) result t.new }
     ensures state { IfOk result (λ sides.
         state t.new ≡ (schemes.instance (entry_of own_entry value.now).scheme (state t.old)).1) }
     ensures first { IfOk result (λ sides. Has t.new sides.0) }

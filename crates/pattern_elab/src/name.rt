@@ -38,7 +38,8 @@ fn elab_con(
 ) -> Result<TyId, Fault>
     requires { IsScopeOf g.now scope.now }
     ensures infers { InferredPlain
-        (λ bound. inference.known_pat (scope_of g.now scope.now) long.now at bound (progress t.old g.now)) result t.new g.now }
+        (λ bound. inference.known_pat (scope_of g.now scope.now) long.now at bound (progress t.old g.now))
+        result t.new g.now }
     ensures has { IfOk result (Has t.new) }
     ensures ids { KeepsTypes t.old t.new }
 {
@@ -75,7 +76,7 @@ fn elab_lone(
 }
 
 /// A name: a variable, a constructor or an exception.
-#[tactic(auto, using(crate::proofs::Forms::name_alone, crate::proofs::Forms::name_long, crate::proofs::Binding::binds_only))]
+#[tactic(auto, using(crate::proofs::Forms::name_alone, crate::proofs::Binding::binds_only))]
 fn elab_name(
     alloc: Global,
     g: &EnvGraph,

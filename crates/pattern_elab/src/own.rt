@@ -2,8 +2,8 @@
 
 use core_scopes::Scope;
 
-/// A variable that a pattern of the unit binds and whose type isn't closed. Its type is a variable of the table of types,
-/// by its number there.
+/// A variable that a pattern of the unit binds and whose type isn't closed. Its type is a variable of the table of
+/// types, by its number there.
 #[derive(Clone, Copy, Debug, PartialEq, Eq)]
 pub struct OwnVariable {
     pub number: usize,

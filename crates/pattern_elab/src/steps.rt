@@ -48,13 +48,7 @@ pub fn unify_at(
 }
 
 /// Answers the type of a phrase, or 38 at it where it has more than 65,536 nodes by now.
-pub fn sized(
-    alloc: Global,
-    g: &EnvGraph,
-    t: &TypeTable,
-    at: At,
-    id: TyId,
-) -> Result<TyId, Fault>
+pub fn sized(alloc: Global, g: &EnvGraph, t: &TypeTable, at: At, id: TyId) -> Result<TyId, Fault>
     requires { Has t.now id }
     ensures answer { Answers
         (inferring.sized (home_scope g.now) at (type_of t.now id) (progress t.now g.now)) (λ (same : TyId). tt) result }

@@ -54,6 +54,7 @@ pub(crate) fn type_variable(
     ensures infers { Answers (inference.typed_variable depth (scope_of g.now scope.now) at (type_of t.old variable)
         (option_map ty_phrase ty.now) (progress t.old g.now)) (λ u. progress t.new g.now) result }
     ensures ids { KeepsTypes t.old t.new }
+    ensures core { IsCoreScope g.now t.new scope.now }
 {
     match ty {
         None => Ok(()),

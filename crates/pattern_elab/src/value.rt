@@ -72,10 +72,7 @@ pub fn known_value(
 
 /// An instance of a value's scheme. A value of the unit whose variable the table doesn't have is refused as want of
 /// memory is.
-pub fn instance(
-    t: &mut TypeTable,
-    value: &ValueInScope<OwnVariable>,
-) -> Result<TyId, NoMemory>
+pub fn instance(t: &mut TypeTable, value: &ValueInScope<OwnVariable>) -> Result<TyId, NoMemory>
     ensures made { IfOk result (λ id.
         type_of t.new id ≡ (schemes.instance (entry_of own_entry value.now).scheme (state t.old)).0) }
     ensures state { IfOk result (λ id.
@@ -87,11 +84,7 @@ pub fn instance(
         ValueInScope::Entry(entry) => Ok(t.instantiate(&entry.scheme)?),
         ValueInScope::Own(own) => {
             let id = TyId::Variable(own.number);
-            if t.has(id) {
-                Ok(id)
-            } else {
-                Err(NoMemory)
-            }
+            if t.has(id) { Ok(id) } else { Err(NoMemory) }
         }
     }
 }

@@ -72,8 +72,8 @@ fn bind_fresh(
     }
 }
 
-/// A variable of a pattern after those bound before: 34 at a place for a name that isn't bound, 40 there for one that is
-/// bound already.
+/// A variable of a pattern after those bound before: 34 at a place for a name that no pattern binds, 40 there for one
+/// that is bound already.
 pub fn bind_variable(
     alloc: Global,
     g: &EnvGraph,
@@ -106,8 +106,9 @@ pub(crate) fn check_variable(
     name: &Text,
 ) -> Result<(), Fault>
     requires { IsScopeOf g.now scope.now }
-    ensures { Answers (refuses_where (inferring.stands_for_con (entry name.now (values (scope_of g.now scope.now).env))) 34
-        (home_scope g.now) at) (λ u. tt) result }
+    ensures { Answers (refuses_where
+        (inferring.stands_for_con (entry name.now (values (scope_of g.now scope.now).env))) 34 (home_scope g.now) at)
+        (λ u. tt) result }
 {
     if stands_for_con(g, scope, name)? {
         return Err(refuse(alloc, g, 34, at));

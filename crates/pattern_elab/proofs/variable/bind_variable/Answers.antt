@@ -7,7 +7,8 @@ use Rattle.pattern_elab.proofs.variable.bind_variable.Goals as goal
 
 pub returns-then-is_bound-clause-infers : goal.returns-then-is_bound-clause-infers
 returns-then-is_bound-clause-infers c =
-    variable_taken c.args.g.now c.args.at c.args.name.now (bound_of c.args.bound.now) (progress c.args.t.now c.args.g.now)
+    variable_taken c.args.g.now c.args.at c.args.name.now (bound_of c.args.bound.now) (progress c.args.t.now
+    c.args.g.now)
     c.args.t.now c.args.bound.now c.refuse-then-is_bound.result
     (sym c.is_reserved.ensures ∙ c.if-is_reserved.false) (sym c.is_bound.ensures ∙ c.if-is_bound.true)
     c.refuse-then-is_bound.ensures
