@@ -120,7 +120,8 @@ fn elab_as(
 ) -> Result<TyId, Fault>
     requires { IsCoreScope g.now t.old scope.now }
     ensures { IsPat g.now t.old scope.now
-        (PatPhrase.As name.now (option_map ty_phrase ty.now) (pat_phrase inner.now) at) t.new bound.old bound.new result }
+        (PatPhrase.As name.now (option_map ty_phrase ty.now) (pat_phrase inner.now) at)
+        t.new bound.old bound.new result }
 {
     check_variable(alloc, g, scope, at, &name.text)?;
     let variable = bind_variable(alloc, g, t, place_of(name), &name.text, bound)?;

@@ -296,7 +296,8 @@ elab_as-returns-in_err-id t c =
       free = c.in_ok-check_variable.ensures;
       binds = (subst (λ at. InferredPat (bind_variable (home_scope c.args.g.now) at c.args.name.now.text (bound_of
           c.args.bound.now) (progress c.args.t.now c.args.g.now)) (Ok c.in_ok-variable.variable)
-          c.bind_variable.new.t c.bind_variable.new.bound c.args.g.now) c.place_of.ensures c.in_ok-variable.ensures.infers);
+          c.bind_variable.new.t c.bind_variable.new.bound c.args.g.now) c.place_of.ensures
+          c.in_ok-variable.ensures.infers);
       there = c.in_ok-variable.ensures.has;
       goes = c.in_ok-variable.ensures.goes;
       typed = c.in_ok-type_variable.ensures.infers;
@@ -317,7 +318,8 @@ elab_as-returns-in_err-unify_at t c =
       free = c.in_ok-check_variable.ensures;
       binds = (subst (λ at. InferredPat (bind_variable (home_scope c.args.g.now) at c.args.name.now.text (bound_of
           c.args.bound.now) (progress c.args.t.now c.args.g.now)) (Ok c.in_ok-variable.variable)
-          c.bind_variable.new.t c.bind_variable.new.bound c.args.g.now) c.place_of.ensures c.in_ok-variable.ensures.infers);
+          c.bind_variable.new.t c.bind_variable.new.bound c.args.g.now) c.place_of.ensures
+          c.in_ok-variable.ensures.infers);
       there = c.in_ok-variable.ensures.has;
       goes = c.in_ok-variable.ensures.goes;
       typed = c.in_ok-type_variable.ensures.infers;
@@ -334,7 +336,8 @@ elab_as-returns t c =
       free = c.in_ok-check_variable.ensures;
       binds = (subst (λ at. InferredPat (bind_variable (home_scope c.args.g.now) at c.args.name.now.text (bound_of
           c.args.bound.now) (progress c.args.t.now c.args.g.now)) (Ok c.in_ok-variable.variable)
-          c.bind_variable.new.t c.bind_variable.new.bound c.args.g.now) c.place_of.ensures c.in_ok-variable.ensures.infers);
+          c.bind_variable.new.t c.bind_variable.new.bound c.args.g.now) c.place_of.ensures
+          c.in_ok-variable.ensures.infers);
       there = c.in_ok-variable.ensures.has;
       goes = c.in_ok-variable.ensures.goes;
       typed = c.in_ok-type_variable.ensures.infers;
