@@ -215,8 +215,10 @@ no_rules_derived sc from to st = record {
 }
 
 pub no_match_derived : (sc : Scope) (st : Progress) → IsReady Any sc st
-    → MatchDerived sc Rules.EndOfRules st (arrow_ty (new_variable st).0 (new_variable (new_variable st).1).0,
-    (new_variable (new_variable st).1).1)
+    → MatchDerived sc Rules.EndOfRules st (
+      arrow_ty (new_variable st).0 (new_variable (new_variable st).1).0,
+      (new_variable (new_variable st).1).1,
+    )
 no_match_derived sc st h =
     let first : Progress = (new_variable st).1 in
     let g : Grows Any st first = grows_variable Any false false st h.fit h.new in
