@@ -1,11 +1,10 @@
 -- Patterns have derivations.
-use Rattle.std.proofs.Common.{◌≡◌, ℕ, List, [], ◌∷◌, ◌++◌, map, refl, sym, ap, ap₂, ◌∙◌, subst, Option, Some, None, Bool, true, false, ◌&&◌, not, cond}
+use Rattle.std.proofs.Common.{◌≡◌, ℕ, List, [], ◌∷◌, ◌++◌, refl, sym, ap, ◌∙◌, subst, Option, Some, None, Bool, true, false, not, cond}
 use Rattle.std.specs.Option.{is_some}
 use Rattle.sml_trees.specs.declared.name.At.{At}
 use Rattle.sml_trees.specs.declared.name.Name.{Name}
 use Rattle.sml_trees.specs.declared.name.LongName.{LongName}
 use Rattle.semantic_objects.specs.declared.entry.ValueEntry.{ValueEntry}
-use Rattle.semantic_objects.specs.declared.symbol.Symbol.{Symbol}
 use Rattle.semantic_objects.specs.declared.symbol.Symbol.TheVariants as symbol
 use Rattle.semantic_objects.specs.Symbols.{same_text}
 use Rattle.semantic_objects.specs.Tables.{Table, entry, with_entry}
@@ -16,7 +15,6 @@ use Rattle.unification.specs.Types.{Ty, Types, Substitution, State, put}
 use Rattle.unification.specs.Unification.{Solves}
 use Rattle.unification.specs.Instances.{IsInstance}
 use Rattle.unification.specs.Closing.{put_tree}
-use Rattle.unification.specs.Fitting.{IsFit}
 use Rattle.unification.proofs.Walking.{either_way, and_left, and_right, and_both}
 use Rattle.bare_phrases.specs.Phrases.{TyPhrase, PatPhrase, PatFields}
 use Rattle.static_semantics.specs.BasicTypes.{int_ty, string_ty, char_ty, arrow_ty, record_ty, arrow_parts, reserved_names, is_one_of}
@@ -29,8 +27,8 @@ use Rattle.static_semantics.specs.Elaborates.{ElaboratesTy, ElaboratesTyIfAny, E
 use Rattle.static_semantics.specs.Holding.{Given, IfSome, AllRows}
 use Rattle.static_semantics.specs.Growing.{TyIn, Grows, IsReady}
 use Rattle.static_semantics.proofs.Holding.{given_then, given_where, given_known, rows_with, rows_after}
-use Rattle.static_semantics.proofs.Growing.{grows_same, grows_then, rows_later, ready_later, grows_variable, ty_new, grows_instance, unify_grows}
-use Rattle.static_semantics.proofs.TypesGrow.{given_more, ty_grows}
+use Rattle.static_semantics.proofs.Growing.{grows_same, grows_then, rows_later, ready_later, grows_variable, ty_new, grows_instance}
+use Rattle.static_semantics.proofs.TypesGrow.{given_more}
 use Rattle.static_semantics.proofs.PatternsGrow.{PatIn, pat_grows}
 use Rattle.inference_laws.specs.Alike.{is_variable_tree, FirmType, FirmValue, AnyName, FirmEnv}
 use Rattle.inference_laws.specs.Promises.{Any}

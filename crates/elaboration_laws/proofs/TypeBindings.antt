@@ -1,18 +1,17 @@
 -- `type` has derivations.
-use Rattle.std.proofs.Common.{◌≡◌, ℕ, ◌+◌, ◌<◌, ◌≤◌, List, [], ◌∷◌, ◌++◌, map, length, refl, sym, ap, ap₂, ◌∙◌, subst, arith, Option, Some, None, Bool, true, false, ◌||◌, ◌&&◌, not}
-use Rattle.std.proofs.lemmas.Bool.{eq-eqb, eqb-true}
+use Rattle.std.proofs.Common.{◌≡◌, ℕ, ◌+◌, ◌<◌, List, [], ◌∷◌, ◌++◌, map, refl, sym, ap, ◌∙◌, subst, arith, Option, Some, None, Bool, true, false, ◌||◌, not}
+use Rattle.std.proofs.lemmas.Bool.{eqb-true}
 use Rattle.std.specs.Prelude.{eqb}
-use Rattle.std.specs.Option.{option_map, is_some}
+use Rattle.std.specs.Option.{option_map}
 use Rattle.sml_trees.specs.declared.name.Name.{Name}
 use Rattle.semantic_objects.specs.declared.entry.TypeStr.{TypeStr}
 use Rattle.semantic_objects.specs.Tables.{entry}
 use Rattle.semantic_objects.specs.Environments.{Env, types, with_type}
-use Rattle.unification.specs.Types.{Ty, Substitution, State, put}
+use Rattle.unification.specs.Types.{Ty, Substitution, put}
 use Rattle.unification.specs.Closing.{is_among, closed_over}
 use Rattle.unification.specs.Touching.{IsWithin}
 use Rattle.unification.proofs.Walking.{either_way, and_left, and_right, and_both, or_left, or_right, or_false_left, or_false_right}
 use Rattle.unification.proofs.Putting.{put_free}
-use Rattle.unification.specs.Unification.{Solves}
 use Rattle.unification.specs.Fitting.{IsFit}
 use Rattle.bare_phrases.specs.Phrases.{TypPhrase}
 use Rattle.static_semantics.specs.Inferring.{Progress, Scope, with_written_alone, name_at, found_at, named, is_named}

@@ -1,8 +1,8 @@
 -- Types have derivations, whatever is put in for variables.
-use Rattle.std.proofs.Common.{◌≡◌, ℕ, zero, suc, List, [], ◌∷◌, map, length, get_or, refl, sym, ap, ◌∙◌, subst, Option, Some, None, Bool, true, false, not}
+use Rattle.std.proofs.Common.{◌≡◌, ℕ, zero, suc, List, [], ◌∷◌, map, length, get_or, refl, sym, ◌∙◌, subst, Option, Some, None, Bool, true, false, not}
 use Rattle.std.proofs.lemmas.Bool.{eqb-true}
 use Rattle.std.proofs.lemmas.List.{length-map}
-use Rattle.std.specs.Prelude.{eqb, Ok, Err}
+use Rattle.std.specs.Prelude.{eqb}
 use Rattle.std.specs.Option.{option_map, is_some}
 use Rattle.sml_trees.specs.declared.name.At.{At}
 use Rattle.sml_trees.specs.declared.name.Name.{Name}
@@ -11,11 +11,10 @@ use Rattle.semantic_objects.specs.declared.entry.TypeStr.{TypeStr}
 use Rattle.semantic_objects.specs.Tables.{Table, entry, with_entry}
 use Rattle.semantic_objects.specs.Environments.{types}
 use Rattle.unification.specs.Types.{Ty, Substitution, put}
-use Rattle.unification.specs.Instances.{fill}
 use Rattle.unification.proofs.Filling.{put_fill, fill_put, fill_same_on}
 use Rattle.bare_phrases.specs.Phrases.{TyPhrase, TyFields, TyPhrases}
-use Rattle.static_semantics.specs.BasicTypes.{unit_ty, record_ty, arrow_ty}
-use Rattle.static_semantics.specs.Inferring.{Scope, Answer, ◌>>=◌, gives, refuses_where, name_at, known, found_at, named}
+use Rattle.static_semantics.specs.BasicTypes.{unit_ty, record_ty}
+use Rattle.static_semantics.specs.Inferring.{Scope, Answer, ◌>>=◌, refuses_where, name_at, known, found_at, named}
 use Rattle.static_semantics.specs.TypeInference.{applied_to, infer_ty, infer_ty_fields, infer_tys}
 use Rattle.static_semantics.specs.EnvironmentsPut.{put_type, put_rows, put_scope}
 use Rattle.static_semantics.specs.Elaborates.{ElaboratesTy, ElaboratesTyFields, ElaboratesTys}

@@ -28,7 +28,7 @@ pub record PatternsHaveDerivations : Type 0 where
       → IsReady Any sc st → AllRows (TyIn Any st.types) bound
       → Given (PatDerived sc pat bound st) (infer_pat depth sc pat bound st)
 
--- for each choice that solves the state after an expression, a match or a declaration in which no `val`, `type` or
+-- for each choice that solves the state after an expression, a match or a declaration in which no `val` and no
 -- `datatype` stands, the rules give it, in the scope under the choice, what inference gives under the choice, from the
 -- number of type names at the start to the one at the end
 pub record ExpressionsHaveDerivations : Type 0 where
