@@ -71,8 +71,8 @@ pub not_true : (b : Bool) → not b ≡ true → b ≡ false
 not_true true h = absurd (cc)
 not_true false h = refl
 
-pub distinct_more : {A : Type 0} (name : List ℕ) (x : A) (rows : List (List ℕ × A)) → is_named name rows ≡ false → are_distinct rows ≡ true
-    → are_distinct (rows ++ (name, x) ∷ []) ≡ true
+pub distinct_more : {A : Type 0} (name : List ℕ) (x : A) (rows : List (List ℕ × A)) → is_named name rows ≡ false
+    → are_distinct rows ≡ true → are_distinct (rows ++ (name, x) ∷ []) ≡ true
 distinct_more name x [] h k = refl
 distinct_more name x (row ∷ rows) h k =
     let e : (same_text name row.0 ≡ false) × (is_named name rows ≡ false) =

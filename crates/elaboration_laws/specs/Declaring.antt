@@ -1,5 +1,5 @@
--- What holds of every declaration in a phrase, those inside others included. Of a sequence, of `local` and of a structure
--- declaration nothing is asked but of the declarations in it.
+-- What holds of every declaration in a phrase, those inside others included. Of a sequence and of `local` nothing is
+-- asked but of the declarations in them, and nothing of a structure declaration.
 use Rattle.bare_phrases.specs.Phrases.{ExpPhrase, ExpFields, Rules, DecPhrase, DecPhrases}
 
 abbrev mutual
