@@ -6,4 +6,5 @@ pub mod Expressions
 pub mod Declarations
 pub mod TypeBindings
 pub mod Core
+pub mod Reopening
 pub mod Promised

@@ -1,7 +1,7 @@
 //! The laws, so that crates above have them from a call.
 
 ghost use Rattle.elaboration_laws.specs.Promises.{TypesHaveDerivations, PatternsHaveDerivations};
-ghost use Rattle.elaboration_laws.specs.Promises.{ExpressionsHaveDerivations};
+ghost use Rattle.elaboration_laws.specs.Promises.{ExpressionsHaveDerivations, ClosedVariablesReopen};
 
 /// The rules give each type that inference gives, whatever is put in for variables.
 #[tactic(auto, using(crate::proofs::Promised::types_have_derivations))]
@@ -20,4 +20,10 @@ pub fn patterns_have_derivations()
 #[tactic(auto, using(crate::proofs::Promised::expressions_have_derivations))]
 pub fn expressions_have_derivations()
     ensures { ExpressionsHaveDerivations }
+{}
+
+/// Types that a `val` closed are open inside, where a choice puts other variables for the closed ones.
+#[tactic(auto, using(crate::proofs::Promised::closed_variables_reopen))]
+pub fn closed_variables_reopen()
+    ensures { ClosedVariablesReopen }
 {}
