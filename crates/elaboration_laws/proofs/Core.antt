@@ -1,26 +1,23 @@
--- Expressions, matches and declarations without `val`, `type` and `datatype` have derivations.
-use Rattle.std.proofs.Common.{◌≡◌, ℕ, List, [], ◌∷◌, refl, sym, ap, ◌∙◌, subst, Bool, false}
+-- Expressions, matches and declarations without `val` and `datatype` have derivations.
+use Rattle.std.proofs.Common.{ℕ, List, [], ◌∷◌, sym, subst}
 use Rattle.sml_trees.specs.declared.name.At.{At}
-use Rattle.semantic_objects.specs.Tables.{Table, entry, with_entry}
+use Rattle.semantic_objects.specs.Tables.{Table, with_entry}
 use Rattle.semantic_objects.specs.Environments.{Env, empty_env, modified_by}
-use Rattle.semantic_objects.specs.declared.entry.TypeStr.{TypeStr}
-use Rattle.unification.specs.Types.{Ty, Substitution, State, put}
-use Rattle.unification.specs.Unification.{Solves}
-use Rattle.bare_phrases.specs.Phrases.{ExpPhrase, ExpFields, Rules, DecPhrase, DecPhrases}
-use Rattle.static_semantics.specs.BasicTypes.{int_ty, string_ty, char_ty, arrow_ty, record_ty}
-use Rattle.static_semantics.specs.Inferring.{Progress, Scope, under, gives, name_at, unify_at, Bound, with_bound, under_bound, variable_entry}
-use Rattle.static_semantics.specs.TypeInference.{infer_ty}
+use Rattle.unification.specs.Types.{Ty, Substitution}
+use Rattle.bare_phrases.specs.Phrases.{TypPhrase, ExpPhrase, ExpFields, Rules, DecPhrase, DecPhrases}
+use Rattle.static_semantics.specs.BasicTypes.{int_ty, string_ty, char_ty, record_ty}
+use Rattle.static_semantics.specs.Inferring.{Progress, Scope, under, name_at, unify_at, Bound, with_bound, under_bound, variable_entry}
+use Rattle.static_semantics.specs.TypeInference.{infer_ty, infer_types}
 use Rattle.static_semantics.specs.PatternInference.{pat_at, infer_pat}
 use Rattle.static_semantics.specs.DatatypeInference.{infer_replication, exceptions_of}
 use Rattle.static_semantics.specs.CoreInference.{exp_at, known_exp, applied, joined, handled, raised, within_let, infer_open, infer_exp, infer_exp_fields, infer_match, infer_rules, infer_dec, infer_decs}
 use Rattle.static_semantics.specs.EnvironmentsPut.{put_env, put_scope}
 use Rattle.static_semantics.specs.Elaborates.{ElaboratesExp, ElaboratesDec, ElaboratesDecs}
-use Rattle.static_semantics.specs.Holding.{Given, AllRows}
-use Rattle.static_semantics.specs.Growing.{TyIn, EnvIn, Grows, IsReady}
-use Rattle.static_semantics.proofs.Holding.{given_then, rows_with}
+use Rattle.static_semantics.specs.Holding.{Given}
+use Rattle.static_semantics.specs.Growing.{TyIn, Grows, IsReady}
+use Rattle.static_semantics.proofs.Holding.{given_then}
 use Rattle.static_semantics.proofs.Growing.{grows_then, ty_later, rows_later, ready_later}
 use Rattle.static_semantics.proofs.TypesGrow.{MadeIn, given_more}
-use Rattle.static_semantics.proofs.PatternsGrow.{PatIn}
 use Rattle.static_semantics.proofs.DatatypesGrow.{ready_under}
 use Rattle.static_semantics.proofs.CoreGrow.{ExpIn, ready_bound, exp_grows, match_grows, dec_grows}
 use Rattle.inference_laws.specs.Alike.{FirmType, FirmValue, AnyName, FirmEnv}
@@ -28,13 +25,14 @@ use Rattle.inference_laws.specs.Promises.{Any}
 use Rattle.inference_laws.proofs.EnvsWith.{env_with_value, env_modified}
 use Rattle.inference_laws.proofs.Firm.{dec_firm}
 use Rattle.inference_laws.proofs.Making.{given_both}
-use Rattle.elaboration_laws.specs.Derived.{SolvesBefore, PatDerived, ExpDerived, ExpFieldsDerived, RulesDerived, MatchDerived, DecDerived, DecsDerived}
+use Rattle.elaboration_laws.specs.Derived.{ExpDerived, ExpFieldsDerived, RulesDerived, MatchDerived, DecDerived, DecsDerived}
 use Rattle.elaboration_laws.specs.Declaring.{IsPlain, ExpHas, ExpFieldsHave, RulesHave, DecHas, DecsHave}
 use Rattle.elaboration_laws.proofs.Finding.{under_put, modified_put}
 use Rattle.elaboration_laws.proofs.Types.{given_new, TyDerived, ty_derives}
 use Rattle.elaboration_laws.proofs.Steps.{given_each, Joined, unify_known}
 use Rattle.elaboration_laws.proofs.Patterns.{PatKnown, pat_known}
 use Rattle.elaboration_laws.proofs.Expressions.{exp_sized, constant_derived, long_derived, record_derived, no_fields_derived, field_derived, let_derived, within_derived, app_derived, typed_derived, handle_derived, raise_derived, fn_derived, no_rules_derived, no_match_derived, match_derived, rule_derived}
+use Rattle.elaboration_laws.proofs.TypeBindings.{TypesDerived, types_derive}
 use Rattle.elaboration_laws.proofs.Declarations.{dec_sized, stateless_derived, replication_derives, ExceptionsDerived, exceptions_derive, OpenDerived, open_derives}
 
 -- ---- with what is known of how states grow
@@ -74,6 +72,19 @@ firm_bound (row ∷ rows) env h = firm_bound rows _ (env_with_value AnyName Firm
 
 firm_under : (made : Env) (sc : Scope) → FirmEnv sc.env → FirmEnv made → FirmEnv (under made sc).env
 firm_under made sc h k = env_modified AnyName FirmType FirmValue sc.env made h k
+
+-- ---- `type`
+
+types_derived : (sc : Scope) (binds : List TypPhrase) (at : At) (st : Progress) (r : Env × Progress)
+    → TypesDerived sc binds empty_env st r → DecDerived sc (DecPhrase.Types binds at) st r
+types_derived sc binds at st r h = record {
+  solved = h.solved;
+  derives = λ p q. subst
+      (ElaboratesDec p.marks (put_scope p.stands sc) st.names (DecPhrase.Types binds at) (put_env p.stands r.0))
+      (sym h.made)
+      (ElaboratesDec.rule_16 p.marks (put_scope p.stands sc) st.names binds at (put_env p.stands r.0)
+      (h.derives p.stands));
+}
 
 -- ---- declarations one after another
 
@@ -247,7 +258,11 @@ mutual
   pub dec_derives : (depth : ℕ) (sc : Scope) (dec : DecPhrase) (st : Progress) → DecHas IsPlain dec → FirmEnv sc.env
       → IsReady Any sc st → Given (DecDerived sc dec st) (infer_dec depth sc dec st)
   dec_derives depth sc (DecPhrase.Val tyvars rules recs at) st has firm h = absurd has.0
-  dec_derives depth sc (DecPhrase.Types binds at) st has firm h = absurd has
+  dec_derives depth sc (DecPhrase.Types binds at) st has firm h =
+      let dec : DecPhrase = DecPhrase.Types binds at in
+      given_then (TypesDerived sc binds empty_env st) (DecDerived sc dec st) (infer_types sc binds empty_env st) _
+      (types_derive sc binds empty_env st firm h.fit)
+      (λ r k. dec_sized sc dec st at r (types_derived sc binds at st r k))
   dec_derives depth sc (DecPhrase.Datatypes binds at) st has firm h = absurd has
   dec_derives depth sc (DecPhrase.Replication name long at) st has firm h =
       let dec : DecPhrase = DecPhrase.Replication name long at in

@@ -1,6 +1,5 @@
 -- Replication, exceptions and `open` have derivations.
-use Rattle.std.proofs.Common.{◌≡◌, ℕ, List, [], ◌∷◌, map, refl, sym, ap, ◌∙◌, subst, Option, Some, None, Bool, false, not}
-use Rattle.std.specs.Option.{is_some}
+use Rattle.std.proofs.Common.{◌≡◌, ℕ, List, [], ◌∷◌, map, refl, sym, ap, ◌∙◌, subst, Some, None, false, not}
 use Rattle.sml_trees.specs.declared.name.At.{At}
 use Rattle.sml_trees.specs.declared.name.Name.{Name}
 use Rattle.sml_trees.specs.declared.name.LongName.{LongName}
@@ -8,7 +7,7 @@ use Rattle.semantic_objects.specs.declared.entry.ConEntry.{ConEntry}
 use Rattle.semantic_objects.specs.declared.entry.TypeStr.{TypeStr}
 use Rattle.semantic_objects.specs.declared.entry.ValueEntry.{ValueEntry}
 use Rattle.semantic_objects.specs.declared.entry.VidStatus.TheVariants as status
-use Rattle.semantic_objects.specs.Tables.{Table, entry}
+use Rattle.semantic_objects.specs.Tables.{entry}
 use Rattle.semantic_objects.specs.Environments.{Env, structures, types, values, empty_env, modified_by, with_type, with_value}
 use Rattle.unification.specs.Types.{Ty, Substitution, State, put}
 use Rattle.bare_phrases.specs.Phrases.{TyPhrase, ExBodyPhrase, ExPhrase, DecPhrase}

@@ -1,12 +1,11 @@
 -- Steps of expressions and matches have derivations.
-use Rattle.std.proofs.Common.{◌≡◌, ℕ, ℤ, List, [], ◌∷◌, refl, sym, ap, ap₂, ◌∙◌, subst, Option, Some, None, true, false}
+use Rattle.std.proofs.Common.{◌≡◌, ℕ, [], refl, sym, ap, ◌∙◌, subst, None, true, false}
 use Rattle.sml_trees.specs.declared.name.At.{At}
 use Rattle.sml_trees.specs.declared.name.Name.{Name}
 use Rattle.sml_trees.specs.declared.name.LongName.{LongName}
-use Rattle.semantic_objects.specs.declared.entry.ValueEntry.{ValueEntry}
 use Rattle.semantic_objects.specs.Tables.{Table, entry, with_entry}
 use Rattle.semantic_objects.specs.Environments.{Env, values}
-use Rattle.unification.specs.Types.{Ty, Types, Substitution, State, put}
+use Rattle.unification.specs.Types.{Ty, Substitution, State, put}
 use Rattle.unification.specs.Unification.{Solves}
 use Rattle.bare_phrases.specs.Phrases.{TyPhrase, PatPhrase, ExpPhrase, ExpFields, Rules, DecPhrase}
 use Rattle.static_semantics.specs.BasicTypes.{exn_ty, arrow_ty, record_ty}
@@ -19,7 +18,6 @@ use Rattle.static_semantics.specs.Holding.{Given}
 use Rattle.static_semantics.specs.Growing.{TyIn, Grows, IsReady}
 use Rattle.static_semantics.proofs.Holding.{given_then, given_where}
 use Rattle.static_semantics.proofs.Growing.{grows_variable, ty_constant}
-use Rattle.static_semantics.proofs.TypesGrow.{given_more}
 use Rattle.inference_laws.specs.Alike.{FirmEnv}
 use Rattle.inference_laws.specs.Promises.{Any}
 use Rattle.elaboration_laws.specs.Derived.{SolvesBefore, PatDerived, ExpDerived, ExpFieldsDerived, RulesDerived, MatchDerived, DecDerived}
@@ -215,8 +213,10 @@ no_rules_derived sc from to st = record {
 }
 
 pub no_match_derived : (sc : Scope) (st : Progress) → IsReady Any sc st
-    → MatchDerived sc Rules.EndOfRules st (arrow_ty (new_variable st).0 (new_variable (new_variable st).1).0,
-    (new_variable (new_variable st).1).1)
+    → MatchDerived sc Rules.EndOfRules st (
+      arrow_ty (new_variable st).0 (new_variable (new_variable st).1).0,
+      (new_variable (new_variable st).1).1,
+    )
 no_match_derived sc st h =
     let first : Progress = (new_variable st).1 in
     let g : Grows Any st first = grows_variable Any false false st h.fit h.new in

@@ -12,10 +12,9 @@ use Rattle.semantic_objects.specs.Tables.{Table, by_bytes, names_of, entry, with
 use Rattle.semantic_objects.specs.Environments.{Env, Structures, table_of, structures_of, structures, types, values, with_type, with_value, modified_by}
 use Rattle.semantic_objects.specs.declared.symbol.Symbol.TheVariants as symbol
 use Rattle.unification.specs.Types.{Ty, Types, Substitution, put, put_all}
-use Rattle.unification.specs.Closing.{closed_over}
 use Rattle.static_semantics.specs.BasicTypes.{types_of, record_ty}
 use Rattle.static_semantics.specs.Inferring.{Scope, under, found_at, found_in_structure, named, is_named, stands_for_con, Bound, variable_entry, with_bound, under_bound}
-use Rattle.static_semantics.specs.EnvironmentsPut.{put_scheme, put_type, put_value, each_entry, put_env, put_structures, put_rows, put_scope}
+use Rattle.static_semantics.specs.EnvironmentsPut.{put_type, put_value, each_entry, put_env, put_structures, put_rows, put_scope}
 use Rattle.static_semantics.specs.RuleConditions.{are_distinct}
 use Rattle.inference_laws.specs.Alike.{in_env}
 use Rattle.inference_laws.proofs.SeenLater.{put_closed}

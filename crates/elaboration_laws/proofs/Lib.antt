@@ -4,5 +4,7 @@ pub mod Steps
 pub mod Patterns
 pub mod Expressions
 pub mod Declarations
+pub mod TypeBindings
 pub mod Core
+pub mod Reopening
 pub mod Promised

@@ -1,11 +1,10 @@
 -- Patterns have derivations.
-use Rattle.std.proofs.Common.{◌≡◌, ℕ, List, [], ◌∷◌, ◌++◌, map, refl, sym, ap, ap₂, ◌∙◌, subst, Option, Some, None, Bool, true, false, ◌&&◌, not, cond}
+use Rattle.std.proofs.Common.{◌≡◌, ℕ, List, [], ◌∷◌, ◌++◌, refl, sym, ap, ◌∙◌, subst, Option, Some, None, Bool, true, false, not, cond}
 use Rattle.std.specs.Option.{is_some}
 use Rattle.sml_trees.specs.declared.name.At.{At}
 use Rattle.sml_trees.specs.declared.name.Name.{Name}
 use Rattle.sml_trees.specs.declared.name.LongName.{LongName}
 use Rattle.semantic_objects.specs.declared.entry.ValueEntry.{ValueEntry}
-use Rattle.semantic_objects.specs.declared.symbol.Symbol.{Symbol}
 use Rattle.semantic_objects.specs.declared.symbol.Symbol.TheVariants as symbol
 use Rattle.semantic_objects.specs.Symbols.{same_text}
 use Rattle.semantic_objects.specs.Tables.{Table, entry, with_entry}
@@ -16,7 +15,6 @@ use Rattle.unification.specs.Types.{Ty, Types, Substitution, State, put}
 use Rattle.unification.specs.Unification.{Solves}
 use Rattle.unification.specs.Instances.{IsInstance}
 use Rattle.unification.specs.Closing.{put_tree}
-use Rattle.unification.specs.Fitting.{IsFit}
 use Rattle.unification.proofs.Walking.{either_way, and_left, and_right, and_both}
 use Rattle.bare_phrases.specs.Phrases.{TyPhrase, PatPhrase, PatFields}
 use Rattle.static_semantics.specs.BasicTypes.{int_ty, string_ty, char_ty, arrow_ty, record_ty, arrow_parts, reserved_names, is_one_of}
@@ -29,8 +27,8 @@ use Rattle.static_semantics.specs.Elaborates.{ElaboratesTy, ElaboratesTyIfAny, E
 use Rattle.static_semantics.specs.Holding.{Given, IfSome, AllRows}
 use Rattle.static_semantics.specs.Growing.{TyIn, Grows, IsReady}
 use Rattle.static_semantics.proofs.Holding.{given_then, given_where, given_known, rows_with, rows_after}
-use Rattle.static_semantics.proofs.Growing.{grows_same, grows_then, rows_later, ready_later, grows_variable, ty_new, grows_instance, unify_grows}
-use Rattle.static_semantics.proofs.TypesGrow.{given_more, ty_grows}
+use Rattle.static_semantics.proofs.Growing.{grows_same, grows_then, rows_later, ready_later, grows_variable, ty_new, grows_instance}
+use Rattle.static_semantics.proofs.TypesGrow.{given_more}
 use Rattle.static_semantics.proofs.PatternsGrow.{PatIn, pat_grows}
 use Rattle.inference_laws.specs.Alike.{is_variable_tree, FirmType, FirmValue, AnyName, FirmEnv}
 use Rattle.inference_laws.specs.Promises.{Any}
@@ -60,30 +58,30 @@ differ_back a b h = either_way (same_text b a)
     absurd (let f : true ≡ false = sym same ∙ h in cc))
     (λ e. e)
 
-still_absent : (text name : List ℕ) (ty : Ty) (rows : Bound) → is_named text rows ≡ false
-    → same_text text name ≡ false → is_named text (rows ++ (name, ty) ∷ []) ≡ false
-still_absent text name ty [] h k = named_neither (same_text text name) ty None k refl
-still_absent text name ty (row ∷ rows) h k =
+still_absent : {A : Type 0} (text name : List ℕ) (x : A) (rows : List (List ℕ × A)) → is_named text rows ≡ false
+    → same_text text name ≡ false → is_named text (rows ++ (name, x) ∷ []) ≡ false
+still_absent text name x [] h k = named_neither (same_text text name) x None k refl
+still_absent text name x (row ∷ rows) h k =
     let e : (same_text text row.0 ≡ false) × (is_named text rows ≡ false) =
     named_or (same_text text row.0) row.1 (named text rows) h in
-    named_neither (same_text text row.0) row.1 (named text (rows ++ (name, ty) ∷ [])) e.0
-    (still_absent text name ty rows e.1 k)
+    named_neither (same_text text row.0) row.1 (named text (rows ++ (name, x) ∷ [])) e.0
+    (still_absent text name x rows e.1 k)
 
-not_named : (b : Bool) → not b ≡ true → b ≡ false
-not_named true h = absurd (cc)
-not_named false h = refl
+pub not_true : (b : Bool) → not b ≡ true → b ≡ false
+not_true true h = absurd (cc)
+not_true false h = refl
 
-distinct_more : (name : List ℕ) (ty : Ty) (rows : Bound) → is_named name rows ≡ false → are_distinct rows ≡ true
-    → are_distinct (rows ++ (name, ty) ∷ []) ≡ true
-distinct_more name ty [] h k = refl
-distinct_more name ty (row ∷ rows) h k =
+pub distinct_more : {A : Type 0} (name : List ℕ) (x : A) (rows : List (List ℕ × A)) → is_named name rows ≡ false
+    → are_distinct rows ≡ true → are_distinct (rows ++ (name, x) ∷ []) ≡ true
+distinct_more name x [] h k = refl
+distinct_more name x (row ∷ rows) h k =
     let e : (same_text name row.0 ≡ false) × (is_named name rows ≡ false) =
     named_or (same_text name row.0) row.1 (named name rows) h in
-    and_both (not (is_named row.0 (rows ++ (name, ty) ∷ []))) (are_distinct (rows ++ (name, ty) ∷ []))
-    (ap not (still_absent row.0 name ty rows
-    (not_named (is_named row.0 rows) (and_left (not (is_named row.0 rows)) (are_distinct rows) k))
+    and_both (not (is_named row.0 (rows ++ (name, x) ∷ []))) (are_distinct (rows ++ (name, x) ∷ []))
+    (ap not (still_absent row.0 name x rows
+    (not_true (is_named row.0 rows) (and_left (not (is_named row.0 rows)) (are_distinct rows) k))
     (differ_back name row.0 e.0)))
-    (distinct_more name ty rows e.1 (and_right (not (is_named row.0 rows)) (are_distinct rows) k))
+    (distinct_more name x rows e.1 (and_right (not (is_named row.0 rows)) (are_distinct rows) k))
 
 -- ---- what is bound, step by step
 

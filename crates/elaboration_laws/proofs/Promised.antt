@@ -1,7 +1,8 @@
 -- The laws, as the public functions of this crate state them.
-use Rattle.elaboration_laws.specs.Promises.{TypesHaveDerivations, PatternsHaveDerivations, ExpressionsHaveDerivations}
+use Rattle.elaboration_laws.specs.Promises.{TypesHaveDerivations, PatternsHaveDerivations, ExpressionsHaveDerivations, ClosedVariablesReopen}
 use Rattle.elaboration_laws.proofs.Types.{ty_derives}
 use Rattle.elaboration_laws.proofs.Patterns.{pat_derives}
+use Rattle.elaboration_laws.proofs.Reopening.{reopened}
 use Rattle.elaboration_laws.proofs.Core.{exp_derives, match_derives, dec_derives}
 
 pub types_have_derivations : TypesHaveDerivations
@@ -12,3 +13,6 @@ patterns_have_derivations = record { pat = pat_derives }
 
 pub expressions_have_derivations : ExpressionsHaveDerivations
 expressions_have_derivations = record { exp = exp_derives; rules = match_derives; dec = dec_derives }
+
+pub closed_variables_reopen : ClosedVariablesReopen
+closed_variables_reopen = record { reopened = reopened }

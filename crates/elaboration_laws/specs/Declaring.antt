@@ -1,5 +1,5 @@
--- What holds of every declaration in a phrase, those inside others included. Of a sequence, of `local` and of a structure
--- declaration nothing is asked but of the declarations in it.
+-- What holds of every declaration in a phrase, those inside others included. Of a sequence and of `local` nothing is
+-- asked but of the declarations in them, and nothing of a structure declaration.
 use Rattle.bare_phrases.specs.Phrases.{ExpPhrase, ExpFields, Rules, DecPhrase, DecPhrases}
 
 abbrev mutual
@@ -40,10 +40,10 @@ abbrev mutual
   DecsHave P DecPhrases.EndOfDecs = Unit {0}
   DecsHave P (DecPhrases.Dec dec rest) = DecHas P dec × DecsHave P rest
 
--- a declaration that is no `val`, `type` or `datatype`
+-- a declaration that is no `val` and no `datatype`
 abbrev pub IsPlain : DecPhrase → Type 0
 IsPlain (DecPhrase.Val tyvars rules recs at) = ⊥
-IsPlain (DecPhrase.Types binds at) = ⊥
+IsPlain (DecPhrase.Types binds at) = Unit {0}
 IsPlain (DecPhrase.Datatypes binds at) = ⊥
 IsPlain (DecPhrase.Replication name long at) = Unit {0}
 IsPlain (DecPhrase.Exceptions binds at) = Unit {0}

@@ -1,3 +1,4 @@
 pub mod Derived
 pub mod Declaring
+pub mod Reopening
 pub mod Promises

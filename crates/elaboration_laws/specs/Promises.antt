@@ -1,6 +1,8 @@
 -- The laws, as the public functions of this crate state them.
-use Rattle.std.specs.Prelude.{ℕ}
-use Rattle.unification.specs.Types.{Substitution, put}
+use Rattle.std.specs.Prelude.{ℕ, Bool}
+use Rattle.unification.specs.Types.{Substitution, State, put}
+use Rattle.unification.specs.Unification.{Solves}
+use Rattle.unification.specs.Fitting.{IsFit}
 use Rattle.bare_phrases.specs.Phrases.{TyPhrase, PatPhrase, ExpPhrase, Rules, DecPhrase}
 use Rattle.static_semantics.specs.Inferring.{Progress, Scope, Bound}
 use Rattle.static_semantics.specs.TypeInference.{infer_ty}
@@ -13,6 +15,7 @@ use Rattle.static_semantics.specs.Growing.{TyIn, IsReady}
 use Rattle.inference_laws.specs.Alike.{FirmEnv}
 use Rattle.inference_laws.specs.Promises.{Any}
 use Rattle.elaboration_laws.specs.Derived.{PatDerived, ExpDerived, MatchDerived, DecDerived}
+use Rattle.elaboration_laws.specs.Reopening.{Reopened}
 use Rattle.elaboration_laws.specs.Declaring.{IsPlain, ExpHas, RulesHave, DecHas}
 
 -- whatever is put in for the variables of the table, in the scope and in the type that inference gives, the rules give
@@ -28,7 +31,7 @@ pub record PatternsHaveDerivations : Type 0 where
       → IsReady Any sc st → AllRows (TyIn Any st.types) bound
       → Given (PatDerived sc pat bound st) (infer_pat depth sc pat bound st)
 
--- for each choice that solves the state after an expression, a match or a declaration in which no `val`, `type` or
+-- for each choice that solves the state after an expression, a match or a declaration in which no `val` and no
 -- `datatype` stands, the rules give it, in the scope under the choice, what inference gives under the choice, from the
 -- number of type names at the start to the one at the end
 pub record ExpressionsHaveDerivations : Type 0 where
@@ -38,3 +41,9 @@ pub record ExpressionsHaveDerivations : Type 0 where
       → IsReady Any sc st → Given (MatchDerived sc rules st) (infer_match depth sc rules st)
   pub dec : (depth : ℕ) (sc : Scope) (dec : DecPhrase) (st : Progress) → DecHas IsPlain dec → FirmEnv sc.env
       → IsReady Any sc st → Given (DecDerived sc dec st) (infer_dec depth sc dec st)
+
+-- from a choice that solves the state in which types were closed, and any closed variables, there is a choice for what
+-- was inferred inside: it solves the state too, is the one around where no closed variable stands, and puts differing
+-- variables, which stand nowhere around, for the closed ones
+pub record ClosedVariablesReopen : Type 0 where
+  pub reopened : (closes : ℕ → Bool) (p u : State) → IsFit u → Solves p u → Reopened closes p u

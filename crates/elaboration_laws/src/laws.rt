@@ -1,7 +1,7 @@
 //! The laws, so that crates above have them from a call.
 
 ghost use Rattle.elaboration_laws.specs.Promises.{TypesHaveDerivations, PatternsHaveDerivations};
-ghost use Rattle.elaboration_laws.specs.Promises.{ExpressionsHaveDerivations};
+ghost use Rattle.elaboration_laws.specs.Promises.{ExpressionsHaveDerivations, ClosedVariablesReopen};
 
 /// The rules give each type that inference gives, whatever is put in for variables.
 #[tactic(auto, using(crate::proofs::Promised::types_have_derivations))]
@@ -15,9 +15,15 @@ pub fn patterns_have_derivations()
     ensures { PatternsHaveDerivations }
 {}
 
-/// The rules give what inference gives of each expression, match and declaration in which no `val`, `type` or
-/// `datatype` stands.
+/// The rules give what inference gives of each expression, match and declaration in which no `val` and no `datatype`
+/// stands.
 #[tactic(auto, using(crate::proofs::Promised::expressions_have_derivations))]
 pub fn expressions_have_derivations()
     ensures { ExpressionsHaveDerivations }
+{}
+
+/// Types that a `val` closed are open inside, where a choice puts other variables for the closed ones.
+#[tactic(auto, using(crate::proofs::Promised::closed_variables_reopen))]
+pub fn closed_variables_reopen()
+    ensures { ClosedVariablesReopen }
 {}

@@ -86,7 +86,7 @@ pub unit_within : (Q : ℕ → Type 0) → IsWithin Q unit_ty
 unit_within Q n e = absurd (cc)
 
 mutual
-  ty_within : (Q : ℕ → Type 0) (sc : Scope) (ty : TyPhrase) → FirmEnv sc.env → AllRows (IsWithin Q) sc.written
+  pub ty_within : (Q : ℕ → Type 0) (sc : Scope) (ty : TyPhrase) → FirmEnv sc.env → AllRows (IsWithin Q) sc.written
       → Given (IsWithin Q) (infer_ty sc ty)
   ty_within Q sc (TyPhrase.Var name at) h k = given_known (IsWithin Q) sc
       (let long : LongName = record { parts = name.text ∷ []; line = name.line; col = name.col } in long)
@@ -137,7 +137,7 @@ variable_firm true i m n h = refl
 variable_firm false i m n h = absurd (cc)
 
 mutual
-  closed_firm : (vs : List ℕ) (t : Ty) → IsWithin (Among vs) t → IsFirm (closed_over vs t)
+  pub closed_firm : (vs : List ℕ) (t : Ty) → IsWithin (Among vs) t → IsFirm (closed_over vs t)
   closed_firm vs (Ty.Var m) h n = variable_firm (is_among m vs) (place_of m vs) m n (h m (eq-eqb m m refl))
   closed_firm vs (Ty.Made c ts) h n = closed_firm_all vs ts h n
 

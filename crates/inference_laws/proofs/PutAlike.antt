@@ -84,7 +84,7 @@ cons_shaped : (cons : List ConEntry) → AllItems (λ (con : ConEntry). IsFirm c
 cons_shaped [] h = tt
 cons_shaped (con ∷ cons) h = (firm_shaped con.scheme.body h.0, cons_shaped cons h.1)
 
-firm_type : (s : Substitution) (str : TypeStr) → FirmType str → put_type s str ≡ str
+pub firm_type : (s : Substitution) (str : TypeStr) → FirmType str → put_type s str ≡ str
 firm_type s str h = ap₂ (λ x cons. (let made : TypeStr = record {
   function = record { arity = str.function.arity; body = x };
   cons = cons;
