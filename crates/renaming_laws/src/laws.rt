@@ -1,0 +1,9 @@
+//! The laws, so that crates above have them from a call.
+
+ghost use Rattle.renaming_laws.specs.Promises.{InferenceMoves};
+
+/// Which numbers the variables of a table have changes no inference.
+#[tactic(auto, using(crate::proofs::Promised::inference_moves))]
+pub fn inference_moves_with_its_variables()
+    ensures { InferenceMoves }
+{}
