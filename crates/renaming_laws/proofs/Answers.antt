@@ -57,8 +57,8 @@ pub known_moved : {A : Type 0} (k : ℕ) (move : A → A) (sc : Scope) (long : L
     → Both (Moves move) (known sc long o) (known (put_scope (moved k) sc) long p)
 known_moved k move sc long o p e =
     subst (λ z. Both (Moves move) (known sc long o) (known (put_scope (moved k) sc) long z)) (sym e) (on k move sc long o)
-    where
-      on : {A : Type 0} (k : ℕ) (move : A → A) (sc : Scope) (long : LongName) (o : Option A)
-          → Both (Moves move) (known sc long o) (known (put_scope (moved k) sc) long (mapped move o))
-      on k move sc long None = refl
-      on k move sc long (Some x) = refl
+  where
+    on : {A : Type 0} (k : ℕ) (move : A → A) (sc : Scope) (long : LongName) (o : Option A)
+        → Both (Moves move) (known sc long o) (known (put_scope (moved k) sc) long (mapped move o))
+    on k move sc long None = refl
+    on k move sc long (Some x) = refl

@@ -1,5 +1,6 @@
 -- New variables, instances and closing move with the variables.
 use Rattle.std.proofs.Common.{◌≡◌, ℕ, zero, suc, ◌+◌, List, [], ◌∷◌, ◌++◌, map, refl, sym, ap, ap₂, ◌∙◌, Bool, true, false, ◌||◌, cond, arith, get_or}
+use Rattle.std.proofs.lemmas.List.{map-append, length-map}
 use Rattle.std.specs.Prelude.{eqb}
 use Rattle.std.specs.List.{list_any}
 use Rattle.semantic_objects.specs.declared.entry.TypeFn.{TypeFn}
@@ -15,7 +16,7 @@ use Rattle.static_semantics.specs.TypeInference.{new_rigid, applied_to, type_fun
 use Rattle.static_semantics.specs.EnvironmentsPut.{put_scheme, put_value, put_env, put_rows, put_scope}
 use Rattle.renaming_laws.specs.Moved.{moved, IsMoved, AreMoved}
 use Rattle.renaming_laws.proofs.Unifying.{eqb_moved, known_moved, occurs_moved, large_moved}
-use Rattle.renaming_laws.proofs.Environments.{map_after, map_length, put_with_value, put_bodies}
+use Rattle.renaming_laws.proofs.Environments.{put_with_value, put_bodies}
 
 -- ---- new variables
 
@@ -130,7 +131,7 @@ KeepsAlike k kept other = (n : ℕ) → other (n + k) ≡ kept n
 noticed_or : (k n : ℕ) (b : Bool) (vs : List ℕ)
     → cond b (later k vs) (later k vs ++ (n + k) ∷ []) ≡ later k (cond b vs (vs ++ n ∷ []))
 noticed_or k n true vs = refl
-noticed_or k n false vs = sym (map_after (λ v. v + k) vs (n ∷ []))
+noticed_or k n false vs = sym (map-append (λ v. v + k) vs (n ∷ []))
 
 mutual
   pub found_moved : (k : ℕ) (kept other : ℕ → Bool) (t : Ty) (vs : List ℕ) → KeepsAlike k kept other
@@ -163,7 +164,7 @@ function_of arity body = record { arity = arity; body = body }
 
 pub function_moved : (k : ℕ) (vs : List ℕ) (t : Ty)
     → type_function (later k vs) (put (moved k) t) ≡ put_function (moved k) (type_function vs t)
-function_moved k vs t = ap₂ function_of (map_length (λ v. v + k) vs) (closed_moved k vs t)
+function_moved k vs t = ap₂ function_of (length-map vs (λ v. v + k)) (closed_moved k vs t)
 
 -- ---- variables of patterns
 

@@ -1,5 +1,6 @@
 -- Expressions, matches and declarations move with the variables.
 use Rattle.std.proofs.Common.{◌≡◌, ℕ, List, [], ◌∷◌, ◌++◌, map, refl, sym, ap, ap₂, ◌∙◌, subst}
+use Rattle.std.proofs.lemmas.List.{map-append}
 use Rattle.std.specs.Option.{is_some}
 use Rattle.sml_trees.specs.declared.name.At.{At}
 use Rattle.semantic_objects.specs.Tables.{Table, entry, with_entry}
@@ -17,7 +18,7 @@ use Rattle.static_semantics.specs.EnvironmentsPut.{each_entry, put_env, put_rows
 use Rattle.renaming_laws.specs.Moved.{moved, AreMoved, Both, MovesIn, MovesBoth}
 use Rattle.renaming_laws.proofs.Unifying.{unify_at_moved}
 use Rattle.renaming_laws.proofs.Answers.{both_then, plain_then, moves_then, both_move_then, both_where}
-use Rattle.renaming_laws.proofs.Environments.{map_after, each_with, each_has, put_modified}
+use Rattle.renaming_laws.proofs.Environments.{each_with, each_has, put_modified}
 use Rattle.renaming_laws.proofs.Closing.{new_moved, new_is_moved}
 use Rattle.renaming_laws.proofs.TypesMoved.{record_moved, ty_moved, later_rows, with_written_moved, under_moved, infer_types_moved, datatypes_moved, replication_moved, exceptions_moved, open_moved}
 use Rattle.renaming_laws.proofs.PatternsMoved.{pat_moved}
@@ -172,7 +173,7 @@ mutual
       let group : Group = (is_nonexpansive sc.env exp, added bound c) in
       subst (λ z. Both (BindsMove k) (infer_binds depth sc rest c (groups ++ group ∷ []) a)
       (infer_binds depth (put_scope (moved k) sc) rest (put_rows (moved k) c) z b))
-      (map_after (put_group k) groups (group ∷ [])
+      (map-append (put_group k) groups (group ∷ [])
       ∙ ap₂ (λ n rows. map (put_group k) groups ++ (n, rows) ∷ []) (sym (nonexpansive_moved k sc.env exp))
       (sym (added_moved k bound c)))
       (binds_moved k depth sc rest c (groups ++ group ∷ []) a b l))))
@@ -221,7 +222,7 @@ mutual
       (map (put_group k) groups ++ rec_groups (put_env (moved k) sc.env) recs (map (put_rec k) rows)) w4) _ _
       (subst (λ z. Both (DecsMove k) (closed_val sc at (is_kept sc v4.types.stands) own all v4)
       (closed_val (put_scope (moved k) sc) at (is_kept (put_scope (moved k) sc) w4.types.stands) (later_rows k own) z w4))
-      (map_after (put_group k) groups (rec_groups sc.env recs rows)
+      (map-append (put_group k) groups (rec_groups sc.env recs rows)
       ∙ ap (λ gs. map (put_group k) groups ++ gs) (sym (rec_groups_moved k sc.env recs rows)))
       (closed_val_moved k sc at (is_kept sc v4.types.stands) (is_kept (put_scope (moved k) sc) w4.types.stands) own all
       v4

@@ -1,5 +1,6 @@
 -- Tables and environments with types put in: looking up and adding go with it.
 use Rattle.std.proofs.Common.{◌≡◌, ℕ, List, [], ◌∷◌, ◌++◌, map, drop, length, refl, sym, ap, ap₂, ◌∙◌, Option, Some, None, Bool, true, false, cond, zero, suc}
+use Rattle.std.proofs.lemmas.List.{map-append}
 use Rattle.std.specs.Option.{is_some}
 use Rattle.std.specs.FinMap.Entries.{by_order}
 use Rattle.std.specs.Ordering.{eq_by_cmp}
@@ -20,14 +21,6 @@ use Rattle.static_semantics.specs.EnvironmentsPut.{put_con, put_type, put_value,
 use Rattle.renaming_laws.proofs.Answers.{mapped}
 
 -- ---- lists
-
-pub map_after : {A B : Type 0} (f : A → B) (xs ys : List A) → map f (xs ++ ys) ≡ map f xs ++ map f ys
-map_after f [] ys = refl
-map_after f (x ∷ xs) ys = ap (λ z. f x ∷ z) (map_after f xs ys)
-
-pub map_length : {A B : Type 0} (f : A → B) (xs : List A) → length (map f xs) ≡ length xs
-map_length f [] = refl
-map_length f (x ∷ xs) = ap suc (map_length f xs)
 
 pub map_drop : {A B : Type 0} (f : A → B) (n : ℕ) (xs : List A) → drop n (map f xs) ≡ map f (drop n xs)
 map_drop f zero xs = refl
@@ -199,7 +192,7 @@ module _ (s : Substitution) where
   put_type_bodies [] = refl
   put_type_bodies (t ∷ ts) = ap (λ z. put_tree s t.1.function.body ∷ z)
       (ap₂ (λ a b. a ++ b) (put_con_bodies t.1.cons) (put_type_bodies ts)
-      ∙ sym (map_after (put_tree s) (con_bodies t.1.cons) (type_bodies ts)))
+      ∙ sym (map-append (put_tree s) (con_bodies t.1.cons) (type_bodies ts)))
 
   put_value_bodies : (vs : Table ValueEntry)
       → value_bodies (each_entry (put_value s) vs) ≡ map (put_tree s) (value_bodies vs)
@@ -211,11 +204,11 @@ module _ (s : Substitution) where
     put_bodies (Env.MakeEnv ss ts vs) =
         ap₂ (λ a b. a ++ b) (put_structure_bodies ss)
         (ap₂ (λ a b. a ++ b) (put_type_bodies ts) (put_value_bodies vs)
-        ∙ sym (map_after (put_tree s) (type_bodies ts) (value_bodies vs)))
-        ∙ sym (map_after (put_tree s) (structure_bodies ss) (type_bodies ts ++ value_bodies vs))
+        ∙ sym (map-append (put_tree s) (type_bodies ts) (value_bodies vs)))
+        ∙ sym (map-append (put_tree s) (structure_bodies ss) (type_bodies ts ++ value_bodies vs))
 
     put_structure_bodies : (ss : Structures) → structure_bodies (put_structures s ss) ≡ map (put_tree s) (structure_bodies ss)
     put_structure_bodies Structures.Nil = refl
     put_structure_bodies (Structures.Cons name env rest) =
         ap₂ (λ a b. a ++ b) (put_bodies env) (put_structure_bodies rest)
-        ∙ sym (map_after (put_tree s) (bodies env) (structure_bodies rest))
+        ∙ sym (map-append (put_tree s) (bodies env) (structure_bodies rest))

@@ -6,4 +6,5 @@ pub mod TypesMoved
 pub mod PatternsMoved
 pub mod StepsMoved
 pub mod CoreMoved
+pub mod Beginning
 pub mod Promised

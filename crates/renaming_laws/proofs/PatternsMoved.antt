@@ -1,5 +1,6 @@
 -- Patterns move with the variables.
 use Rattle.std.proofs.Common.{◌≡◌, ℕ, List, [], ◌∷◌, ◌++◌, refl, sym, ap, ◌∙◌, subst, Option, Some, None, Bool, true, false, not}
+use Rattle.std.proofs.lemmas.List.{map-append}
 use Rattle.std.specs.Option.{is_some}
 use Rattle.sml_trees.specs.declared.name.At.{At}
 use Rattle.sml_trees.specs.declared.name.LongName.{LongName}
@@ -19,7 +20,7 @@ use Rattle.static_semantics.specs.EnvironmentsPut.{put_value, each_entry, put_en
 use Rattle.renaming_laws.specs.Moved.{moved, AreMoved, Both, Moves, MovesBoth}
 use Rattle.renaming_laws.proofs.Unifying.{known_moved, large_moved, unify_at_moved}
 use Rattle.renaming_laws.proofs.Answers.{both_then, plain_then, both_move_then, both_where, mapped}
-use Rattle.renaming_laws.proofs.Environments.{map_after, each_with, each_has, each_is_named, put_con_named}
+use Rattle.renaming_laws.proofs.Environments.{each_with, each_has, each_is_named, put_con_named}
 use Rattle.renaming_laws.proofs.Closing.{new_moved, new_is_moved, instance_moved, instance_is_moved}
 use Rattle.renaming_laws.proofs.TypesMoved.{record_moved, ty_moved, value_found_moved}
 
@@ -46,7 +47,7 @@ rows_after : (k : ℕ) (name : List ℕ) (bound : Bound) (st u : Progress) → A
     ≡ put_rows (moved k) (bound ++ (name, (new_variable st).0) ∷ [])
 rows_after k name bound st u h =
     ap (λ t. put_rows (moved k) bound ++ (name, t) ∷ []) (new_is_moved k st u h)
-    ∙ sym (map_after (λ (row : List ℕ × Ty). (row.0, put (moved k) row.1)) bound ((name, (new_variable st).0) ∷ []))
+    ∙ sym (map-append (λ (row : List ℕ × Ty). (row.0, put (moved k) row.1)) bound ((name, (new_variable st).0) ∷ []))
 
 bind_moved : (k : ℕ) (sc : Scope) (at : At) (name : List ℕ) (bound : Bound) (st u : Progress) → AreMoved k st u
     → Both (PatsMove k) (bind_variable sc at name bound st)

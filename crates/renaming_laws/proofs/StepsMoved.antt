@@ -1,5 +1,6 @@
 -- Steps of expressions and of `val` move with the variables.
 use Rattle.std.proofs.Common.{◌≡◌, ℕ, ◌+◌, List, [], ◌∷◌, ◌++◌, map, drop, length, refl, sym, ap, ap₂, ◌∙◌, subst, Option, Some, None, Bool, true, false, ◌||◌, ◌&&◌, cond, not}
+use Rattle.std.proofs.lemmas.List.{map-append, length-map}
 use Rattle.std.specs.Prelude.{Ok}
 use Rattle.sml_trees.specs.declared.name.At.{At}
 use Rattle.sml_trees.specs.declared.name.Name.{Name}
@@ -22,7 +23,7 @@ use Rattle.static_semantics.specs.EnvironmentsPut.{put_scheme, put_value, put_en
 use Rattle.renaming_laws.specs.Moved.{moved, IsMoved, AreMoved, Both, MovesIn}
 use Rattle.renaming_laws.proofs.Unifying.{known_moved, unify_at_moved}
 use Rattle.renaming_laws.proofs.Answers.{both_then, plain_then, moves_then, both_move_then, both_where}
-use Rattle.renaming_laws.proofs.Environments.{map_after, map_length, map_drop, each_is_named, put_con_found, put_con_named, put_with_value}
+use Rattle.renaming_laws.proofs.Environments.{map_drop, each_is_named, put_con_found, put_con_named, put_with_value}
 use Rattle.renaming_laws.proofs.Closing.{new_moved, new_is_moved, rigid_moved, instance_moved, instance_is_moved, KeepsAlike, found_moved, scheme_moved, bound_moved, free_moved, env_large_moved, kept_moved}
 use Rattle.renaming_laws.proofs.TypesMoved.{later_rows, row_after, listed_moved, value_found_moved}
 use Rattle.renaming_laws.proofs.PatternsMoved.{size_known, pat_moved}
@@ -223,13 +224,13 @@ pub added_moved : (k : ℕ) (before after : Bound)
     → added (put_rows (moved k) before) (put_rows (moved k) after) ≡ put_rows (moved k) (added before after)
 added_moved k before after =
     ap (λ n. drop n (put_rows (moved k) after))
-    (map_length (λ (row : List ℕ × Ty). (row.0, put (moved k) row.1)) before)
+    (length-map before (λ (row : List ℕ × Ty). (row.0, put (moved k) row.1)))
     ∙ map_drop (λ (row : List ℕ × Ty). (row.0, put (moved k) row.1)) (length before) after
 
 pub rec_bound_moved : (k : ℕ) (rows : RecPats) → rec_bound (map (put_rec k) rows) ≡ put_rows (moved k) (rec_bound rows)
 rec_bound_moved k [] = refl
 rec_bound_moved k (row ∷ rows) = ap (λ z. put_rows (moved k) row.1 ++ z) (rec_bound_moved k rows)
-    ∙ sym (map_after (λ (x : List ℕ × Ty). (x.0, put (moved k) x.1)) row.1 (rec_bound rows))
+    ∙ sym (map-append (λ (x : List ℕ × Ty). (x.0, put (moved k) x.1)) row.1 (rec_bound rows))
 
 pub rec_groups_moved : (k : ℕ) (env : Env) (rules : Rules) (rows : RecPats)
     → rec_groups (put_env (moved k) env) rules (map (put_rec k) rows) ≡ map (put_group k) (rec_groups env rules rows)
@@ -260,7 +261,7 @@ rec_pats_moved k depth sc (Rules.Rule pat exp rest) made bound st u h =
     (subst (λ z. Both (MovesIn k (map (put_rec k)))
     (infer_rec_pats depth sc rest (made ++ (t, added bound c) ∷ []) c v)
     (infer_rec_pats depth (put_scope (moved k) sc) rest z (put_rows (moved k) c) w))
-    (map_after (put_rec k) made ((t, added bound c) ∷ [])
+    (map-append (put_rec k) made ((t, added bound c) ∷ [])
     ∙ ap (λ z. map (put_rec k) made ++ (put (moved k) t, z) ∷ []) (sym (added_moved k bound c)))
     (rec_pats_moved k depth sc rest (made ++ (t, added bound c) ∷ []) c v w i)))
 

@@ -1,5 +1,6 @@
 -- Types, what `type` binds, datatypes and exceptions move with the variables.
 use Rattle.std.proofs.Common.{◌≡◌, ℕ, zero, suc, ◌+◌, ◌-◌, List, [], ◌∷◌, ◌++◌, map, length, refl, sym, ap, ap₂, ◌∙◌, subst, Option, Some, None, Bool, true, false, ◌&&◌, cond, not, get_or}
+use Rattle.std.proofs.lemmas.List.{map-append, length-map}
 use Rattle.std.proofs.lemmas.Bool.{eq-eqb}
 use Rattle.std.specs.Prelude.{eqb}
 use Rattle.std.specs.Option.{is_some}
@@ -25,7 +26,7 @@ use Rattle.static_semantics.specs.CoreInference.{infer_open}
 use Rattle.static_semantics.specs.EnvironmentsPut.{put_scheme, put_con, put_type, put_value, each_entry, put_env, put_rows, put_scope}
 use Rattle.renaming_laws.specs.Moved.{moved, AreMoved, Both, Moves, MovesIn}
 use Rattle.renaming_laws.proofs.Answers.{plain_then, moves_then, both_where, mapped, known_moved}
-use Rattle.renaming_laws.proofs.Environments.{map_after, map_length, each_with, each_has, each_named, each_is_named, each_names, put_has_structures, put_has_types, put_has_values, put_with_value, put_with_type, put_modified, put_found, put_datatype}
+use Rattle.renaming_laws.proofs.Environments.{each_with, each_has, each_named, each_is_named, each_names, put_has_structures, put_has_types, put_has_values, put_with_value, put_with_type, put_modified, put_found, put_datatype}
 use Rattle.renaming_laws.proofs.Closing.{rigid_moved, applied_to_moved, later, closed_moved, function_moved}
 
 -- ---- types
@@ -65,7 +66,7 @@ mutual
       (put_found (moved k) (put_type (moved k)) types (put_has_types (moved k)) long.parts sc.env)) (λ found.
       both_where k (Moves (put (moved k))) (not (eqb (length made) found.function.arity))
       (not (eqb (length (map (put (moved k)) made)) found.function.arity)) 35 sc at _ _
-      (ap (λ z. not (eqb z found.function.arity)) (map_length (put (moved k)) made))
+      (ap (λ z. not (eqb z found.function.arity)) (length-map made (put (moved k))))
       (applied_to_moved k found.function made)))
   ty_moved k sc (TyPhrase.Arrow from to at) =
       plain_then (put (moved k)) (Moves (put (moved k))) (infer_ty sc from) (infer_ty (put_scope (moved k) sc) from) _ _
@@ -104,7 +105,7 @@ later_rows k rows = each_entry (λ v. v + k) rows
 pub row_after : (k : ℕ) (text : List ℕ) (rows : List (List ℕ × ℕ)) (st u : Progress) → AreMoved k st u
     → later_rows k (rows ++ (text, st.types.next) ∷ []) ≡ later_rows k rows ++ (text, u.types.next) ∷ []
 row_after k text rows st u h =
-    map_after (λ (row : List ℕ × ℕ). (row.0, row.1 + k)) rows ((text, st.types.next) ∷ [])
+    map-append (λ (row : List ℕ × ℕ). (row.0, row.1 + k)) rows ((text, st.types.next) ∷ [])
     ∙ ap (λ n. later_rows k rows ++ (text, n) ∷ []) (sym h.types.next)
 
 pub listed_moved : (k : ℕ) (sc : Scope) (names : List Name) (before : List (List ℕ × ℕ)) (st u : Progress)
@@ -143,7 +144,7 @@ pub with_written_moved : (k : ℕ) (rows : List (List ℕ × ℕ)) (sc : Scope)
     ≡ put_scope (moved k) (with_written (as_written rows) sc)
 with_written_moved k rows sc = ap (scope_of (put_env (moved k) sc.env) sc.home)
     (ap (λ z. z ++ put_rows (moved k) sc.written) (written_rows k rows)
-    ∙ sym (map_after (λ (row : List ℕ × Ty). (row.0, put (moved k) row.1)) (as_written rows) sc.written))
+    ∙ sym (map-append (λ (row : List ℕ × Ty). (row.0, put (moved k) row.1)) (as_written rows) sc.written))
 
 pub under_moved : (k : ℕ) (made : Env) (sc : Scope)
     → under (put_env (moved k) made) (put_scope (moved k) sc) ≡ put_scope (moved k) (under made sc)
@@ -234,7 +235,7 @@ abbrev put_args : ℕ → List Con → List Con
 put_args k cons = each_entry (mapped (put (moved k))) cons
 
 args_after : (k : ℕ) (xs ys : List Con) → put_args k (xs ++ ys) ≡ put_args k xs ++ put_args k ys
-args_after k xs ys = map_after (λ (con : Con). (con.0, mapped (put (moved k)) con.1)) xs ys
+args_after k xs ys = map-append (λ (con : Con). (con.0, mapped (put (moved k)) con.1)) xs ys
 
 cons_moved : (k : ℕ) (sc : Scope) (refused : List (List ℕ)) (cons : List ConPhrase) (before made : List Con)
     → Both (Moves (put_args k)) (infer_cons sc refused cons before made)
@@ -286,7 +287,7 @@ dats_moved k sc refused (bind ∷ binds) made st u h =
     (cons_moved k own refused bind.cons (cons_of made) []))) (λ cons.
     let dat : Dat = record { name = bind.name.text; variables = rows; cons = cons } in
     subst (λ z. Both (MovesIn k (map (moved_dat k))) (infer_dats sc refused binds (made ++ dat ∷ []) v)
-    (infer_dats (put_scope (moved k) sc) refused binds z w)) (map_after (moved_dat k) made (dat ∷ []))
+    (infer_dats (put_scope (moved k) sc) refused binds z w)) (map-append (moved_dat k) made (dat ∷ []))
     (dats_moved k sc refused binds (made ++ dat ∷ []) v w i)))
 
 -- ---- which datatypes admit equality
@@ -342,7 +343,7 @@ module _ (k : ℕ) (home : List ℕ) (first : ℕ) where
 
   choice_moved : (dats : List Dat) → equality_choice home first (map (moved_dat k) dats) ≡ equality_choice home first dats
   choice_moved dats =
-      ap₂ (λ n c. looked_over_times n home first (map (moved_dat k) dats) c) (map_length (moved_dat k) dats)
+      ap₂ (λ n c. looked_over_times n home first (map (moved_dat k) dats) c) (length-map dats (moved_dat k))
       (all_true dats)
       ∙ times_moved (length dats) dats (map (λ (dat : Dat). true) dats)
 
@@ -397,7 +398,7 @@ module _ (k : ℕ) (home : List ℕ) (first : ℕ) where
       ≡ put (moved k) (own_ty (own_name home number (length own) eq) (numbers own))
   own_ty_moved number eq own =
       ap₂ (λ n vs. own_ty (own_name home number n eq) vs)
-      (map_length (λ (row : List ℕ × ℕ). (row.0, row.1 + k)) own)
+      (length-map own (λ (row : List ℕ × ℕ). (row.0, row.1 + k)))
       (numbers_moved k own)
       ∙ ap (λ ts. Ty.Made (symbol.Name (own_name home number (length own) eq)) ts) (vars_moved (numbers own))
 

@@ -3,4 +3,4 @@
 
 mod laws;
 
-pub use laws::inference_moves_with_its_variables;
+pub use laws::{inference_begins_anywhere, inference_moves_with_its_variables};
