@@ -1,0 +1,10 @@
+pub mod Unifying
+pub mod Answers
+pub mod Environments
+pub mod Closing
+pub mod TypesMoved
+pub mod PatternsMoved
+pub mod StepsMoved
+pub mod CoreMoved
+pub mod Beginning
+pub mod Promised
