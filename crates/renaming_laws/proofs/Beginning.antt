@@ -1,23 +1,23 @@
 -- From whichever fit state a declaration is inferred, in an environment without variables of the table it gives the same.
-use Rattle.std.proofs.Common.{◌≡◌, ℕ, ◌+◌, ◌<◌, ◌≤◌, List, [], ◌∷◌, map, refl, sym, ap, ap₂, ◌∙◌, subst, Some, None, Bool, true, false, ◌||◌, arith}
+use Rattle.std.proofs.Common.{◌≡◌, ℕ, ◌+◌, ◌<◌, List, [], ◌∷◌, map, refl, sym, ap, ap₂, ◌∙◌, subst, Some, None, Bool, true, false, ◌||◌, arith}
 use Rattle.std.specs.Prelude.{Ok, Err}
 use Rattle.std.proofs.lemmas.Bool.{eq-eqb}
 use Rattle.semantic_objects.specs.declared.entry.ConEntry.{ConEntry}
 use Rattle.semantic_objects.specs.declared.entry.TypeStr.{TypeStr}
 use Rattle.semantic_objects.specs.declared.entry.ValueEntry.{ValueEntry}
 use Rattle.semantic_objects.specs.Tables.{Table}
-use Rattle.semantic_objects.specs.Trees.{Tree, Trees, TypeScheme, frees, frees_any}
+use Rattle.semantic_objects.specs.Trees.{Tree, Trees, frees, frees_any}
 use Rattle.semantic_objects.specs.Environments.{Env, Structures}
 use Rattle.unification.specs.Types.{Substitution, State, put}
 use Rattle.unification.specs.Closing.{closed_over, put_tree, put_trees}
 use Rattle.unification.specs.Fitting.{IsFit, no_variable}
 use Rattle.unification.proofs.Walking.{either_way, or_false_left, or_false_right}
 use Rattle.bare_phrases.specs.Phrases.{DecPhrase}
-use Rattle.static_semantics.specs.Inferring.{Progress, Scope, outermost, Answer}
+use Rattle.static_semantics.specs.Inferring.{Progress, outermost, Answer}
 use Rattle.static_semantics.specs.CoreInference.{infer_dec}
-use Rattle.static_semantics.specs.EnvironmentsPut.{put_scheme, put_con, put_type, put_value, each_entry, put_env, put_structures, put_scope}
+use Rattle.static_semantics.specs.EnvironmentsPut.{put_con, put_type, put_value, each_entry, put_env, put_structures}
 use Rattle.static_semantics.specs.Holding.{AllItems, AllRows, ConHas, TypeHas, ValueHas, StructuresHave}
-use Rattle.renaming_laws.specs.Moved.{moved, IsMoved, AreMoved, Both, MovesIn}
+use Rattle.renaming_laws.specs.Moved.{moved, IsMoved, Both}
 use Rattle.renaming_laws.specs.Firm.{IsFirm, FirmScheme, FirmFunction, FirmEnv, GivesSame}
 use Rattle.renaming_laws.specs.Promises.{BeginsAnywhere}
 use Rattle.renaming_laws.proofs.Unifying.{eqb_moved}

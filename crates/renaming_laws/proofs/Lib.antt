@@ -6,5 +6,6 @@ pub mod TypesMoved
 pub mod PatternsMoved
 pub mod StepsMoved
 pub mod CoreMoved
+pub mod Generality
 pub mod Beginning
 pub mod Promised

@@ -1,16 +1,19 @@
 -- The laws, as the public functions of this crate state them.
 use Rattle.std.specs.Prelude.{◌≡◌, ℕ, List}
 use Rattle.sml_trees.specs.declared.name.At.{At}
+use Rattle.semantic_objects.specs.Trees.{Tree, TypeScheme}
 use Rattle.semantic_objects.specs.Environments.{Env}
 use Rattle.unification.specs.Types.{Ty, State, put}
 use Rattle.unification.specs.Fitting.{IsFit, no_variable}
+use Rattle.unification.specs.Closing.{canonical_scheme, put_tree}
+use Rattle.unification.specs.Generality.{same_tree, covers}
 use Rattle.bare_phrases.specs.Phrases.{TyPhrase, PatPhrase, ExpPhrase, Rules, DecPhrase, DatPhrase, ExPhrase}
 use Rattle.static_semantics.specs.Inferring.{Progress, Scope, outermost, Bound, unify_at}
 use Rattle.static_semantics.specs.TypeInference.{infer_ty}
 use Rattle.static_semantics.specs.PatternInference.{infer_pat}
 use Rattle.static_semantics.specs.DatatypeInference.{datatypes_of, exceptions_of}
 use Rattle.static_semantics.specs.CoreInference.{infer_exp, infer_match, infer_dec}
-use Rattle.static_semantics.specs.EnvironmentsPut.{put_env, put_rows, put_scope}
+use Rattle.static_semantics.specs.EnvironmentsPut.{put_scheme, put_env, put_rows, put_scope}
 use Rattle.renaming_laws.specs.Moved.{moved, IsMoved, AreMoved, Both, Moves, MovesIn, MovesBoth}
 use Rattle.renaming_laws.specs.Firm.{FirmEnv, GivesSame}
 
@@ -48,3 +51,12 @@ pub record BeginsAnywhere : Type 0 where
   pub dec : (depth : ℕ) (home : List ℕ) (env : Env) (dec : DecPhrase) (st u : Progress) → FirmEnv env
       → IsFit st.types → IsFit u.types → u.names ≡ st.names
       → Both GivesSame (infer_dec depth (outermost home env) dec st) (infer_dec depth (outermost home env) dec u)
+
+-- of two schemes, moved, the one covers the other where it did before; trees are one where they were, and the one form
+-- of a scheme moves with it
+pub record GeneralityMoves : Type 0 where
+  pub covers : (k : ℕ) (s r : State) (g h : TypeScheme) → IsMoved k s r
+      → covers r (put_scheme (moved k) g) (put_scheme (moved k) h) ≡ covers s g h
+  pub same : (k : ℕ) (t u : Tree) → same_tree (put_tree (moved k) t) (put_tree (moved k) u) ≡ same_tree t u
+  pub canonical : (k : ℕ) (σ : TypeScheme)
+      → canonical_scheme (put_scheme (moved k) σ) ≡ put_scheme (moved k) (canonical_scheme σ)

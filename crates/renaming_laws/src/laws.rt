@@ -1,6 +1,6 @@
 //! The laws, so that crates above have them from a call.
 
-ghost use Rattle.renaming_laws.specs.Promises.{InferenceMoves, BeginsAnywhere};
+ghost use Rattle.renaming_laws.specs.Promises.{InferenceMoves, BeginsAnywhere, GeneralityMoves};
 
 /// Which numbers the variables of a table have changes no inference.
 #[tactic(auto, using(crate::proofs::Promised::inference_moves))]
@@ -12,4 +12,10 @@ pub fn inference_moves_with_its_variables()
 #[tactic(auto, using(crate::proofs::Beginning::begins_anywhere))]
 pub fn inference_begins_anywhere()
     ensures { BeginsAnywhere }
+{}
+
+/// Which of two schemes is at least as general doesn't hang on the numbers of variables.
+#[tactic(auto, using(crate::proofs::Generality::generality_moves))]
+pub fn generality_moves_with_its_variables()
+    ensures { GeneralityMoves }
 {}

@@ -3,4 +3,7 @@
 
 mod laws;
 
-pub use laws::{inference_begins_anywhere, inference_moves_with_its_variables};
+pub use laws::{
+    generality_moves_with_its_variables, inference_begins_anywhere,
+    inference_moves_with_its_variables,
+};
