@@ -7,4 +7,5 @@ pub mod Declarations
 pub mod TypeBindings
 pub mod Core
 pub mod Reopening
+pub mod Closing
 pub mod Promised

@@ -1,6 +1,6 @@
 -- The laws, as the public functions of this crate state them.
-use Rattle.std.specs.Prelude.{ℕ, Bool}
-use Rattle.unification.specs.Types.{Substitution, State, put}
+use Rattle.std.specs.Prelude.{ℕ, Bool, not}
+use Rattle.unification.specs.Types.{Ty, Substitution, State, put}
 use Rattle.unification.specs.Unification.{Solves}
 use Rattle.unification.specs.Fitting.{IsFit}
 use Rattle.bare_phrases.specs.Phrases.{TyPhrase, PatPhrase, ExpPhrase, Rules, DecPhrase}
@@ -15,7 +15,7 @@ use Rattle.static_semantics.specs.Growing.{TyIn, IsReady}
 use Rattle.inference_laws.specs.Alike.{FirmEnv}
 use Rattle.inference_laws.specs.Promises.{Any}
 use Rattle.elaboration_laws.specs.Derived.{PatDerived, ExpDerived, MatchDerived, DecDerived}
-use Rattle.elaboration_laws.specs.Reopening.{Reopened}
+use Rattle.elaboration_laws.specs.Reopening.{Reopened, OpenInside}
 use Rattle.elaboration_laws.specs.Declaring.{IsPlain, ExpHas, RulesHave, DecHas}
 
 -- whatever is put in for the variables of the table, in the scope and in the type that inference gives, the rules give
@@ -44,6 +44,9 @@ pub record ExpressionsHaveDerivations : Type 0 where
 
 -- from a choice that solves the state in which types were closed, and any closed variables, there is a choice for what
 -- was inferred inside: it solves the state too, is the one around where no closed variable stands, and puts differing
--- variables, which stand nowhere around, for the closed ones
+-- variables, which stand nowhere around, for the closed ones. Under the choice around, the scheme of a type that is
+-- closed over all its variables but the kept ones closes the type inside
 pub record ClosedVariablesReopen : Type 0 where
   pub reopened : (closes : ℕ → Bool) (p u : State) → IsFit u → Solves p u → Reopened closes p u
+  pub types : (kept : ℕ → Bool) (p u : State) → IsFit u → (r : Reopened (λ v. not (kept v)) p u) (t : Ty)
+      → OpenInside kept p u r.inside r.from t
