@@ -8,4 +8,5 @@ pub mod TypeBindings
 pub mod Core
 pub mod Reopening
 pub mod Closing
+pub mod Keeping
 pub mod Promised
