@@ -7,4 +7,6 @@ pub mod Declarations
 pub mod TypeBindings
 pub mod Core
 pub mod Reopening
+pub mod Closing
+pub mod Keeping
 pub mod Promised

@@ -49,6 +49,9 @@ first_below s (suc k) v h n e = either_way (eqb v k)
     omega (arith, l))
     (λ i. let l : n < above_first s k = first_below s k v (below_before v k h i) n e in omega (arith, l))
 
+first_beyond : (s : Substitution) (k v : ℕ) → v < k → IsBelow (k + above_first s k) (s v)
+first_beyond s k v h n e = let l : n < above_first s k = first_below s k v h n e in omega (arith, l)
+
 -- ---- equality types
 
 mutual
@@ -102,7 +105,8 @@ where_reopened closes p u from v false h k l e i = admits_on p.marks (marks_from
 
 pub reopened : (closes : ℕ → Bool) (p u : State) → IsFit u → Solves p u → Reopened closes p u
 reopened closes p u h q =
-    let from : ℕ = above_first p.stands u.next in
+    let from : ℕ = u.next + above_first p.stands u.next in
+    let below : (v : ℕ) → v < u.next → IsBelow from (p.stands v) = first_beyond p.stands u.next in
     let c : Substitution = reopens closes from p.stands in
     let r : Marks = marks_from from p.marks u.marks in
     record {
@@ -112,7 +116,7 @@ reopened closes p u h q =
         types = λ n. sym (put-put c u.stands (u.stands n)) ∙ ap (put c) (h.settled.solves.types n);
         marks = λ n e. admits_put u.marks r c (u.stands n)
             (λ v o m. where_reopened closes p u from v (closes v)
-            (λ w _ l. marks_below from p.marks u.marks w l) (first_below p.stands u.next v) (h.marks v m) m
+            (λ w _ l. marks_below from p.marks u.marks w l) (below v) (h.marks v m) m
             (q.marks v m))
             (h.settled.solves.marks n e);
       };
@@ -120,7 +124,8 @@ reopened closes p u h q =
           ∙ put_alike c p.stands (put u.stands t)
           (λ n e. ap (λ z. cond z (Ty.Var (from + n)) (p.stands n)) (apart n e))
           ∙ put_solved p u t q;
-      below = first_below p.stands u.next;
+      new = omega arith;
+      below = below;
       closed = λ v e s. ap (put c) s ∙ ap (λ z. cond z (Ty.Var (from + v)) (p.stands v)) e;
       marked = marks_beyond from p.marks u.marks;
       marks = marks_below from p.marks u.marks;

@@ -42,7 +42,7 @@ neither : (a b : Bool) → a ≡ false → b ≡ false → (a || b) ≡ false
 neither true b h k = h
 neither false b h k = k
 
-absent_still : (m n : ℕ) (ns : List ℕ) → is_among m ns ≡ false → eqb m n ≡ false → is_among m (ns ++ n ∷ []) ≡ false
+pub absent_still : (m n : ℕ) (ns : List ℕ) → is_among m ns ≡ false → eqb m n ≡ false → is_among m (ns ++ n ∷ []) ≡ false
 absent_still m n [] h k = neither (eqb m n) false k refl
 absent_still m n (i ∷ ns) h k = neither (eqb m i) (is_among m (ns ++ n ∷ []))
     (or_false_left (eqb m i) (is_among m ns) h) (absent_still m n ns (or_false_right (eqb m i) (is_among m ns) h) k)

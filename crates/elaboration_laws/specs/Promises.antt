@@ -1,21 +1,21 @@
 -- The laws, as the public functions of this crate state them.
-use Rattle.std.specs.Prelude.{ℕ, Bool}
-use Rattle.unification.specs.Types.{Substitution, State, put}
+use Rattle.std.specs.Prelude.{◌≡◌, ℕ, ◌+◌, Bool, false, not}
+use Rattle.unification.specs.Types.{Ty, Substitution, State, put}
 use Rattle.unification.specs.Unification.{Solves}
 use Rattle.unification.specs.Fitting.{IsFit}
 use Rattle.bare_phrases.specs.Phrases.{TyPhrase, PatPhrase, ExpPhrase, Rules, DecPhrase}
-use Rattle.static_semantics.specs.Inferring.{Progress, Scope, Bound}
+use Rattle.static_semantics.specs.Inferring.{Progress, Scope, Bound, is_kept}
 use Rattle.static_semantics.specs.TypeInference.{infer_ty}
 use Rattle.static_semantics.specs.PatternInference.{infer_pat}
 use Rattle.static_semantics.specs.CoreInference.{infer_exp, infer_match, infer_dec}
 use Rattle.static_semantics.specs.EnvironmentsPut.{put_scope}
 use Rattle.static_semantics.specs.Elaborates.{ElaboratesTy}
 use Rattle.static_semantics.specs.Holding.{Given, AllRows}
-use Rattle.static_semantics.specs.Growing.{TyIn, IsReady}
+use Rattle.static_semantics.specs.Growing.{TyIn, ScopeIn, IsReady}
 use Rattle.inference_laws.specs.Alike.{FirmEnv}
 use Rattle.inference_laws.specs.Promises.{Any}
 use Rattle.elaboration_laws.specs.Derived.{PatDerived, ExpDerived, MatchDerived, DecDerived}
-use Rattle.elaboration_laws.specs.Reopening.{Reopened}
+use Rattle.elaboration_laws.specs.Reopening.{Reopened, OpenInside}
 use Rattle.elaboration_laws.specs.Declaring.{IsPlain, ExpHas, RulesHave, DecHas}
 
 -- whatever is put in for the variables of the table, in the scope and in the type that inference gives, the rules give
@@ -44,6 +44,13 @@ pub record ExpressionsHaveDerivations : Type 0 where
 
 -- from a choice that solves the state in which types were closed, and any closed variables, there is a choice for what
 -- was inferred inside: it solves the state too, is the one around where no closed variable stands, and puts differing
--- variables, which stand nowhere around, for the closed ones
+-- variables, which stand nowhere around, for the closed ones. Under the choice around, the scheme of a type that is
+-- closed over all its variables but the kept ones closes the type inside
 pub record ClosedVariablesReopen : Type 0 where
   pub reopened : (closes : ℕ → Bool) (p u : State) → IsFit u → Solves p u → Reopened closes p u
+  pub types : (kept : ℕ → Bool) (p u : State) → IsFit u → (r : Reopened (λ v. not (kept v)) p u) (t : Ty)
+      → OpenInside kept p u r.inside r.from t
+  -- what is kept in a scope under a choice; what stands for the closed variables isn't
+  pub kept : (s : Substitution) (v : ℕ) (sc : Scope) → is_kept (put_scope s sc) Ty.Var v ≡ is_kept sc s v
+  pub apart : (closes : ℕ → Bool) (p : State) (sc : Scope) (st : Progress) (r : Reopened closes p st.types)
+      → ScopeIn Any st.types sc → (v : ℕ) → is_kept (put_scope p.stands sc) Ty.Var (r.from + v) ≡ false
