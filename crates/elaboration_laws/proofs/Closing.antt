@@ -131,7 +131,8 @@ module _ (kept : ℕ → Bool) (p u : State) (h : IsFit u) (r : Reopened (λ v. 
 
   bound_below : BindsBelow (length (shifted r.from vs)) (put_tree p.stands (closed_over vs (put u.stands t)))
   bound_below i e =
-      let l : i < length vs = closed_binds vs (put u.stands t) i (binds_put p.stands i (closed_over vs (put u.stands t)) e) in
+      let body : Tree = closed_over vs (put u.stands t) in
+      let l : i < length vs = closed_binds vs (put u.stands t) i (binds_put p.stands i body e) in
       let m : length (shifted r.from vs) ≡ length vs = length-map vs (λ v. r.from + v) in omega (arith, l, m)
 
   pub open_inside : OpenInside kept p u r.inside r.from t
