@@ -175,7 +175,7 @@ fn meet_nodes(
 }
 
 /// Looks at two ids, of which what they stand for is to be made one.
-fn meet(
+fn meet_ends(
     table: &mut TypeBindings,
     alloc: Global,
     left: TyId,
@@ -202,6 +202,29 @@ fn meet(
         (TyId::Made(i), TyId::Variable(v)) => solve(table, alloc, v, i),
         (TyId::Made(i), TyId::Made(j)) => meet_nodes(table, i, j, depth, same, pairs),
     }
+}
+
+/// The same, and the ways from both are shorter from then on.
+fn meet(
+    table: &mut TypeBindings,
+    alloc: Global,
+    left: TyId,
+    right: TyId,
+    depth: usize,
+    same: &Notes,
+    pairs: &mut List<Pair>,
+) -> Result<(), TypeFault>
+    requires left { Has table.old left }
+    requires right { Has table.old right }
+    requires one { AreOne table.old (state table.old) same.now }
+    ensures answer { Meeting table.old table.new (meeting_answer table.old depth left right pairs.old)
+        (AreThese (state table.old) (type_of table.old left) (type_of table.old right)) pairs.old pairs.new result }
+    ensures named { NamesOwn table.old result }
+    ensures grown { Grown table.old table.new }
+{
+    table.shorten(left);
+    table.shorten(right);
+    meet_ends(table, alloc, left, right, depth, same, pairs)
 }
 
 /// Makes the next parts of the last pair one.

@@ -174,7 +174,7 @@ bound_at t v a r p m e = record {
   falls = m.falls;
 }
 
-bound_other : (t : Table) (v w : ℕ) (a b : TyId) → LinkedTo t w b
+pub bound_other : (t : Table) (v w : ℕ) (a b : TyId) → LinkedTo t w b
     → state (with_entry (entry.Bound v a) t) ≡ bound_in v (whole t a) (state t)
     → LinkedTo (with_entry (entry.Bound v a) t) w b
 bound_other t v w a b l e = record {
@@ -234,7 +234,7 @@ fit_marked v s h l free = record {
   rigid = h.rigid;
 }
 
-linked_marked : (t : Table) (v w : ℕ) (b : TyId) → LinkedTo t w b
+pub linked_marked : (t : Table) (v w : ℕ) (b : TyId) → LinkedTo t w b
     → state (with_entry (entry.Marked v) t) ≡ marked_state v (state t) → LinkedTo (with_entry (entry.Marked v) t) w b
 linked_marked t v w b l e = record {
   whole = ap (λ (s : State). s.stands w) e ∙ l.whole ∙ sym (ap (λ (s : State). put s.stands (type_of t b)) e);

@@ -23,7 +23,7 @@ use Rattle.type_nodes.proofs.Binding.{whole_below, state_bound, state_marked}
 use Rattle.type_nodes.proofs.Histories.{kept, state_variable, history_cut, history_entry, history_variable, history_node, state_node, marks_as, marks_front, mark_new}
 
 -- what isn't a variable of the table has no link
-linked_beyond : (t : Table) (v : ℕ) (a : TyId) → IsKept t → length t.births ≤ v → LinkedTo t v a → ⊥
+pub linked_beyond : (t : Table) (v : ℕ) (a : TyId) → IsKept t → length t.births ≤ v → LinkedTo t v a → ⊥
 linked_beyond t v a k h l =
     let e : Ty.Var v ≡ whole t a = sym (k.fit.beyond v (subst (λ n. n ≤ v) (sym k.next) h)) ∙ l.whole in
     let i : v < (state t).next = whole_below t a k l.has v (subst (λ u. occurs v u ≡ true) e (eq-eqb v v refl)) in

@@ -112,7 +112,7 @@ history_entry t e h m = record {
 }
 
 -- a variable more
-rank_front : (t : Table) (b : Birth) (a : TyId) → Has t a → rank (with_variable_of b t) a ≡ rank t a
+pub rank_front : (t : Table) (b : Birth) (a : TyId) → Has t a → rank (with_variable_of b t) a ≡ rank t a
 rank_front t b (id.Variable v) h = ap (λ (x : Birth). cond x.rigid 0 (v + 1)) (get_or_append_left t.births (b ∷ []) _ v h)
 rank_front t b (id.Made i) h = refl
 
@@ -120,7 +120,7 @@ head_front : (t : Table) (b : Birth) (a : TyId) → IsHead t a → IsHead (with_
 head_front t b (id.Variable v) h = h
 head_front t b (id.Made i) h = h
 
-has_front : (t : Table) (b : Birth) (a : TyId) → Has t a → Has (with_variable_of b t) a
+pub has_front : (t : Table) (b : Birth) (a : TyId) → Has t a → Has (with_variable_of b t) a
 has_front t b a h = id_more _ _ _ _ a (let k : length (t.births ++ b ∷ []) ≡ length t.births + 1 = length_snoc t.births b in
     omega (arith, k)) (omega arith) h
 
@@ -242,7 +242,7 @@ state_node t x h = after_alike (made (t.nodes ++ x ∷ [])) (made t.nodes) (born
 pub whole_node : (t : Table) (x : Node) (a : TyId) → IsHistory t → Has t a → whole (with_node_of x t) a ≡ whole t a
 whole_node t x a h l = ap₂ (λ (s : State) u. put s.stands u) (state_node t x h) (type_front t.nodes (x ∷ []) (length t.births) a l)
 
-has_node : (t : Table) (x : Node) (a : TyId) → Has t a → Has (with_node_of x t) a
+pub has_node : (t : Table) (x : Node) (a : TyId) → Has t a → Has (with_node_of x t) a
 has_node t x a h = id_more _ _ _ _ a (omega arith)
     (let k : length (t.nodes ++ x ∷ []) ≡ length t.nodes + 1 = length_snoc t.nodes x in omega (arith, k)) h
 
@@ -250,7 +250,7 @@ head_node : (t : Table) (x : Node) (a : TyId) → IsHead t a → IsHead (with_no
 head_node t x (id.Variable v) h = h
 head_node t x (id.Made i) h = h
 
-rank_node : (t : Table) (x : Node) (a : TyId) → rank (with_node_of x t) a ≡ rank t a
+pub rank_node : (t : Table) (x : Node) (a : TyId) → rank (with_node_of x t) a ≡ rank t a
 rank_node t x (id.Variable v) = refl
 rank_node t x (id.Made i) = refl
 

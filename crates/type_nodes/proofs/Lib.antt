@@ -4,3 +4,4 @@ pub mod Playing
 pub mod Binding
 pub mod Histories
 pub mod Cells
+pub mod Ways

@@ -2,3 +2,4 @@ pub mod Nodes
 pub mod Facts
 pub mod Tables
 pub mod Keeping
+pub mod Ways

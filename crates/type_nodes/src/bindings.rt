@@ -1,10 +1,10 @@
 //! Variables and nodes with what was put in for variables.
 
-ghost use Rattle.std.specs.Prelude.{◌≡◌, ◌<◌, ◌≤◌, ◌-◌, [], length, slice_get, Some, OnOk, IfOk, OnErr};
+ghost use Rattle.std.specs.Prelude.{◌≡◌, ◌<◌, ◌≤◌, ◌-◌, [], length, slice_get, Some, OnOk, IfOk, IfSome, OnErr};
 ghost use Rattle.type_nodes.specs.Nodes.{IsNode};
 ghost use Rattle.type_nodes.specs.Facts.{facts_of};
 ghost use Rattle.unification.specs.Instances.{with_variable};
-ghost use Rattle.type_nodes.specs.Tables.{Has, store_of, type_of, state, whole, LinkOf, IsEnd, with_variable_of, with_node_of, with_entry, cut, IsFrontOf, bound_in, marked_state};
+ghost use Rattle.type_nodes.specs.Tables.{Has, store_of, type_of, state, whole, LinkOf, LinkedTo, IsEnd, with_variable_of, with_node_of, with_entry, cut, IsFrontOf, bound_in, marked_state};
 ghost use Rattle.type_nodes.specs.Keeping.{MayStand, MayMark, IsKept, IsHistory, last_variable, links_without, marks_without};
 
 use crate::both::push_both;
@@ -13,6 +13,7 @@ use crate::facts::Facts;
 use crate::mark::Mark;
 use crate::node::{Birth, Node};
 use crate::nodes::TypeNodes;
+use crate::way::{Way, next_era, set_way, way_at};
 use cm_base::NoMemory;
 use semantic_objects::TyId;
 use std::alloc::Global;
@@ -26,18 +27,20 @@ pub struct TypeBindings {
     links: Vec<Option<TyId>>,
     marks: Vec<bool>,
     trail: Vec<Entry>,
+    ways: Vec<Option<Way>>,
+    era: usize,
 }
 
 impl Model for TypeBindings {
     ghost use Rattle.type_nodes.specs.Tables.{Table};
-    ghost use Rattle.type_nodes.specs.Keeping.{IsTable};
+    ghost use Rattle.type_nodes.specs.Ways.{IsShortened};
 
     ghost Value = { Table };
 
     ghost view = { λ t. record { births = t.types.births; nodes = t.types.nodes; trail = t.trail.items } };
 
-    ghost invariant = { λ t. IsTable (record { births = t.types.births; nodes = t.types.nodes; trail = t.trail.items })
-        t.links.items t.marks.items };
+    ghost invariant = { λ t. IsShortened (record { births = t.types.births; nodes = t.types.nodes; trail = t.trail.items })
+        t.links.items t.marks.items t.ways.items t.era };
 }
 
 /// Takes an entry back from the links and the marks.
@@ -63,6 +66,8 @@ impl TypeBindings {
             links: Vec::new(alloc),
             marks: Vec::new(alloc),
             trail: Vec::new(alloc),
+            ways: Vec::new(alloc),
+            era: 0,
         }
     }
 
@@ -157,12 +162,84 @@ impl TypeBindings {
         Ok(self.types.add_node(node)?)
     }
 
+    /// The way that is known from a variable, if nothing was undone since it was found.
+    fn way(&self, variable: usize) -> Option<TyId>
+        ensures { IfSome result (LinkedTo self.now variable) }
+    {
+        match way_at(&self.ways, variable) {
+            Some(way) => {
+                if way.era == self.era && self.era < usize::MAX {
+                    Some(way.to)
+                } else {
+                    None
+                }
+            }
+            None => None,
+        }
+    }
+
     /// What a variable got.
-    fn link(&self, variable: usize) -> Option<TyId>
+    fn got(&self, variable: usize) -> Option<TyId>
         requires { variable < length self.now.births }
         ensures { LinkOf self.now variable result }
     {
         self.links[variable]
+    }
+
+    /// What a variable comes to next, if anything stands for it.
+    fn link(&self, variable: usize) -> Option<TyId>
+        requires { variable < length self.now.births }
+        ensures { LinkOf self.now variable result }
+    {
+        match self.way(variable) {
+            Some(to) => Some(to),
+            None => self.got(variable),
+        }
+    }
+
+    /// Keeps a way from a variable.
+    fn keep_way(&mut self, variable: usize, to: TyId)
+        requires { LinkedTo self.old variable to }
+        ensures { self.new ≡ self.old }
+    {
+        let era = self.era;
+        set_way(&mut self.ways, variable, Way { to, era });
+    }
+
+    /// What a variable comes to in two steps, if there are two. That is one step from now on.
+    fn skip(&mut self, variable: usize, to: TyId) -> TyId
+        requires { LinkedTo self.old variable to }
+        ensures linked { LinkedTo self.old variable result }
+        ensures same { self.new ≡ self.old }
+    {
+        match to {
+            TyId::Variable(next) => match self.link(next) {
+                Some(further) => {
+                    self.keep_way(variable, further);
+                    further
+                }
+                None => to,
+            },
+            TyId::Made(_) => to,
+        }
+    }
+
+    /// The same as `head`, and the way there is half as long from now on, until something is undone.
+    pub fn shorten(&mut self, id: TyId) -> TyId
+        requires { Has self.old id }
+        ensures has { Has self.old result }
+        ensures whole { whole self.old result ≡ whole self.old id }
+        ensures end { IsEnd self.old result }
+        ensures same { self.new ≡ self.old }
+    {
+        let mut at = id;
+        while let TyId::Variable(variable) = at {
+            match self.link(variable) {
+                Some(to) => at = self.skip(variable, to),
+                None => return at,
+            }
+        }
+        at
     }
 
     /// Whether a variable is an equality variable.
@@ -220,6 +297,7 @@ impl TypeBindings {
     {
         if let Some(last) = self.trail.pop() {
             take_back(last, &mut self.links, &mut self.marks);
+            self.era = next_era(self.era);
         }
     }
 
@@ -256,5 +334,6 @@ impl TypeBindings {
         self.types.truncate(variables, to.nodes);
         self.links.truncate(variables);
         self.marks.truncate(variables);
+        self.era = next_era(self.era);
     }
 }

@@ -9,6 +9,7 @@ mod facts;
 mod mark;
 mod node;
 mod nodes;
+mod way;
 
 pub use bindings::TypeBindings;
 pub use entry::Entry;

@@ -1,28 +1,33 @@
-use Rattle.std.proofs.Common.{arith, sym, ◌∙◌}
-use Rattle.semantic_objects.specs.declared.name.TyId.TheVariants as id
-use Rattle.sml_types.proofs.Pairing.{meeting_variables, meeting_left, meeting_right, meeting_as}
+use Rattle.std.proofs.Common.{◌≡◌, sym, ◌∙◌, subst}
+use Rattle.type_nodes.specs.Tables.{Has, state, type_of}
+use Rattle.sml_types.specs.Unifying.{Grown, NamesOwn}
+use Rattle.sml_types.specs.Pairs.{Meeting, meeting_answer, AreThese, AreOne}
 use Rattle.sml_types.proofs.unify.meet.Goals as goal
 
-pub returns-in-Variable-Variable-clause-answer : goal.returns-in-Variable-Variable-clause-answer
-returns-in-Variable-Variable-clause-answer c = let k = c.in-Variable-Variable in
-    meeting_variables c.args.table.now c.link.new.table c.args.depth k.v k.w c.args.left c.args.right c.args.pairs.now
-    c.link.result c.is_kept.ensures.kept (omega arith) (sym k.ensures.whole ∙ k.ensures.end.1)
-    (sym k.ensures'.whole ∙ k.ensures'.end.1) c.link.ensures.answer
+pub shorten-requires-2 : goal.shorten-requires-2
+shorten-requires-2 c = subst (λ t. Has t c.args.right) (sym c.shorten.ensures.same) c.requires.right
 
-pub returns-in-Variable-Made-clause-answer : goal.returns-in-Variable-Made-clause-answer
-returns-in-Variable-Made-clause-answer c = let k = c.in-Variable-Made in
-    meeting_left c.args.table.now c.solve.new.table c.args.depth k.v k.i c.args.left c.args.right c.args.pairs.now
-    c.solve.result c.is_kept.ensures.kept (omega arith) k.ensures'.has (sym k.ensures.whole ∙ k.ensures.end.1)
-    k.ensures'.whole c.solve.ensures.answer
+pub meet_ends-requires-clause-left : goal.meet_ends-requires-clause-left
+meet_ends-requires-clause-left c =
+    subst (λ t. Has t c.args.left) (sym (c.shorten-2.ensures.same ∙ c.shorten.ensures.same)) c.requires.left
 
-pub returns-in-Made-Variable-clause-answer : goal.returns-in-Made-Variable-clause-answer
-returns-in-Made-Variable-clause-answer c = let k = c.in-Made-Variable in
-    meeting_right c.args.table.now c.solve-in-Made-Variable.new.table c.args.depth k.v k.i c.args.left c.args.right
-    c.args.pairs.now c.solve-in-Made-Variable.result c.is_kept.ensures.kept (omega arith) k.ensures.has k.ensures.whole
-    (sym k.ensures'.whole ∙ k.ensures'.end.1) c.solve-in-Made-Variable.ensures.answer
+pub meet_ends-requires-clause-right : goal.meet_ends-requires-clause-right
+meet_ends-requires-clause-right c =
+    subst (λ t. Has t c.args.right) (sym (c.shorten-2.ensures.same ∙ c.shorten.ensures.same)) c.requires.right
 
-pub returns-in-Made-Made-clause-answer : goal.returns-in-Made-Made-clause-answer
-returns-in-Made-Made-clause-answer c = let k = c.in-Made-Made in
-    meeting_as c.args.table.now c.args.table.now c.args.depth c.args.left c.args.right (id.Made k.i) (id.Made k.j)
-    c.args.pairs.now c.meet_nodes.new.pairs c.meet_nodes.result c.is_kept.ensures.kept k.ensures.whole k.ensures'.whole
-    c.meet_nodes.ensures.answer
+pub meet_ends-requires-clause-one : goal.meet_ends-requires-clause-one
+meet_ends-requires-clause-one c =
+    subst (λ t. AreOne t (state t) c.args.same.now) (sym (c.shorten-2.ensures.same ∙ c.shorten.ensures.same)) c.requires.one
+
+pub returns-clause-answer : goal.returns-clause-answer
+returns-clause-answer c = subst (λ t. Meeting t c.meet_ends.new.table (meeting_answer t c.args.depth c.args.left c.args.right c.args.pairs.now)
+    (AreThese (state t) (type_of t c.args.left) (type_of t c.args.right)) c.args.pairs.now c.meet_ends.new.pairs c.meet_ends.result)
+    (c.shorten-2.ensures.same ∙ c.shorten.ensures.same) c.meet_ends.ensures.answer
+
+pub returns-clause-named : goal.returns-clause-named
+returns-clause-named c = subst (λ t. NamesOwn t c.meet_ends.result) (c.shorten-2.ensures.same ∙ c.shorten.ensures.same)
+    c.meet_ends.ensures.named
+
+pub returns-clause-grown : goal.returns-clause-grown
+returns-clause-grown c = subst (λ t. Grown t c.meet_ends.new.table) (c.shorten-2.ensures.same ∙ c.shorten.ensures.same)
+    c.meet_ends.ensures.grown

@@ -3,11 +3,15 @@ use Rattle.type_nodes.specs.Tables.{state, whole, bound_in}
 use Rattle.type_nodes.specs.Keeping.{MayStand}
 use Rattle.type_nodes.proofs.Binding.{state_bound}
 use Rattle.type_nodes.proofs.Cells.{table_bound}
+use Rattle.type_nodes.proofs.Ways.{ways_bound}
 use Rattle.type_nodes.proofs.bindings.TypeBindings.bind.Goals as goal
 
 pub invariant_of-self-2 : goal.invariant_of-self-2
-invariant_of-self-2 c = rw c.in_ok-push.ensures.items (table_bound _ _ _ c.args.variable c.args.to c.self.invariant
-    (subst (λ t. MayStand t c.args.variable c.args.to) (sym c.self.view_is) c.requires))
+invariant_of-self-2 c = rw c.in_ok-push.ensures.items (record {
+  table = table_bound _ _ _ c.args.variable c.args.to c.self.invariant.table
+      (subst (λ t. MayStand t c.args.variable c.args.to) (sym c.self.view_is) c.requires);
+  ways = ways_bound _ c.args.variable c.args.to _ _ c.self.invariant.ways;
+})
 
 pub returns-clause-state : goal.returns-clause-state
 returns-clause-state c = rw c.in_ok-push.ensures.items (state_bound (record { births = c.self.inside.types.births; nodes = c.self.inside.types.nodes; trail = c.self.inside.trail.items }) c.args.variable c.args.to
