@@ -18,10 +18,11 @@ add_record-requires c =
 pub returns-in_ok-fields-in-Record : goal.returns-in_ok-fields-in-Record
 returns-in_ok-fields-in-Record c =
     let old = c.args.table.now in
-    let rows : rows_at c.args.table.now c.as_slice.result.now ≡ zip c.in-Record.labels (nodes_at c.args.table.now c.args.parts.now) =
+    let rows : rows_at c.args.table.now c.as_slice.result.now
+    ≡ zip c.in-Record.labels (nodes_at c.args.table.now c.args.parts.now) =
     rows_zip old c.as_slice.result.now c.in-Record.labels c.args.parts.now
     (ap (map pair_of) c.as_slice.ensures ∙ c.in_ok-fields-in-Record.ensures) in
     subst (λ (z : Symbol). IfOk c.add_record.result (Adds c.args.table.now c.add_record.new.table
     (node_over c.args.home.now z (nodes_at c.args.table.now c.args.parts.now)))) (sym c.in-Record.is)
-    (subst (λ (z : List (List ℕ × Node)). IfOk c.add_record.result (Adds c.args.table.now c.add_record.new.table (record_node z))) rows
-    c.add_record.ensures.ok)
+    (subst (λ (z : List (List ℕ × Node)). IfOk c.add_record.result
+    (Adds c.args.table.now c.add_record.new.table (record_node z))) rows c.add_record.ensures.ok)
