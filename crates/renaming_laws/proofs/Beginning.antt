@@ -44,7 +44,7 @@ rows_stay : {A : Type 0} (R : A → Type 0) (f : A → A) (rows : Table A) → (
 rows_stay R f [] g h = refl
 rows_stay R f (row ∷ rows) g h = ap₂ (λ x rest. (row.0, x) ∷ rest) (g row.1 h.0) (rows_stay R f rows g h.1)
 
-rows_twice : {A : Type 0} (f g p q : A → A) (rows : Table A) → ((x : A) → f (g x) ≡ p (q x))
+pub rows_twice : {A : Type 0} (f g p q : A → A) (rows : Table A) → ((x : A) → f (g x) ≡ p (q x))
     → each_entry f (each_entry g rows) ≡ each_entry p (each_entry q rows)
 rows_twice f g p q [] h = refl
 rows_twice f g p q (row ∷ rows) h = ap₂ (λ x rest. (row.0, x) ∷ rest) (h row.1) (rows_twice f g p q rows h)
@@ -105,7 +105,7 @@ mutual
 
 -- ---- what is known moves too
 
-abbrev Follows : ℕ → Substitution → Substitution → Type 0
+abbrev pub Follows : ℕ → Substitution → Substitution → Type 0
 Follows k p q = (n : ℕ) → q (n + k) ≡ put (moved k) (p n)
 
 mutual
@@ -136,7 +136,7 @@ value_known : (k : ℕ) (p q : Substitution) (v : ValueEntry) → Follows k p q
 value_known k p q v h = ap (value_of v) (tree_known k p q v.scheme.body h)
 
 mutual
-  env_known : (k : ℕ) (p q : Substitution) (env : Env) → Follows k p q
+  pub env_known : (k : ℕ) (p q : Substitution) (env : Env) → Follows k p q
       → put_env q (put_env (moved k) env) ≡ put_env (moved k) (put_env p env)
   env_known k p q (Env.MakeEnv ss ts vs) h =
       ap (λ z. Env.MakeEnv z (each_entry (put_type q) (each_entry (put_type (moved k)) ts))

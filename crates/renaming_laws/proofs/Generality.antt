@@ -17,7 +17,7 @@ use Rattle.renaming_laws.proofs.Answers.{mapped}
 -- ---- trees
 
 mutual
-  same_moved : (k : ℕ) (t u : Tree) → same_tree (put_tree (moved k) t) (put_tree (moved k) u) ≡ same_tree t u
+  pub same_moved : (k : ℕ) (t u : Tree) → same_tree (put_tree (moved k) t) (put_tree (moved k) u) ≡ same_tree t u
   same_moved k (Tree.Bound i) (Tree.Bound j) = refl
   same_moved k (Tree.Bound i) (Tree.Free m) = refl
   same_moved k (Tree.Bound i) (Tree.Made d us) = refl
@@ -37,7 +37,7 @@ mutual
       ap₂ (λ a b. a && b) (same_moved k t u) (same_all_moved k ts us)
 
 mutual
-  admits_moved : (k : ℕ) (b q p : Marks) (t : Tree) → ((n : ℕ) → p (n + k) ≡ q n)
+  pub admits_moved : (k : ℕ) (b q p : Marks) (t : Tree) → ((n : ℕ) → p (n + k) ≡ q n)
       → tree_admits b p (put_tree (moved k) t) ≡ tree_admits b q t
   admits_moved k b q p (Tree.Bound i) h = refl
   admits_moved k b q p (Tree.Free n) h = h n
@@ -130,7 +130,7 @@ both_found k None (Some g) h = absurd h
 both_found k (Some f) None h = absurd h
 both_found k (Some f) (Some g) h = refl
 
-covers_moved : (k : ℕ) (s r : State) (g h : TypeScheme) → IsMoved k s r
+pub covers_moved : (k : ℕ) (s r : State) (g h : TypeScheme) → IsMoved k s r
     → covers r (put_scheme (moved k) g) (put_scheme (moved k) h) ≡ covers s g h
 covers_moved k s r g h l =
     let other : ℕ → Tree → Bool = may_stand r (put_scheme (moved k) g) (put_scheme (moved k) h) in
@@ -171,7 +171,7 @@ mutual
 abbrev scheme_of : List Bool → Tree → TypeScheme
 scheme_of marks body = record { marks = marks; body = body }
 
-canonical_moved : (k : ℕ) (σ : TypeScheme)
+pub canonical_moved : (k : ℕ) (σ : TypeScheme)
     → canonical_scheme (put_scheme (moved k) σ) ≡ put_scheme (moved k) (canonical_scheme σ)
 canonical_moved k σ =
     ap (λ vs. scheme_of (map (mark_of σ.marks) vs) (plug (λ i. Tree.Bound (place_of i vs)) (put_tree (moved k) σ.body)))

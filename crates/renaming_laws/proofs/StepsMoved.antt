@@ -119,7 +119,7 @@ let_moved k sc at from to also until t st u e f h =
 
 -- ---- written variables
 
-abbrev RowsMove : ℕ → List (List ℕ × ℕ) × Progress → List (List ℕ × ℕ) × Progress → Type 0
+abbrev pub RowsMove : ℕ → List (List ℕ × ℕ) × Progress → List (List ℕ × ℕ) × Progress → Type 0
 RowsMove k = MovesIn k (later_rows k)
 
 either_rows : (k : ℕ) (b c : Bool) (x y z w : List (List ℕ × ℕ) × Progress) → c ≡ b → RowsMove k x z → RowsMove k y w
@@ -129,7 +129,7 @@ either_rows k false false x y z w e h l = l
 either_rows k true false x y z w e h l = absurd (cc)
 either_rows k false true x y z w e h l = absurd (cc)
 
-implicit_moved : (k : ℕ) (outer : List (List ℕ × Ty)) (texts : List (List ℕ)) (before : List (List ℕ × ℕ))
+pub implicit_moved : (k : ℕ) (outer : List (List ℕ × Ty)) (texts : List (List ℕ)) (before : List (List ℕ × ℕ))
     (st u : Progress)
     → AreMoved k st u
     → RowsMove k (implicit outer texts before st) (implicit (put_rows (moved k) outer) texts (later_rows k before) u)

@@ -123,7 +123,7 @@ listed_moved k sc (name ∷ names) before st u h =
     (new_rigid name.text u)
     (rigid_moved k name.text st u h)))
 
-numbers_moved : (k : ℕ) (rows : List (List ℕ × ℕ)) → numbers (later_rows k rows) ≡ later k (numbers rows)
+pub numbers_moved : (k : ℕ) (rows : List (List ℕ × ℕ)) → numbers (later_rows k rows) ≡ later k (numbers rows)
 numbers_moved k [] = refl
 numbers_moved k (row ∷ rows) = ap (λ z. (row.1 + k) ∷ z) (numbers_moved k rows)
 
@@ -206,7 +206,7 @@ type_of_body name ts = plain_type (record {
   body = Tree.Made (symbol.Name name) ts;
 })
 
-own_stays : (k : ℕ) (name : TyName) → put_type (moved k) (own_type name) ≡ own_type name
+pub own_stays : (k : ℕ) (name : TyName) → put_type (moved k) (own_type name) ≡ own_type name
 own_stays k name = ap (type_of_body name) (closed_own k (counted name.arity 0) (counted name.arity 0) (λ n e. e))
 
 new_types_moved : (k : ℕ) (sc : Scope) (binds : List DatPhrase) (number : ℕ) (made : Env)
@@ -225,7 +225,7 @@ new_types_moved k sc (bind ∷ binds) number made =
     ∙ put_with_type (moved k) bind.name.text str made))
     (new_types_moved k sc binds (suc number) (with_type bind.name.text str made)))
 
-optional_moved : (k : ℕ) (sc : Scope) (ty : Option TyPhrase)
+pub optional_moved : (k : ℕ) (sc : Scope) (ty : Option TyPhrase)
     → Both (Moves (mapped (put (moved k)))) (infer_optional_ty sc ty) (infer_optional_ty (put_scope (moved k) sc) ty)
 optional_moved k sc None = refl
 optional_moved k sc (Some ty) = plain_then (put (moved k)) (Moves (mapped (put (moved k)))) (infer_ty sc ty)
@@ -476,7 +476,7 @@ replication_moved k sc name long =
     (put_found (moved k) (put_type (moved k)) types (put_has_types (moved k)) long.parts sc.env))
     (λ str. put_datatype (moved k) name.text str empty_env)
 
-exception_moved : (k : ℕ) (t : Ty) → exception_entry (put (moved k) t) ≡ put_value (moved k) (exception_entry t)
+pub exception_moved : (k : ℕ) (t : Ty) → exception_entry (put (moved k) t) ≡ put_value (moved k) (exception_entry t)
 exception_moved k t = ap (λ x. let v : ValueEntry = record {
   status = (exception_entry t).status;
   scheme = record { marks = []; body = x };
