@@ -94,7 +94,8 @@ mutual
       (λ e. or_left (binds i x) (binds_any i xs) (binds_put s i x e))
       (λ e. or_right (binds i x) (binds_any i xs) (binds_put_any s i xs e))
 
-module _ (kept : ℕ → Bool) (p u : State) (h : IsFit u) (r : Reopened (λ v. not (kept v)) p u) (t : Ty) where
+module _ (kept closes : ℕ → Bool) (p u : State) (h : IsFit u) (r : Reopened closes p u) (t : Ty)
+    (agree : (n : ℕ) → occurs n (put u.stands t) ≡ true → closes n ≡ not (kept n)) where
   abbrev vs : List ℕ
   vs = found_in kept (put u.stands t) []
 
@@ -102,7 +103,7 @@ module _ (kept : ℕ → Bool) (p u : State) (h : IsFit u) (r : Reopened (λ v. 
   filling i = Ty.Var (get_or (shifted r.from vs) i 0)
 
   -- a variable of the type that isn't among those found is kept
-  kept_or : (n : ℕ) → occurs n (put u.stands t) ≡ true → is_among n vs ≡ false → kept n ≡ true
+  pub kept_or : (n : ℕ) → occurs n (put u.stands t) ≡ true → is_among n vs ≡ false → kept n ≡ true
   kept_or n e a = either_way (kept n) (λ k. k)
       (λ k. absurd (not_both (is_among n vs) a (found_all kept n (put u.stands t) [] e k)))
 
@@ -111,12 +112,12 @@ module _ (kept : ℕ → Bool) (p u : State) (h : IsFit u) (r : Reopened (λ v. 
   closed_as n e true a =
       ap Ty.Var (get_shifted r.from vs (place_of n vs) (place_below n vs a)
       ∙ ap (λ z. r.from + z) (stands_there n vs a))
-      ∙ sym (r.closed n (ap not (found_only (λ m. kept m ≡ false) kept (put u.stands t) [] (λ m i. absurd (cc))
-      (λ m i j. j) n a)) (known_itself u n t h.settled e))
+      ∙ sym (r.closed n (agree n e ∙ ap not (found_only (λ m. kept m ≡ false) kept (put u.stands t) []
+      (λ m i. absurd (cc)) (λ m i j. j) n a)) (known_itself u n t h.settled e))
   closed_as n e false a =
       let alone : u.stands n ≡ Ty.Var n = known_itself u n t h.settled e in
-      sym (r.around (Ty.Var n) (λ v i. ap (λ z. not (kept z))
-      (eqb-true v n (subst (λ z. occurs v z ≡ true) alone i)) ∙ ap not (kept_or n e a)))
+      sym (r.around (Ty.Var n) (λ v i. ap closes (eqb-true v n (subst (λ z. occurs v z ≡ true) alone i))
+      ∙ agree n e ∙ ap not (kept_or n e a)))
 
   opened : fill filling Ty.Var (put_tree p.stands (closed_over vs (put u.stands t))) ≡ put r.inside.stands t
   opened = fill_put filling p.stands (closed_over vs (put u.stands t))

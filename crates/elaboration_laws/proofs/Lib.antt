@@ -9,4 +9,6 @@ pub mod Core
 pub mod Reopening
 pub mod Closing
 pub mod Keeping
+pub mod Around
+pub mod Schemes
 pub mod Promised

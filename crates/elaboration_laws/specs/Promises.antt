@@ -1,6 +1,6 @@
 -- The laws, as the public functions of this crate state them.
-use Rattle.std.specs.Prelude.{◌≡◌, ℕ, ◌+◌, Bool, false, not}
-use Rattle.unification.specs.Types.{Ty, Substitution, State, put}
+use Rattle.std.specs.Prelude.{◌≡◌, ℕ, ◌+◌, Bool, true, false, not}
+use Rattle.unification.specs.Types.{Ty, Substitution, State, put, occurs}
 use Rattle.unification.specs.Unification.{Solves}
 use Rattle.unification.specs.Fitting.{IsFit}
 use Rattle.bare_phrases.specs.Phrases.{TyPhrase, PatPhrase, ExpPhrase, Rules, DecPhrase}
@@ -45,10 +45,11 @@ pub record ExpressionsHaveDerivations : Type 0 where
 -- from a choice that solves the state in which types were closed, and any closed variables, there is a choice for what
 -- was inferred inside: it solves the state too, is the one around where no closed variable stands, and puts differing
 -- variables, which stand nowhere around, for the closed ones. Under the choice around, the scheme of a type that is
--- closed over all its variables but the kept ones closes the type inside
+-- closed over all its variables but the kept ones closes the type inside, where these are the closed ones of the type
 pub record ClosedVariablesReopen : Type 0 where
   pub reopened : (closes : ℕ → Bool) (p u : State) → IsFit u → Solves p u → Reopened closes p u
-  pub types : (kept : ℕ → Bool) (p u : State) → IsFit u → (r : Reopened (λ v. not (kept v)) p u) (t : Ty)
+  pub types : (kept closes : ℕ → Bool) (p u : State) → IsFit u → (r : Reopened closes p u) (t : Ty)
+      → ((n : ℕ) → occurs n (put u.stands t) ≡ true → closes n ≡ not (kept n))
       → OpenInside kept p u r.inside r.from t
   -- what is kept in a scope under a choice; what stands for the closed variables isn't
   pub kept : (s : Substitution) (v : ℕ) (sc : Scope) → is_kept (put_scope s sc) Ty.Var v ≡ is_kept sc s v
