@@ -37,7 +37,7 @@ pub fn push_type(
 }
 
 /// A list of one id.
-fn alone(alloc: Global, id: TyId) -> Result<List<TyId>, NoMemory>
+pub fn alone(alloc: Global, id: TyId) -> Result<List<TyId>, NoMemory>
     ensures { IfOk result (λ ids. ids ≡ id ∷ []) }
 {
     let mut ids = List::new(alloc);
@@ -181,6 +181,7 @@ impl TableScene {
             (b"unify", [left, right]) => self.unify(left, right),
             (b"covers", [general, special, kept @ ..]) => self.covers(general, special, kept),
             (b"undone", [left, right]) => self.undone(left, right),
+            (b"declare", [first, second]) => self.declare(first, second),
             _ => Ok(None),
         }
     }

@@ -223,6 +223,7 @@ impl TableScene {
         match (step, words) {
             (b"wide", []) => self.wide(count),
             (b"unify-times", [left, right]) => self.often(left, right, count),
+            (b"declare-times", [first, second]) => self.declare_times(first, second, count),
             (form, [ty]) => match form_of(form) {
                 Some(form) => self.deep(form, ty, count),
                 None => Ok(None),

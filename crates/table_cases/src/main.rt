@@ -1,6 +1,7 @@
 //! Cases of tables of types: each step is a call, with what it answers.
 #![tactic(auto)]
 
+mod aging;
 mod asking;
 mod growing;
 mod kind;

@@ -1,4 +1,3 @@
-use Rattle.semantic_objects.specs.declared.name.TyId.{TyId}
 use Rattle.type_nodes.specs.Tables.{Has}
 use Rattle.table_cases.proofs.growing.nested.Given as goal
 

@@ -1,4 +1,4 @@
-use Rattle.table_cases.proofs.Having.{have_nothing, have_snoc, have_later, new_has}
+use Rattle.table_cases.proofs.Having.{have_nothing}
 use Rattle.table_cases.proofs.growing.variables.Goals as goal
 
 pub loop-init : goal.loop-init

@@ -1,5 +1,4 @@
-use Rattle.sml_types.proofs.Freezing.{fronts_then, front_to}
-use Rattle.table_cases.proofs.Having.{new_has, front_stays}
+use Rattle.table_cases.proofs.Having.{new_has}
 use Rattle.table_cases.proofs.undoing.push_arrow.Goals as goal
 
 pub arrow-requires-clause-from : goal.arrow-requires-clause-from
