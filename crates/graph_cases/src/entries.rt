@@ -90,7 +90,7 @@ fn read_con(alloc: Global, word: &[u8]) -> Result<Option<ConEntry>, NoMemory> {
 }
 
 /// The type function that is written.
-fn read_function(alloc: Global, word: &[u8]) -> Result<Option<TypeFn>, NoMemory> {
+pub fn read_function(alloc: Global, word: &[u8]) -> Result<Option<TypeFn>, NoMemory> {
     let Some((arity, letters)) = at_colon(word) else {
         return Ok(None);
     };

@@ -10,6 +10,7 @@ mod scene;
 mod steps_of_envs;
 mod steps_of_names;
 mod steps_of_tops;
+mod steps_of_walks;
 
 use case_files::{Case, CaseFault, Kinds, Report, Wrong, run_cases};
 use case_texts::take_steps;

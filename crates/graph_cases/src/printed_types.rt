@@ -13,8 +13,14 @@ fn name_letter(name: &TyName) -> &'static [u8] {
             4 => b"l",
             _ => b"?",
         },
-        Owner::Unit(_) => b"u",
-        Owner::Bound => b"m",
+        Owner::Unit(_) => match name.number {
+            0 => b"u",
+            _ => b"k",
+        },
+        Owner::Bound => match name.number {
+            0 => b"m",
+            _ => b"p",
+        },
     }
 }
 

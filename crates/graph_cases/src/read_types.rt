@@ -1,6 +1,7 @@
 //! Types as a case writes them, the parts before what stands over them: `0` to `9` for the variables of a scheme, `a`
 //! to `h` for those of a table, `i`, `m` and `u` for type names of the basis, of a binder and of a unit, `l` for
-//! lists of one, `>` for functions of two.
+//! lists of one, `k` for another name of the unit over one, `p` for another one of the binder over two, `>` for
+//! functions of two.
 
 ghost use Rattle.std.specs.Prelude.{IsTrue};
 ghost use Rattle.semantic_objects.specs.Trees.{BindsBelow};
@@ -24,17 +25,61 @@ fn name_tree(alloc: Global, owner: Owner, number: u64) -> Result<TypeTree, NoMem
     TypeTree::make(alloc, TreePart::Named(name, List::new(alloc)))
 }
 
-/// The type name of lists over one type.
-fn list_tree(alloc: Global, item: TypeTree) -> Result<TypeTree, NoMemory> {
+/// A type name over one type.
+fn over_one(
+    alloc: Global,
+    owner: Owner,
+    number: u64,
+    item: TypeTree,
+) -> Result<TypeTree, NoMemory> {
     let name = TyName {
-        owner: Owner::Basis,
-        number: 4,
+        owner,
+        number,
         arity: 1,
         eq: true,
     };
     let mut args = List::new(alloc);
     args.add(item)?;
     TypeTree::make(alloc, TreePart::Named(name, args))
+}
+
+/// The binder's name over two types, the last two.
+fn over_two(alloc: Global, stack: &mut List<TypeTree>) -> Result<Option<TypeTree>, NoMemory> {
+    match (stack.pop(), stack.pop()) {
+        (Some(second), Some(first)) => {
+            let name = TyName {
+                owner: Owner::Bound,
+                number: 1,
+                arity: 2,
+                eq: true,
+            };
+            let mut args = List::new(alloc);
+            args.add(first)?;
+            args.add(second)?;
+            Ok(Some(TypeTree::make(alloc, TreePart::Named(name, args))?))
+        }
+        _ => Ok(None),
+    }
+}
+
+/// The name that a letter writes, if it writes one.
+pub fn name_of(alloc: Global, letter: u8) -> Result<Option<TyName>, NoMemory> {
+    let unit = Text::from_bytes(alloc, UNIT)?;
+    let (owner, number, arity) = match letter {
+        b'i' => (Owner::Basis, 1, 0),
+        b'l' => (Owner::Basis, 4, 1),
+        b'm' => (Owner::Bound, 0, 0),
+        b'p' => (Owner::Bound, 1, 2),
+        b'u' => (Owner::Unit(unit), 0, 0),
+        b'k' => (Owner::Unit(unit), 1, 1),
+        _ => return Ok(None),
+    };
+    Ok(Some(TyName {
+        owner,
+        number,
+        arity,
+        eq: true,
+    }))
 }
 
 /// A type of one letter.
@@ -70,9 +115,17 @@ fn letter_tree(
     match letter {
         b'>' => arrow_tree(alloc, stack),
         b'l' => match stack.pop() {
-            Some(item) => Ok(Some(list_tree(alloc, item)?)),
+            Some(item) => Ok(Some(over_one(alloc, Owner::Basis, 4, item)?)),
             None => Ok(None),
         },
+        b'k' => match stack.pop() {
+            Some(item) => {
+                let unit = Text::from_bytes(alloc, UNIT)?;
+                Ok(Some(over_one(alloc, Owner::Unit(unit), 1, item)?))
+            }
+            None => Ok(None),
+        },
+        b'p' => over_two(alloc, stack),
         _ => leaf_tree(alloc, letter),
     }
 }
