@@ -1,38 +1,41 @@
 -- Expressions, matches and declarations without `val` and `datatype` have derivations.
-use Rattle.std.proofs.Common.{ℕ, List, [], ◌∷◌, sym, subst}
+use Rattle.std.proofs.Common.{◌≡◌, ℕ, List, [], ◌∷◌, ◌++◌, refl, sym, subst, Bool, true}
 use Rattle.sml_trees.specs.declared.name.At.{At}
 use Rattle.semantic_objects.specs.Tables.{Table, with_entry}
 use Rattle.semantic_objects.specs.Environments.{Env, empty_env, modified_by}
 use Rattle.unification.specs.Types.{Ty, Substitution}
 use Rattle.bare_phrases.specs.Phrases.{TypPhrase, ExpPhrase, ExpFields, Rules, DecPhrase, DecPhrases}
 use Rattle.static_semantics.specs.BasicTypes.{int_ty, string_ty, char_ty, record_ty}
-use Rattle.static_semantics.specs.Inferring.{Progress, Scope, under, name_at, unify_at, Bound, with_bound, under_bound, variable_entry}
-use Rattle.static_semantics.specs.TypeInference.{infer_ty, infer_types}
+use Rattle.static_semantics.specs.Inferring.{Progress, Scope, Answer, ◌>>=◌, under, with_written, name_at, unify_at, Bound, with_bound, under_bound, variable_entry, is_kept, sized_dec}
+use Rattle.static_semantics.specs.TypeInference.{infer_ty, as_written, infer_types}
 use Rattle.static_semantics.specs.PatternInference.{pat_at, infer_pat}
 use Rattle.static_semantics.specs.DatatypeInference.{infer_replication, exceptions_of}
-use Rattle.static_semantics.specs.CoreInference.{exp_at, known_exp, applied, joined, handled, raised, within_let, infer_open, infer_exp, infer_exp_fields, infer_match, infer_rules, infer_dec, infer_decs}
+use Rattle.static_semantics.specs.CoreInference.{exp_at, known_exp, applied, joined, handled, raised, within_let, infer_open, Group, added, own_variables, closed_val, RecPats, rec_bound, rec_groups, infer_exp, infer_exp_fields, infer_match, infer_rules, infer_binds, infer_rec_pats, infer_rec_exps, infer_dec, infer_decs}
 use Rattle.static_semantics.specs.EnvironmentsPut.{put_env, put_scope}
+use Rattle.static_semantics.specs.Nonexpansive.{is_nonexpansive}
 use Rattle.static_semantics.specs.Elaborates.{ElaboratesExp, ElaboratesDec, ElaboratesDecs}
-use Rattle.static_semantics.specs.Holding.{Given}
+use Rattle.static_semantics.specs.Holding.{Given, AllItems, AllRows}
 use Rattle.static_semantics.specs.Growing.{TyIn, Grows, IsReady}
 use Rattle.static_semantics.proofs.Holding.{given_then}
 use Rattle.static_semantics.proofs.Growing.{grows_then, ty_later, rows_later, ready_later}
 use Rattle.static_semantics.proofs.TypesGrow.{MadeIn, given_more}
 use Rattle.static_semantics.proofs.DatatypesGrow.{ready_under}
-use Rattle.static_semantics.proofs.CoreGrow.{ExpIn, ready_bound, exp_grows, match_grows, dec_grows}
+use Rattle.static_semantics.proofs.CoreGrow.{ExpIn, BindsIn, GroupsIn, RecIn, RecsIn, recs_later, rec_pats_grow, rec_bound_in, binds_grow, ready_bound, exp_grows, match_grows, dec_grows}
 use Rattle.inference_laws.specs.Alike.{FirmType, FirmValue, AnyName, FirmEnv}
 use Rattle.inference_laws.specs.Promises.{Any}
 use Rattle.inference_laws.proofs.EnvsWith.{env_with_value, env_modified}
 use Rattle.inference_laws.proofs.Firm.{dec_firm}
 use Rattle.inference_laws.proofs.Making.{given_both}
 use Rattle.elaboration_laws.specs.Derived.{ExpDerived, ExpFieldsDerived, RulesDerived, MatchDerived, DecDerived, DecsDerived}
-use Rattle.elaboration_laws.specs.Declaring.{IsPlain, ExpHas, ExpFieldsHave, RulesHave, DecHas, DecsHave}
+use Rattle.elaboration_laws.specs.Declaring.{IsFunction, AreFunctions, ClosesAlike, IsPlain, ExpHas, ExpFieldsHave, RulesHave, DecHas, DecsHave}
 use Rattle.elaboration_laws.proofs.Finding.{under_put, modified_put}
 use Rattle.elaboration_laws.proofs.Types.{given_new, TyDerived, ty_derives}
 use Rattle.elaboration_laws.proofs.Steps.{given_each, Joined, unify_known}
 use Rattle.elaboration_laws.proofs.Patterns.{PatKnown, pat_known}
 use Rattle.elaboration_laws.proofs.Expressions.{exp_sized, constant_derived, long_derived, record_derived, no_fields_derived, field_derived, let_derived, within_derived, app_derived, typed_derived, handle_derived, raise_derived, fn_derived, no_rules_derived, no_match_derived, match_derived, rule_derived}
 use Rattle.elaboration_laws.proofs.TypeBindings.{TypesDerived, types_derive}
+use Rattle.elaboration_laws.proofs.Bindings.{HaveFlag, BindsDerived, no_binds_derived, bind_derived, RecPatsDerived, rec_pats_derive, RecExpsDerived, no_rec_exps_derived, rec_exp_derived}
+use Rattle.elaboration_laws.proofs.Vals.{inner_scope, val_groups, val_derived, closed_given, sized_given, no_own}
 use Rattle.elaboration_laws.proofs.Declarations.{dec_sized, stateless_derived, replication_derives, ExceptionsDerived, exceptions_derive, OpenDerived, open_derives}
 
 -- ---- with what is known of how states grow
@@ -120,6 +123,77 @@ sequence_derived sc decs at st r h = record {
   derives = λ p q. ElaboratesDec.rules_23_24 p.marks (put_scope p.stands sc) st.names r.1.names decs at
       (put_env p.stands r.0) (h.derives p q);
 }
+
+-- ---- `val`
+
+abbrev BindsKnown : Scope → Rules → Bound → List Group → Progress → Bound × List Group × Progress → Type 0
+BindsKnown sc rules bound groups st r = BindsIn Any st r × BindsDerived sc rules bound groups st r
+
+binds_with : (depth : ℕ) (sc : Scope) (rules : Rules) (bound : Bound) (groups : List Group) (st : Progress)
+    → IsReady Any sc st → AllRows (TyIn Any st.types) bound → GroupsIn Any st.types groups
+    → Given (BindsDerived sc rules bound groups st) (infer_binds depth sc rules bound groups st)
+    → Given (BindsKnown sc rules bound groups st) (infer_binds depth sc rules bound groups st)
+binds_with depth sc rules bound groups st h k l d =
+    given_both (BindsIn Any st) (BindsDerived sc rules bound groups st) (infer_binds depth sc rules bound groups st)
+    (binds_grow Any depth sc rules bound groups st h k l) d
+
+abbrev RecPatsKnown : Scope → Rules → RecPats → Bound → Progress → RecPats × Progress → Type 0
+RecPatsKnown sc rules made bound st r = RecsIn Any st r × RecPatsDerived sc rules made bound st r
+
+rec_pats_with : (depth : ℕ) (sc : Scope) (rules : Rules) (made : RecPats) (bound : Bound) (st : Progress)
+    → FirmEnv sc.env → IsReady Any sc st → AllItems (RecIn Any st.types) made → AllRows (TyIn Any st.types) bound
+    → Given (RecPatsKnown sc rules made bound st) (infer_rec_pats depth sc rules made bound st)
+rec_pats_with depth sc rules made bound st firm h k l =
+    given_both (RecsIn Any st) (RecPatsDerived sc rules made bound st) (infer_rec_pats depth sc rules made bound st)
+    (rec_pats_grow Any depth sc rules made bound st h k l) (rec_pats_derive depth sc rules made bound st firm h l)
+
+with_made : (sc : Scope) (dec : DecPhrase) (st : Progress) (m : Answer (Env × Progress)) → Given (MadeIn Any st) m
+    → Given (λ r. MadeIn Any st r → DecDerived sc dec st r) m → Given (DecDerived sc dec st) m
+with_made sc dec st m h k = given_more (λ r. MadeIn Any st r × (MadeIn Any st r → DecDerived sc dec st r))
+    (DecDerived sc dec st) m (λ r i. i.1 i.0)
+    (given_both (MadeIn Any st) (λ r. MadeIn Any st r → DecDerived sc dec st r) m h k)
+
+ready_inner : (sc : Scope) (st : Progress) → IsReady Any sc st → IsReady Any (inner_scope sc) st
+ready_inner sc st h = record {
+  fit = h.fit;
+  new = h.new;
+  scope = record { env = h.scope.env; written = h.scope.written };
+}
+
+-- what follows once the written variables are known
+abbrev after_own : ℕ → Scope → Rules → Rules → At → List (List ℕ × ℕ) × Progress → Answer (Env × Progress)
+after_own depth sc rules recs at own =
+    infer_binds depth (with_written (as_written own.0) sc) rules [] [] own.1
+    >>= λ b. infer_rec_pats depth (with_written (as_written own.0) sc) recs [] b.0 b.2
+    >>= λ p. infer_rec_exps depth (under_bound (rec_bound p.0) (with_written (as_written own.0) sc)) recs p.0 p.1
+    >>= λ u. closed_val sc at (is_kept sc u.types.stands) own.0 (b.1 ++ rec_groups sc.env recs p.0) u
+    >>= λ r. sized_dec sc at r
+
+function_flag : (env : Env) (exp : ExpPhrase) → IsFunction exp → is_nonexpansive env exp ≡ true
+function_flag env (ExpPhrase.Int value at) h = absurd h
+function_flag env (ExpPhrase.Str value at) h = absurd h
+function_flag env (ExpPhrase.Char value at) h = absurd h
+function_flag env (ExpPhrase.Long long at) h = absurd h
+function_flag env (ExpPhrase.Record fields at) h = absurd h
+function_flag env (ExpPhrase.Let dec body at) h = absurd h
+function_flag env (ExpPhrase.App function argument at) h = absurd h
+function_flag env (ExpPhrase.Typed exp ty at) h = function_flag env exp h
+function_flag env (ExpPhrase.Handle exp rules at) h = absurd h
+function_flag env (ExpPhrase.Raise exp at) h = absurd h
+function_flag env (ExpPhrase.Fn rules at) h = refl
+
+function_flags : (env : Env) (rules : Rules) → AreFunctions rules → HaveFlag true env rules
+function_flags env Rules.EndOfRules h = tt
+function_flags env (Rules.Rule pat exp rest) h = (function_flag env exp h.0, function_flags env rest h.1)
+
+choice : (env : Env) (rules recs : Rules) → ClosesAlike rules recs
+    → (flag : Bool) × HaveFlag flag env rules × HaveFlag flag env recs
+choice env Rules.EndOfRules recs h = (true, tt, function_flags env recs h)
+choice env (Rules.Rule pat exp Rules.EndOfRules) Rules.EndOfRules h = (is_nonexpansive env exp, (refl, tt), tt)
+choice env (Rules.Rule pat exp Rules.EndOfRules) (Rules.Rule first right more) h =
+    (true, (function_flag env exp h.0, tt), function_flags env (Rules.Rule first right more) h.1)
+choice env (Rules.Rule pat exp (Rules.Rule next right more)) recs h =
+    (true, function_flags env (Rules.Rule pat exp (Rules.Rule next right more)) h.0, function_flags env recs h.1)
 
 -- ---- the phrases
 
@@ -255,9 +329,72 @@ mutual
       (rules_derive depth sc from to rest u has.1 firm (ready_later Any sc st u h all) (ty_later Any st u from all f)
       (ty_later Any st u to all t))))))
 
+  binds_derive : (depth : ℕ) (sc : Scope) (rules : Rules) (bound : Bound) (groups : List Group) (st : Progress)
+      → RulesHave IsPlain rules → FirmEnv sc.env → IsReady Any sc st → AllRows (TyIn Any st.types) bound
+      → Given (BindsDerived sc rules bound groups st) (infer_binds depth sc rules bound groups st)
+  binds_derive depth sc Rules.EndOfRules bound groups st has firm h k = no_binds_derived sc bound groups st
+  binds_derive depth sc (Rules.Rule pat exp rest) bound groups st has firm h k =
+      let Q : Bound × List Group × Progress → Type 0 = BindsDerived sc (Rules.Rule pat exp rest) bound groups st in
+      given_then (PatKnown sc pat bound st) Q (infer_pat depth sc pat bound st) _
+      (pat_known depth sc pat bound st firm h k) (λ r i.
+      let ready : IsReady Any sc r.2 = ready_later Any sc st r.2 h i.0.0 in
+      given_then (ExpKnown sc exp r.2) Q (infer_exp depth sc exp r.2) _
+      (exp_with depth sc exp r.2 ready (exp_derives depth sc exp r.2 has.0 firm ready)) (λ e j.
+      given_then (λ u. Grows Any e.1 u × Joined r.0 e.0 e.1 u) Q (unify_at depth sc (pat_at pat) r.0 e.0 e.1) _
+      (unify_known depth sc (pat_at pat) r.0 e.0 e.1 j.0.0.fit (ty_later Any r.2 e.1 r.0 j.0.0 i.0.1) j.0.1) (λ u m.
+      let g : Grows Any r.2 u = grows_then Any r.2 e.1 u j.0.0 m.0 in
+      let more : List Group = groups ++ (is_nonexpansive sc.env exp, added bound r.1) ∷ [] in
+      given_more (BindsDerived sc rest r.1 more u) Q (infer_binds depth sc rest r.1 more u)
+      (λ v l. bind_derived sc pat exp rest bound groups st r e u v i.1 j.1 m.1 l)
+      (binds_derive depth sc rest r.1 more u has.1 firm (ready_later Any sc r.2 u ready g)
+      (rows_later Any r.2 u r.1 g i.0.2)))))
+
+  rec_exps_derive : (depth : ℕ) (sc inner : Scope) (rules : Rules) (rows : RecPats) (st : Progress)
+      → RulesHave IsPlain rules → FirmEnv inner.env → IsReady Any inner st → AllItems (RecIn Any st.types) rows
+      → Given (RecExpsDerived sc inner rules rows st) (infer_rec_exps depth inner rules rows st)
+  rec_exps_derive depth sc inner Rules.EndOfRules rows st has firm h k = no_rec_exps_derived sc inner rows st
+  rec_exps_derive depth sc inner (Rules.Rule pat exp rest) [] st has firm h k = tt
+  rec_exps_derive depth sc inner (Rules.Rule pat exp rest) (row ∷ rows) st has firm h k =
+      let Q : Progress → Type 0 = RecExpsDerived sc inner (Rules.Rule pat exp rest) (row ∷ rows) st in
+      given_then (ExpKnown inner exp st) Q (infer_exp depth inner exp st) _
+      (exp_with depth inner exp st h (exp_derives depth inner exp st has.0 firm h)) (λ e j.
+      given_then (λ u. Grows Any e.1 u × Joined row.0 e.0 e.1 u) Q
+      (unify_at depth inner (pat_at pat) row.0 e.0 e.1) _
+      (unify_known depth inner (pat_at pat) row.0 e.0 e.1 j.0.0.fit (ty_later Any st e.1 row.0 j.0.0 k.0.0) j.0.1)
+      (λ u m.
+      let g : Grows Any st u = grows_then Any st e.1 u j.0.0 m.0 in
+      given_more (RecExpsDerived sc inner rest rows u) Q (infer_rec_exps depth inner rest rows u)
+      (λ v l. rec_exp_derived sc inner pat exp rest row rows st e u v j.1 m.1 l)
+      (rec_exps_derive depth sc inner rest rows u has.1 firm (ready_later Any inner st u h g)
+      (recs_later Any st u rows g k.1))))
+
   pub dec_derives : (depth : ℕ) (sc : Scope) (dec : DecPhrase) (st : Progress) → DecHas IsPlain dec → FirmEnv sc.env
       → IsReady Any sc st → Given (DecDerived sc dec st) (infer_dec depth sc dec st)
-  dec_derives depth sc (DecPhrase.Val tyvars rules recs at) st has firm h = absurd has.0
+  dec_derives depth sc (DecPhrase.Val (name ∷ names) rules recs at) st has firm h = absurd has.0
+  dec_derives depth sc (DecPhrase.Val [] rules recs at) st has firm h =
+      let dec : DecPhrase = DecPhrase.Val [] rules recs at in
+      let inner : Scope = inner_scope sc in
+      let ready : IsReady Any inner st = ready_inner sc st h in
+      let Q : Env × Progress → Type 0 = λ r. MadeIn Any st r → DecDerived sc dec st r in
+      let f = choice sc.env rules recs has.0.1 in
+      with_made sc dec st (infer_dec depth sc dec st) (dec_grows Any depth sc dec st h)
+      (given_then (λ own. own ≡ ([], st)) Q (own_variables sc [] rules recs st) _ (no_own sc rules recs st has.0.0)
+      (λ own e. subst (λ own. Given Q (after_own depth sc rules recs at own)) (sym e)
+      (given_then (BindsKnown inner rules [] [] st) Q (infer_binds depth inner rules [] [] st) _
+      (binds_with depth inner rules [] [] st ready tt tt
+      (binds_derive depth inner rules [] [] st has.1 firm ready tt)) (λ b k.
+      let at_b : IsReady Any inner b.2 = ready_later Any inner st b.2 ready k.0.0 in
+      given_then (RecPatsKnown inner recs [] b.0 b.2) Q (infer_rec_pats depth inner recs [] b.0 b.2) _
+      (rec_pats_with depth inner recs [] b.0 b.2 firm at_b tt k.0.1) (λ c l.
+      let inmost : Scope = under_bound (rec_bound c.0) inner in
+      given_then (RecExpsDerived inner inmost recs c.0 c.1) Q (infer_rec_exps depth inmost recs c.0 c.1) _
+      (rec_exps_derive depth inner inmost recs c.0 c.1 has.2 (firm_bound (rec_bound c.0) sc.env firm)
+      (ready_bound Any (rec_bound c.0) inner c.1 (rec_bound_in Any c.1.types c.0 l.0.1)
+      (ready_later Any inner b.2 c.1 at_b l.0.0)) l.0.1) (λ u m.
+      given_then Q Q (closed_val sc at (is_kept sc u.types.stands) [] (val_groups sc recs b c) u) _
+      (closed_given Q sc at [] (val_groups sc recs b c) u
+      (λ grown. val_derived sc rules recs at st b c u f.0 has.0.0 f.1 f.2 k.1 l.1 m h grown))
+      (λ r n. sized_given Q sc at r n)))))))
   dec_derives depth sc (DecPhrase.Types binds at) st has firm h =
       let dec : DecPhrase = DecPhrase.Types binds at in
       given_then (TypesDerived sc binds empty_env st) (DecDerived sc dec st) (infer_types sc binds empty_env st) _

@@ -125,7 +125,7 @@ pub value_found_put : (s : Substitution) (parts : List (List ℕ)) (env : Env)
     → found_at values parts (put_env s env) ≡ option_map (put_value s) (found_at values parts env)
 value_found_put s = found_put values s (put_value s) (values_put s)
 
-con_mapped : (s : Substitution) (o : Option ValueEntry) → stands_for_con (option_map (put_value s) o) ≡ stands_for_con o
+pub con_mapped : (s : Substitution) (o : Option ValueEntry) → stands_for_con (option_map (put_value s) o) ≡ stands_for_con o
 con_mapped s None = refl
 con_mapped s (Some value) = refl
 

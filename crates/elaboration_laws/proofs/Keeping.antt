@@ -23,7 +23,7 @@ use Rattle.static_semantics.proofs.Ages.{kept_aged}
 use Rattle.inference_laws.specs.Promises.{Any}
 use Rattle.elaboration_laws.specs.Reopening.{Reopened}
 
-mapped_after : {A B : Type 0} (f : A → B) (xs ys : List A) → map f (xs ++ ys) ≡ map f xs ++ map f ys
+pub mapped_after : {A B : Type 0} (f : A → B) (xs ys : List A) → map f (xs ++ ys) ≡ map f xs ++ map f ys
 mapped_after f [] ys = refl
 mapped_after f (x ∷ xs) ys = ap (λ z. f x ∷ z) (mapped_after f xs ys)
 

@@ -11,4 +11,6 @@ pub mod Closing
 pub mod Keeping
 pub mod Around
 pub mod Schemes
+pub mod Bindings
+pub mod Vals
 pub mod Promised

@@ -121,7 +121,7 @@ module _ (sc : Scope) (st : Progress) (p : State) (closes : ℕ → Bool) (h : I
   abbrev around : Scope
   around = put_scope p.stands sc
 
-  abbrev under_choice : Bool → Ty → TypeScheme
+  abbrev pub under_choice : Bool → Ty → TypeScheme
   under_choice closed t = put_scheme p.stands (closed_where closed kept st.types t)
 
   among_apart : (vs : List ℕ) (v : ℕ) → is_among v (map (λ w. r.from + w) vs) ≡ true
@@ -161,7 +161,7 @@ module _ (sc : Scope) (st : Progress) (p : State) (closes : ℕ → Bool) (h : I
   has_scheme true t h = over t h
   has_scheme false t h = as_it_is t h
 
-  abbrev schemes_of : Bool → Bound → Schemes
+  abbrev pub schemes_of : Bool → Bound → Schemes
   schemes_of closed rows = map (λ (row : List ℕ × Ty). (row.0, under_choice closed row.1)) rows
 
   have_schemes : (closed : Bool) (rows : Bound) → AllRows (ClosesOf closes kept st.types closed) rows
@@ -169,7 +169,7 @@ module _ (sc : Scope) (st : Progress) (p : State) (closes : ℕ → Bool) (h : I
   have_schemes closed [] h = tt
   have_schemes closed (row ∷ rows) h = (refl, has_scheme closed row.1 h.0, have_schemes closed rows h.1)
 
-  abbrev all_schemes : List Group → List Schemes
+  abbrev pub all_schemes : List Group → List Schemes
   all_schemes groups = map (λ (group : Group). schemes_of group.0 group.1) groups
 
   pub groups_have_schemes : (groups : List Group) → AllItems (GroupCloses closes kept st.types) groups

@@ -15,8 +15,8 @@ pub fn patterns_have_derivations()
     ensures { PatternsHaveDerivations }
 {}
 
-/// The rules give what inference gives of each expression, match and declaration in which no `val` and no `datatype`
-/// stands.
+/// The rules give what inference gives of each expression, match and declaration in which no `datatype` stands, and each
+/// `val` binds no written type variable and has one plain binding or right sides that are functions.
 #[tactic(auto, using(crate::proofs::Promised::expressions_have_derivations))]
 pub fn expressions_have_derivations()
     ensures { ExpressionsHaveDerivations }
