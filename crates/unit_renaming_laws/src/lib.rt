@@ -1,0 +1,7 @@
+//! Laws of signatures, structures and units: what they mean doesn't hang on the numbers of variables, nor on what a
+//! table holds of earlier ones.
+#![tactic(auto)]
+
+mod laws;
+
+pub use laws::signatures_move_with_variables;
