@@ -4,4 +4,7 @@
 
 mod laws;
 
-pub use laws::signatures_move_with_variables;
+pub use laws::{
+    matching_moves_with_variables, signatures_move_with_variables, units_begin_anywhere,
+    units_move_with_variables,
+};
