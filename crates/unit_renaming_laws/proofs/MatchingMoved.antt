@@ -12,14 +12,13 @@ use Rattle.semantic_objects.specs.declared.entry.TypeStr.{TypeStr}
 use Rattle.semantic_objects.specs.declared.entry.ValueEntry.{ValueEntry}
 use Rattle.semantic_objects.specs.Symbols.{same_list, same_text, same_bool}
 use Rattle.semantic_objects.specs.Tables.{Table}
-use Rattle.semantic_objects.specs.Trees.{TypeScheme}
 use Rattle.semantic_objects.specs.Environments.{Env, Structures, Signature, structures, types, values}
 use Rattle.unification.specs.Types.{State}
 use Rattle.unification.specs.Closing.{canonical_scheme}
 use Rattle.realisation.specs.Names.{is_listed}
 use Rattle.realisation.specs.Realised.{of_rows, realised, function_admits}
-use Rattle.static_semantics.specs.Inferring.{Scope, Answer, ◌>>=◌, found_at}
-use Rattle.static_semantics.specs.EnvironmentsPut.{put_scheme, put_con, put_type, put_value, each_entry, put_env, put_structures, put_scope}
+use Rattle.static_semantics.specs.Inferring.{Scope, found_at}
+use Rattle.static_semantics.specs.EnvironmentsPut.{put_con, put_type, put_value, each_entry, put_env, put_structures, put_scope}
 use Rattle.module_semantics.specs.SignatureNames.{name_alone}
 use Rattle.module_semantics.specs.Matching.{Item, type_items, value_items, items_under, structure_items, items, present, misfits_where, Rows, if_flexible, realising, realising_item, realising_all, is_left, realisation_of, same_scheme, same_con, has_cons, has_status, fits_type, fits_value, enriching_item, enriching_all, matching, matched}
 use Rattle.renaming_laws.specs.Moved.{moved, IsMoved, Both, Moves}

@@ -1,24 +1,21 @@
 -- Structure expressions and the declarations in them move with the variables.
-use Rattle.std.proofs.Common.{◌≡◌, ℕ, List, [], ◌∷◌, ◌++◌, map, length, refl, sym, ap, ◌∙◌, subst}
+use Rattle.std.proofs.Common.{◌≡◌, ℕ, List, ◌++◌, length, refl, sym, ap, ◌∙◌, subst}
 use Rattle.std.proofs.lemmas.List.{map-append}
 use Rattle.std.specs.Option.{is_some}
 use Rattle.sml_trees.specs.declared.name.At.{At}
 use Rattle.semantic_objects.specs.declared.name.TyName.{TyName}
 use Rattle.semantic_objects.specs.declared.entry.TypeFn.{TypeFn}
-use Rattle.semantic_objects.specs.declared.entry.TypeStr.{TypeStr}
-use Rattle.semantic_objects.specs.declared.entry.ValueEntry.{ValueEntry}
 use Rattle.semantic_objects.specs.Tables.{Table, entry, with_entry}
-use Rattle.semantic_objects.specs.Environments.{Env, Structures, Signature, Functor, Top, table_of, structures_of, structures, empty_env, with_structure, modified_by}
+use Rattle.semantic_objects.specs.Environments.{Env, Signature, Functor, Top, table_of, structures_of, structures, empty_env, with_structure}
 use Rattle.realisation.specs.Realised.{of_rows, realised}
-use Rattle.static_semantics.specs.Inferring.{Progress, Scope, Answer, ◌>>=◌, name_at, known, found_at}
-use Rattle.static_semantics.specs.CoreInference.{infer_dec}
-use Rattle.static_semantics.specs.EnvironmentsPut.{put_type, put_value, each_entry, put_env, put_structures, put_scope}
+use Rattle.static_semantics.specs.Inferring.{Progress, Scope, name_at, known, found_at}
+use Rattle.static_semantics.specs.EnvironmentsPut.{put_type, put_value, each_entry, put_env, put_scope}
 use Rattle.module_semantics.specs.SignatureNames.{rows_between, unit_names}
 use Rattle.module_semantics.specs.SignatureInference.{single, signature_of}
 use Rattle.module_semantics.specs.Matching.{Rows, matching, matched}
 use Rattle.unit_semantics.specs.UnitPhrases.{ModulePhrase, ModuleDec, ModuleDecs, ModuleBinds}
 use Rattle.unit_semantics.specs.StructureInference.{module_at, core_scope, top_under, known_env, transparent, opaque, param_of, result_by, functor_applied, infer_module, infer_module_dec, infer_module_decs, infer_module_binds}
-use Rattle.renaming_laws.specs.Moved.{moved, AreMoved, Both, Moves, MovesIn}
+use Rattle.renaming_laws.specs.Moved.{moved, AreMoved, Both, Moves}
 use Rattle.renaming_laws.proofs.Answers.{plain_then, moves_then, both_where, known_moved}
 use Rattle.renaming_laws.proofs.Environments.{each_with, each_found, each_has, put_has_structures, put_parts, put_modified, put_found}
 use Rattle.renaming_laws.proofs.StepsMoved.{DecsMove, dec_sized}

@@ -1,5 +1,5 @@
 -- Realisation moves with the variables.
-use Rattle.std.proofs.Common.{◌≡◌, ℕ, zero, suc, List, [], ◌∷◌, ◌++◌, map, refl, sym, ap, ap₂, ◌∙◌, Option, Some, None, Bool, true, false, cond}
+use Rattle.std.proofs.Common.{◌≡◌, ℕ, zero, suc, List, [], ◌∷◌, map, refl, sym, ap, ap₂, ◌∙◌, Option, Some, None, Bool, true, false, cond}
 use Rattle.semantic_objects.specs.declared.name.TyName.{TyName}
 use Rattle.semantic_objects.specs.declared.symbol.Symbol.{Symbol}
 use Rattle.semantic_objects.specs.declared.symbol.Symbol.TheVariants as symbol
@@ -13,7 +13,6 @@ use Rattle.semantic_objects.specs.Environments.{Env, Structures, Signature}
 use Rattle.unification.specs.Closing.{plug, plug_all, put_tree, put_trees}
 use Rattle.realisation.specs.Environments.{by_types, changed_con, changed_type, changed_value, changed_structures}
 use Rattle.realisation.specs.Realised.{Realisation, of_rows, argument, put_function, over_realised, realised_tree, realised_trees, realised}
-use Rattle.static_semantics.specs.DatatypeInference.{own_type}
 use Rattle.static_semantics.specs.EnvironmentsPut.{put_con, put_type, put_value, each_entry, put_env, put_structures}
 use Rattle.module_semantics.specs.SignatureNames.{rows_between, with_bound_names}
 use Rattle.module_semantics.specs.Matching.{Rows}

@@ -1,17 +1,16 @@
 -- Signature expressions move with the variables.
-use Rattle.std.proofs.Common.{◌≡◌, ℕ, List, [], ◌∷◌, length, refl, sym, ap, ◌∙◌, subst}
+use Rattle.std.proofs.Common.{◌≡◌, ℕ, List, [], length, refl, sym, ap, ◌∙◌, subst}
 use Rattle.semantic_objects.specs.Tables.{Table, entry}
-use Rattle.semantic_objects.specs.Environments.{Env, Signature, types, empty_env, with_structure}
+use Rattle.semantic_objects.specs.Environments.{Signature, types, empty_env, with_structure}
 use Rattle.unification.specs.Types.{Ty, put}
-use Rattle.bare_phrases.specs.Phrases.{TyPhrase}
-use Rattle.static_semantics.specs.Inferring.{Progress, Scope, under, with_written_alone, Answer, ◌>>=◌, name_at, known, found_at}
+use Rattle.static_semantics.specs.Inferring.{Progress, Scope, under, with_written_alone, name_at, known, found_at}
 use Rattle.static_semantics.specs.TypeInference.{infer_ty, listed, numbers, as_written, type_function}
 use Rattle.static_semantics.specs.DatatypeInference.{infer_replication}
 use Rattle.static_semantics.specs.EnvironmentsPut.{put_type, each_entry, put_env, put_scope}
 use Rattle.module_semantics.specs.SigPhrases.{SigPhrase, SpecPhrase, SigBinds, SpecPhrases}
 use Rattle.module_semantics.specs.SignatureNames.{with_bound_names, unit_names, bound_names, opened, empty_signature, also_bound}
 use Rattle.module_semantics.specs.SignatureInference.{specified, infer_exception_specs, where_type, single, infer_sig, infer_spec, infer_structure_specs, infer_specs, signature_of}
-use Rattle.renaming_laws.specs.Moved.{moved, AreMoved, Both, Moves, MovesIn}
+use Rattle.renaming_laws.specs.Moved.{moved, AreMoved, Both}
 use Rattle.renaming_laws.proofs.Answers.{plain_then, moves_then, known_moved}
 use Rattle.renaming_laws.proofs.Environments.{each_found, put_has_types, put_found}
 use Rattle.renaming_laws.proofs.Closing.{function_moved}

@@ -18,9 +18,8 @@ use Rattle.unification.specs.Closing.{closed_over, put_tree, put_trees}
 use Rattle.unification.specs.Generality.{same_trees}
 use Rattle.bare_phrases.specs.Phrases.{TyPhrase, ConPhrase, DatPhrase}
 use Rattle.realisation.specs.Names.{is_listed}
-use Rattle.realisation.specs.Realised.{function_admits}
 use Rattle.static_semantics.specs.BasicTypes.{is_equality_variable}
-use Rattle.static_semantics.specs.Inferring.{Progress, Scope, with_written_alone, Answer, ◌>>=◌, name_at}
+use Rattle.static_semantics.specs.Inferring.{Progress, Scope, with_written_alone, Answer, name_at}
 use Rattle.static_semantics.specs.WrittenVariables.{tyvars_of_ty, by_place, texts_once}
 use Rattle.static_semantics.specs.TypeInference.{infer_ty, listed, numbers, as_written}
 use Rattle.static_semantics.specs.DatatypeInference.{own_name, own_type, after_names, infer_optional_ty, datatypes_of, exception_entry}

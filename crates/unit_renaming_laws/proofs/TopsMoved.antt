@@ -1,32 +1,31 @@
 -- What stands at the top moves with the variables: what is left of them in an environment, functors, and the bindings of
 -- a declaration.
-use Rattle.std.proofs.Common.{◌≡◌, ℕ, List, [], ◌∷◌, ◌++◌, map, length, refl, sym, ap, ap₂, ◌∙◌, subst, Bool, ◌||◌}
+use Rattle.std.proofs.Common.{◌≡◌, ℕ, List, [], ◌∷◌, ◌++◌, map, length, refl, sym, ap, ap₂, ◌∙◌, subst, ◌||◌}
 use Rattle.std.proofs.lemmas.List.{map-append}
 use Rattle.std.specs.Prelude.{filter}
 use Rattle.std.specs.Option.{is_some}
 use Rattle.std.specs.List.{list_any}
 use Rattle.sml_trees.specs.declared.name.Name.{Name}
 use Rattle.semantic_objects.specs.declared.name.TyName.{TyName}
-use Rattle.semantic_objects.specs.declared.symbol.Symbol.{Symbol}
 use Rattle.semantic_objects.specs.declared.entry.TypeStr.{TypeStr}
 use Rattle.semantic_objects.specs.declared.entry.ValueEntry.{ValueEntry}
-use Rattle.semantic_objects.specs.Tables.{Table, entry, with_entry, with_all}
+use Rattle.semantic_objects.specs.Tables.{Table, entry, with_entry}
 use Rattle.semantic_objects.specs.Trees.{Tree, Trees}
 use Rattle.semantic_objects.specs.Environments.{Env, Structures, Signature, Functor, Top, structures, empty_env, with_structure}
 use Rattle.unification.specs.Closing.{put_tree, put_trees}
 use Rattle.env_parts.specs.Types.{holds_free, any_holds_free, con_types, types_in, types_in_types, types_in_values, types_in_structures}
-use Rattle.realisation.specs.Names.{names_of_symbol, names_in, names_in_all, names_in_list, names_in_env, once, names_of}
-use Rattle.static_semantics.specs.Inferring.{Progress, Scope, Answer, ◌>>=◌, name_at}
+use Rattle.realisation.specs.Names.{names_of_symbol, names_in, names_in_all, names_in_list, once}
+use Rattle.static_semantics.specs.Inferring.{Progress, Scope, name_at}
 use Rattle.static_semantics.specs.EnvironmentsPut.{put_type, put_value, each_entry, put_env, put_structures, put_scope}
 use Rattle.module_semantics.specs.SigPhrases.{SigBinds}
 use Rattle.module_semantics.specs.SignatureNames.{bound_names, opened}
 use Rattle.module_semantics.specs.SignatureInference.{signature_of}
 use Rattle.unit_semantics.specs.UnitPhrases.{ModuleBinds, FunPhrase, FunsigPhrase}
 use Rattle.unit_semantics.specs.StructureInference.{core_scope, known_env, infer_module}
-use Rattle.unit_semantics.specs.UnitInference.{top_with, has_variable, without_variables, is_since, names_since, functor_of, top_with_param, infer_body, infer_result, infer_structures, infer_signatures, infer_functors, infer_funsigs}
-use Rattle.renaming_laws.specs.Moved.{moved, AreMoved, Both, Moves, MovesIn}
+use Rattle.unit_semantics.specs.UnitInference.{has_variable, without_variables, is_since, names_since, functor_of, top_with_param, infer_body, infer_result, infer_structures, infer_signatures, infer_functors, infer_funsigs}
+use Rattle.renaming_laws.specs.Moved.{moved, AreMoved, Both, MovesIn}
 use Rattle.renaming_laws.proofs.Answers.{moves_then, both_where}
-use Rattle.renaming_laws.proofs.Environments.{each_with, each_with_all, each_has, put_modified, put_con_bodies}
+use Rattle.renaming_laws.proofs.Environments.{each_with, each_has, put_con_bodies}
 use Rattle.renaming_laws.proofs.StepsMoved.{DecsMove}
 use Rattle.unit_renaming_laws.specs.Moved.{put_signature, put_functor, put_top}
 use Rattle.unit_renaming_laws.proofs.Realising.{realised_between_moved}

@@ -1,8 +1,8 @@
 -- Declarations of the top level and units move with the variables.
 use Rattle.std.proofs.Common.{◌≡◌, ℕ, List, [], ◌∷◌, refl, sym, ap, ap₂, ◌∙◌, subst, Bool}
 use Rattle.semantic_objects.specs.Tables.{Table}
-use Rattle.semantic_objects.specs.Environments.{Env, Signature, Functor, Top, empty_env, modified_by}
-use Rattle.static_semantics.specs.Inferring.{Progress, Answer, ◌>>=◌}
+use Rattle.semantic_objects.specs.Environments.{Env, Signature, Functor, Top, empty_env}
+use Rattle.static_semantics.specs.Inferring.{Progress}
 use Rattle.static_semantics.specs.EnvironmentsPut.{each_entry, put_env}
 use Rattle.unit_semantics.specs.UnitPhrases.{TopPhrase, read_unit}
 use Rattle.unit_semantics.specs.UnitInference.{top_with, with_given, infer_structures, infer_signatures, infer_functors, infer_funsigs, infer_top, infer_tops, infer_unit}
