@@ -39,7 +39,7 @@ fit_is_moved s h = record {
 
 -- ---- tables
 
-rows_stay : {A : Type 0} (R : A → Type 0) (f : A → A) (rows : Table A) → ((x : A) → R x → f x ≡ x) → AllRows R rows
+pub rows_stay : {A : Type 0} (R : A → Type 0) (f : A → A) (rows : Table A) → ((x : A) → R x → f x ≡ x) → AllRows R rows
     → each_entry f rows ≡ rows
 rows_stay R f [] g h = refl
 rows_stay R f (row ∷ rows) g h = ap₂ (λ x rest. (row.0, x) ∷ rest) (g row.1 h.0) (rows_stay R f rows g h.1)
@@ -223,7 +223,7 @@ same_given j k x r v h l = record {
       ∙ sym (known_moves j x r h ∙ env_stays (moved j) known before);
 }
 
-abbrev first_of : Progress → Progress
+abbrev pub first_of : Progress → Progress
 first_of st = record { types = no_variable; names = st.names }
 
 from_first : (depth : ℕ) (home : List ℕ) (env : Env) (dec : DecPhrase) (st u : Progress) → FirmEnv env

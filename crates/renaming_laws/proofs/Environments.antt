@@ -86,7 +86,7 @@ module _ (s : Substitution) where
   put_table Structures.Nil = refl
   put_table (Structures.Cons name env rest) = ap (λ z. (name, put_env s env) ∷ z) (put_table rest)
 
-  put_parts : (xs : Table Env) → structures_of (each_entry (put_env s) xs) ≡ put_structures s (structures_of xs)
+  pub put_parts : (xs : Table Env) → structures_of (each_entry (put_env s) xs) ≡ put_structures s (structures_of xs)
   put_parts [] = refl
   put_parts (x ∷ xs) = ap (Structures.Cons x.0 (put_env s x.1)) (put_parts xs)
 

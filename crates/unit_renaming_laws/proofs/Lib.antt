@@ -1,0 +1,9 @@
+pub mod Realising
+pub mod Specifying
+pub mod Signing
+pub mod MatchingMoved
+pub mod ModulesMoved
+pub mod TopsMoved
+pub mod UnitsMoved
+pub mod UnitsBegin
+pub mod Promised
