@@ -54,13 +54,13 @@ rows_back : {A : Type 0} (R : A → Type 0) (f : A → A) (rows : Table A) → (
 rows_back R f [] g h = tt
 rows_back R f (row ∷ rows) g h = (g row.1 h.0, rows_back R f rows g h.1)
 
-abbrev con_of : List ℕ → List Bool → Tree → ConEntry
+abbrev pub con_of : List ℕ → List Bool → Tree → ConEntry
 con_of name marks body = record { name = name; scheme = record { marks = marks; body = body } }
 
-abbrev str_of : ℕ → Tree → List ConEntry → TypeStr
+abbrev pub str_of : ℕ → Tree → List ConEntry → TypeStr
 str_of arity body cons = record { function = record { arity = arity; body = body }; cons = cons }
 
-abbrev value_of : ValueEntry → Tree → ValueEntry
+abbrev pub value_of : ValueEntry → Tree → ValueEntry
 value_of v body = record { status = v.status; scheme = record { marks = v.scheme.marks; body = body } }
 
 -- ---- without variables of the table

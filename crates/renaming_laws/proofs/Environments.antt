@@ -50,7 +50,7 @@ module _ {A : Type 0} (f : A → A) where
   each_with_all (x ∷ xs) table = ap (with_all (each_entry f xs)) (each_with x.0 x.1 table)
       ∙ each_with_all xs (with_entry x.0 x.1 table)
 
-  or_mapped : (c : Bool) (x : A) (o : Option A) → cond c (Some (f x)) (mapped f o) ≡ mapped f (cond c (Some x) o)
+  pub or_mapped : (c : Bool) (x : A) (o : Option A) → cond c (Some (f x)) (mapped f o) ≡ mapped f (cond c (Some x) o)
   or_mapped true x o = refl
   or_mapped false x o = refl
 

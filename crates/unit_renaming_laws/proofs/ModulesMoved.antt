@@ -101,7 +101,7 @@ result_moved k home fun rows st u h =
       names_after k (length fun.further) st u h,
     )
 
-applied_moved : (k : ℕ) (sc : Scope) (at : At) (fun : Functor) (env : Env) (st u : Progress) → AreMoved k st u
+pub applied_moved : (k : ℕ) (sc : Scope) (at : At) (fun : Functor) (env : Env) (st u : Progress) → AreMoved k st u
     → Both (DecsMove k) (functor_applied sc at fun (env, st))
     (functor_applied (put_scope (moved k) sc) at (put_functor (moved k) fun) (put_env (moved k) env, u))
 applied_moved k sc at fun env st u h =
@@ -169,7 +169,7 @@ mutual
       (infer_module depth home z body w)) (sym (top_under_moved k d top))
       (module_moved k depth home (top_under d top) body v w i))
 
-  module_dec_moved : (k depth : ℕ) (home : List ℕ) (top : Top) (dec : ModuleDec) (st u : Progress)
+  pub module_dec_moved : (k depth : ℕ) (home : List ℕ) (top : Top) (dec : ModuleDec) (st u : Progress)
       → AreMoved k st u
       → Both (DecsMove k) (infer_module_dec depth home top dec st)
       (infer_module_dec depth home (put_top (moved k) top) dec u)

@@ -1,5 +1,5 @@
 -- Realisation moves with the variables.
-use Rattle.std.proofs.Common.{◌≡◌, ℕ, zero, suc, List, [], ◌∷◌, map, refl, sym, ap, ap₂, ◌∙◌, Option, Some, None, Bool, true, false, cond}
+use Rattle.std.proofs.Common.{◌≡◌, ℕ, zero, suc, List, [], ◌∷◌, map, refl, sym, ap, ap₂, ◌∙◌, Option, Some, None, cond}
 use Rattle.semantic_objects.specs.declared.name.TyName.{TyName}
 use Rattle.semantic_objects.specs.declared.symbol.Symbol.{Symbol}
 use Rattle.semantic_objects.specs.declared.symbol.Symbol.TheVariants as symbol
@@ -15,11 +15,13 @@ use Rattle.realisation.specs.Environments.{by_types, changed_con, changed_type, 
 use Rattle.realisation.specs.Realised.{Realisation, of_rows, argument, put_function, over_realised, realised_tree, realised_trees, realised}
 use Rattle.static_semantics.specs.EnvironmentsPut.{put_con, put_type, put_value, each_entry, put_env, put_structures}
 use Rattle.module_semantics.specs.SignatureNames.{rows_between, with_bound_names}
+use Rattle.module_semantics.specs.ElaboratesSignatures.{sig_of}
 use Rattle.module_semantics.specs.Matching.{Rows}
 use Rattle.renaming_laws.specs.Moved.{moved}
 use Rattle.renaming_laws.proofs.Answers.{mapped}
+use Rattle.renaming_laws.proofs.Environments.{or_mapped}
 use Rattle.renaming_laws.proofs.TypesMoved.{own_stays}
-use Rattle.renaming_laws.proofs.Beginning.{rows_twice}
+use Rattle.renaming_laws.proofs.Beginning.{rows_twice, con_of, str_of, value_of}
 use Rattle.unit_renaming_laws.specs.Moved.{put_type_function, put_realising, put_signature}
 
 -- ---- types
@@ -51,15 +53,6 @@ function_put k name args (Some function) =
 -- two realisations of which the second puts for each name what the first does, moved
 abbrev pub RealisesAlike : ℕ → Realisation → Realisation → Type 0
 RealisesAlike k φ ψ = (name : TyName) → ψ name ≡ mapped (put_type_function (moved k)) (φ name)
-
-abbrev con_of : List ℕ → List Bool → Tree → ConEntry
-con_of name marks body = record { name = name; scheme = record { marks = marks; body = body } }
-
-abbrev str_of : ℕ → Tree → List ConEntry → TypeStr
-str_of arity body cons = record { function = record { arity = arity; body = body }; cons = cons }
-
-abbrev value_of : ValueEntry → Tree → ValueEntry
-value_of v body = record { status = v.status; scheme = record { marks = v.scheme.marks; body = body } }
 
 module _ (k : ℕ) (φ ψ : Realisation) (alike : RealisesAlike k φ ψ) where
   over_moved : (c : Symbol) (ts : Trees)
@@ -118,16 +111,11 @@ module _ (k : ℕ) (φ ψ : Realisation) (alike : RealisesAlike k φ ψ) where
 
 -- ---- rows
 
-one_moved : {A : Type 0} (f : A → A) (c : Bool) (x : A) (o : Option A)
-    → cond c (Some (f x)) (mapped f o) ≡ mapped f (cond c (Some x) o)
-one_moved f true x o = refl
-one_moved f false x o = refl
-
 pub rows_alike : (k : ℕ) (rows : Rows) → RealisesAlike k (of_rows rows) (of_rows (put_realising (moved k) rows))
 rows_alike k [] name = refl
 rows_alike k (row ∷ rows) name =
     ap (cond (same_name row.0 name) (Some (put_type_function (moved k) row.1))) (rows_alike k rows name)
-    ∙ one_moved (put_type_function (moved k)) (same_name row.0 name) row.1 (of_rows rows name)
+    ∙ or_mapped (put_type_function (moved k)) (same_name row.0 name) row.1 (of_rows rows name)
 
 pub between_stay : (k : ℕ) (olds news : List TyName)
     → put_realising (moved k) (rows_between olds news) ≡ rows_between olds news
@@ -148,9 +136,6 @@ pub realised_between_moved : (k : ℕ) (olds news : List TyName) (env : Env)
 realised_between_moved k olds news env =
     ap (λ rows. realised (of_rows rows) (put_env (moved k) env)) (sym (between_stay k olds news))
     ∙ realised_by_moved k (rows_between olds news) env
-
-abbrev sig_of : List TyName → Env → Signature
-sig_of bound env = record { bound = bound; env = env }
 
 pub with_names_moved : (k : ℕ) (news : List TyName) (sig : Signature)
     → with_bound_names news (put_signature (moved k) sig) ≡ put_signature (moved k) (with_bound_names news sig)

@@ -1,5 +1,5 @@
 -- Signature expressions move with the variables.
-use Rattle.std.proofs.Common.{◌≡◌, ℕ, List, [], length, refl, sym, ap, ◌∙◌, subst}
+use Rattle.std.proofs.Common.{◌≡◌, ℕ, List, [], length, refl, sym, ap, ◌∙◌, subst, true, false}
 use Rattle.semantic_objects.specs.Tables.{Table, entry}
 use Rattle.semantic_objects.specs.Environments.{Signature, types, empty_env, with_structure}
 use Rattle.unification.specs.Types.{Ty, put}
@@ -76,10 +76,8 @@ mutual
       → Both (SigsMove k) (infer_spec sigs sc spec made st)
       (infer_spec (moved_signatures k sigs) (put_scope (moved k) sc) spec (put_signature (moved k) made) u)
   spec_moved k sigs sc (SpecPhrase.Vals descs at) made st u h = vals_moved k sc descs made st u h
-  spec_moved k sigs sc (SpecPhrase.Types descs at) made st u h =
-      type_descs_moved k sc Rattle.std.specs.Prelude.false descs made st u h
-  spec_moved k sigs sc (SpecPhrase.Eqtypes descs at) made st u h =
-      type_descs_moved k sc Rattle.std.specs.Prelude.true descs made st u h
+  spec_moved k sigs sc (SpecPhrase.Types descs at) made st u h = type_descs_moved k sc false descs made st u h
+  spec_moved k sigs sc (SpecPhrase.Eqtypes descs at) made st u h = type_descs_moved k sc true descs made st u h
   spec_moved k sigs sc (SpecPhrase.Datatypes binds at) made st u h = datatype_specs_moved k sc binds made st u h
   spec_moved k sigs sc (SpecPhrase.Replication name long at) made st u h =
       plain_then (put_env (moved k)) (SigsMove k) (infer_replication sc name long)

@@ -19,7 +19,7 @@ use Rattle.unification.specs.Generality.{same_trees}
 use Rattle.bare_phrases.specs.Phrases.{TyPhrase, ConPhrase, DatPhrase}
 use Rattle.realisation.specs.Names.{is_listed}
 use Rattle.static_semantics.specs.BasicTypes.{is_equality_variable}
-use Rattle.static_semantics.specs.Inferring.{Progress, Scope, with_written_alone, Answer, name_at}
+use Rattle.static_semantics.specs.Inferring.{Progress, Scope, with_written_alone, Answer, gives, name_at}
 use Rattle.static_semantics.specs.WrittenVariables.{tyvars_of_ty, by_place, texts_once}
 use Rattle.static_semantics.specs.TypeInference.{infer_ty, listed, numbers, as_written}
 use Rattle.static_semantics.specs.DatatypeInference.{own_name, own_type, after_names, infer_optional_ty, datatypes_of, exception_entry}
@@ -27,6 +27,7 @@ use Rattle.static_semantics.specs.EnvironmentsPut.{put_type, put_value, each_ent
 use Rattle.module_semantics.specs.SigPhrases.{ValPhrase, TypeDescPhrase}
 use Rattle.module_semantics.specs.SignatureNames.{variables_from, if_all, name_over, name_alone, also_bound}
 use Rattle.module_semantics.specs.SignatureInference.{shares, have_common, specified, variables_of, val_entry, infer_vals, infer_type_descs, exception_ty, infer_exception_specs, type_alone, value_alone, specified_cons, specified_types, name_of_type, names_of_types, infer_datatype_specs, lacks_equality, with_function, refuses_long, replaced, where_type}
+use Rattle.module_semantics.specs.ElaboratesSignatures.{sig_of}
 use Rattle.renaming_laws.specs.Moved.{moved, AreMoved, Both, Moves, MovesIn}
 use Rattle.renaming_laws.proofs.Answers.{plain_then, moves_then, both_where, mapped}
 use Rattle.renaming_laws.proofs.Environments.{each_found, each_has, put_has_structures, put_has_types, put_has_values, put_modified}
@@ -42,9 +43,6 @@ SigsMove k = MovesIn k (put_signature (moved k))
 
 abbrev pub PartsMove : ℕ → Signature → Signature → Type 0
 PartsMove k = Moves (put_signature (moved k))
-
-abbrev sig_of : List TyName → Env → Signature
-sig_of bound env = record { bound = bound; env = env }
 
 pub names_after : (k n : ℕ) (st u : Progress) → AreMoved k st u → AreMoved k (after_names n st) (after_names n u)
 names_after k n st u h = record { types = h.types; names = ap (λ z. z + n) h.names }
@@ -316,10 +314,9 @@ replaced_moved : (k : ℕ) (sc : Scope) (at : At) (long : LongName) (by : TypeFn
     (replaced (put_scope (moved k) sc) at long (put_type_function (moved k) by) (put_signature (moved k) sig) o)
 replaced_moved k sc at long by sig None = refl
 replaced_moved k sc at long by sig (Some name) =
-    either_answer (PartsMove k) (is_listed name sig.bound) (Some (Rattle.std.specs.Prelude.Ok (with_function name by sig)))
+    either_answer (PartsMove k) (is_listed name sig.bound) (gives (with_function name by sig))
     (refuses_long sc at long)
-    (Some (Rattle.std.specs.Prelude.Ok
-    (with_function name (put_type_function (moved k) by) (put_signature (moved k) sig))))
+    (gives (with_function name (put_type_function (moved k) by) (put_signature (moved k) sig)))
     (refuses_long (put_scope (moved k) sc) at long) (with_function_moved k name by sig) refl
 
 pub where_moved : (k : ℕ) (sc : Scope) (at : At) (long : LongName) (old by : TypeFn) (sig : Signature)

@@ -116,7 +116,7 @@ since_moved k home number env = ap (λ z. filter (is_since home number) (once z)
 abbrev pub FunsMove : ℕ → Functor × Progress → Functor × Progress → Type 0
 FunsMove k = MovesIn k (put_functor (moved k))
 
-abbrev fun_of : List TyName → Env → List TyName → Env → Functor
+abbrev pub fun_of : List TyName → Env → List TyName → Env → Functor
 fun_of bound param further result =
     record { bound = bound; param = param; further = further; result = result }
 

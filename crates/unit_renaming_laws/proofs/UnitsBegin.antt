@@ -1,7 +1,6 @@
 -- From whichever fit state a unit is inferred, over a basis and what is given without variables it defines the same.
 use Rattle.std.proofs.Common.{◌≡◌, ℕ, List, refl, sym, ap, ap₂, ◌∙◌, subst, Some, None, Bool, false}
 use Rattle.std.specs.Prelude.{Ok, Err}
-use Rattle.semantic_objects.specs.declared.name.TyName.{TyName}
 use Rattle.semantic_objects.specs.Trees.{Tree, Trees, frees, frees_any}
 use Rattle.semantic_objects.specs.Environments.{Env, Signature, Functor, Top}
 use Rattle.unification.specs.Fitting.{IsFit}
@@ -11,6 +10,7 @@ use Rattle.static_semantics.specs.Inferring.{Progress, Answer}
 use Rattle.static_semantics.specs.EnvironmentsPut.{put_env}
 use Rattle.static_semantics.specs.Holding.{Given}
 use Rattle.static_semantics.proofs.Holding.{env_more}
+use Rattle.module_semantics.specs.ElaboratesSignatures.{sig_of}
 use Rattle.unit_semantics.specs.UnitPhrases.{TopPhrase}
 use Rattle.unit_semantics.specs.UnitInference.{infer_unit}
 use Rattle.unit_semantics.specs.Promises.{IsClosedScheme, IsClosedFunction, IsClosedEnv, IsClosedSignature, IsClosedFunctor, IsClosedTop}
@@ -21,6 +21,7 @@ use Rattle.renaming_laws.specs.Firm.{IsFirm, FirmScheme, FirmFunction, FirmEnv}
 use Rattle.renaming_laws.proofs.Beginning.{rows_stay, both_of_one, first_of, begins_anywhere}
 use Rattle.unit_renaming_laws.specs.Moved.{put_signature, put_functor, put_top}
 use Rattle.unit_renaming_laws.specs.Promises.{DefinesSame}
+use Rattle.unit_renaming_laws.proofs.TopsMoved.{fun_of}
 use Rattle.unit_renaming_laws.proofs.UnitsMoved.{TopsMove, parts_same, unit_moved}
 
 -- ---- what holds no variable stays
@@ -44,18 +45,11 @@ env_firm env h = env_more IsClosedScheme FirmScheme IsClosedFunction FirmFunctio
 env_stays : (k : ℕ) (env : Env) → IsClosedEnv env → put_env (moved k) env ≡ env
 env_stays k env h = begins_anywhere.stays k env (env_firm env h)
 
-abbrev sig_of : List TyName → Env → Signature
-sig_of bound env = record { bound = bound; env = env }
-
-abbrev fun_of : List TyName → List TyName → Env → Env → Functor
-fun_of bound further param result =
-    record { bound = bound; param = param; further = further; result = result }
-
 signature_stays : (k : ℕ) (sig : Signature) → IsClosedSignature sig → put_signature (moved k) sig ≡ sig
 signature_stays k sig h = ap (sig_of sig.bound) (env_stays k sig.env h)
 
 functor_stays : (k : ℕ) (fun : Functor) → IsClosedFunctor fun → put_functor (moved k) fun ≡ fun
-functor_stays k fun h = ap₂ (fun_of fun.bound fun.further) (env_stays k fun.param h.param)
+functor_stays k fun h = ap₂ (λ p r. fun_of fun.bound p fun.further r) (env_stays k fun.param h.param)
     (env_stays k fun.result h.result)
 
 top_stays : (k : ℕ) (top : Top) → IsClosedTop top → put_top (moved k) top ≡ top

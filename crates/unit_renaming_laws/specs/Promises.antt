@@ -2,7 +2,7 @@
 use Rattle.std.specs.Prelude.{◌≡◌, ℕ, List, Bool}
 use Rattle.sml_trees.specs.declared.name.At.{At}
 use Rattle.semantic_objects.specs.Tables.{Table}
-use Rattle.semantic_objects.specs.Environments.{Env, Signature, Top}
+use Rattle.semantic_objects.specs.Environments.{Env, Signature, Functor, Top}
 use Rattle.unification.specs.Types.{State}
 use Rattle.unification.specs.Fitting.{IsFit}
 use Rattle.realisation.specs.Realised.{of_rows, realised}
@@ -12,12 +12,12 @@ use Rattle.module_semantics.specs.SigPhrases.{SigPhrase}
 use Rattle.module_semantics.specs.SignatureNames.{opened}
 use Rattle.module_semantics.specs.SignatureInference.{signature_of}
 use Rattle.module_semantics.specs.Matching.{Rows, matching, matched}
-use Rattle.unit_semantics.specs.UnitPhrases.{ModulePhrase, TopPhrase}
-use Rattle.unit_semantics.specs.StructureInference.{infer_module}
+use Rattle.unit_semantics.specs.UnitPhrases.{ModulePhrase, ModuleDec, TopPhrase}
+use Rattle.unit_semantics.specs.StructureInference.{functor_applied, infer_module, infer_module_dec}
 use Rattle.unit_semantics.specs.UnitInference.{infer_unit}
 use Rattle.unit_semantics.specs.Promises.{IsClosedEnv, IsClosedTop}
 use Rattle.renaming_laws.specs.Moved.{moved, IsMoved, AreMoved, Both, Moves, MovesIn}
-use Rattle.unit_renaming_laws.specs.Moved.{put_realising, put_signature, put_top}
+use Rattle.unit_renaming_laws.specs.Moved.{put_realising, put_signature, put_functor, put_top}
 
 -- in a state with `k` variables more in front, with all that is in scope by their later numbers, a signature expression
 -- gives nothing too, or the same diagnostic, or the signature that it gives without them, moved; and a signature is
@@ -41,8 +41,14 @@ pub record MatchingMoves : Type 0 where
       → Both (Moves (put_env (moved k))) (matched sc at s env sig)
       (matched (put_scope (moved k) sc) at r (put_env (moved k) env) (put_signature (moved k) sig))
 
--- the same of structure expressions, and of whole units
+-- the same of structure expressions and the declarations in them, of a functor with its argument, and of whole units
 pub record UnitsMove : Type 0 where
+  pub applied : (k : ℕ) (sc : Scope) (at : At) (fun : Functor) (env : Env) (st u : Progress) → AreMoved k st u
+      → Both (MovesIn k (put_env (moved k))) (functor_applied sc at fun (env, st))
+      (functor_applied (put_scope (moved k) sc) at (put_functor (moved k) fun) (put_env (moved k) env, u))
+  pub dec : (k depth : ℕ) (home : List ℕ) (top : Top) (dec : ModuleDec) (st u : Progress) → AreMoved k st u
+      → Both (MovesIn k (put_env (moved k))) (infer_module_dec depth home top dec st)
+      (infer_module_dec depth home (put_top (moved k) top) dec u)
   pub str : (k depth : ℕ) (home : List ℕ) (top : Top) (str : ModulePhrase) (st u : Progress) → AreMoved k st u
       → Both (MovesIn k (put_env (moved k))) (infer_module depth home top str st)
       (infer_module depth home (put_top (moved k) top) str u)
