@@ -18,7 +18,7 @@ use Rattle.static_semantics.proofs.Growing.{ready_later}
 use Rattle.static_semantics.proofs.TypesGrow.{given_more}
 use Rattle.inference_laws.specs.Alike.{FirmEnv}
 use Rattle.inference_laws.specs.Promises.{Any}
-use Rattle.elaboration_laws.specs.Derived.{SolvesBefore, PatDerived, ExpDerived}
+use Rattle.elaboration_laws.specs.Derived.{SolvesBefore, LeavesBefore, PatDerived, ExpDerived}
 use Rattle.elaboration_laws.proofs.Finding.{rows_after_put, con_mapped, con_put, value_found_put}
 use Rattle.elaboration_laws.proofs.Types.{given_check, is_not}
 use Rattle.elaboration_laws.proofs.Steps.{Joined}
@@ -115,6 +115,7 @@ pub record BindsDerived (sc : Scope) (rules : Rules) (bound : Bound) (groups : L
   pub distinct : are_distinct bound ≡ true → are_distinct r.0 ≡ true
   pub flags : (flag : Bool) → HaveFlag flag sc.env rules → AllItems (HasFlag flag) more
   pub solved : SolvesBefore st r.2
+  pub leaves : LeavesBefore st r.2
   pub derives : (p : State) → Solves p r.2.types
       → ElaboratesBinds p.marks (put_scope p.stands sc) st.names rules (put_groups p.stands more) r.2.names
 
@@ -131,6 +132,7 @@ no_binds_derived sc bound groups st = record {
   distinct = λ d. d;
   flags = λ flag h. tt;
   solved = λ p q. q;
+  leaves = λ p q. q;
   derives = λ p q. ElaboratesBinds.no_binds p.marks (put_scope p.stands sc) st.names;
 }
 
@@ -161,6 +163,7 @@ bind_derived sc pat exp rest bound groups st r e u v h i j k =
       distinct = λ d. k.distinct (h.binds.distinct d);
       flags = λ flag f. (f.0, k.flags flag f.1);
       solved = λ p q. h.binds.solved p (i.solved p (j.solved p (k.solved p q)));
+      leaves = λ p q. h.binds.leaves p (i.leaves p (j.leaves p (k.leaves p q)));
       derives = λ p q.
           let f : Substitution = p.stands in
           subst (λ z. ElaboratesBinds p.marks (put_scope f sc) st.names (Rules.Rule pat exp rest)
@@ -190,6 +193,7 @@ pub record RecPatsDerived (sc : Scope) (rules : Rules) (made : RecPats) (bound :
   pub distinct : are_distinct bound ≡ true → are_distinct (bound ++ rec_bound more) ≡ true
   pub names : r.1.names ≡ st.names
   pub solved : SolvesBefore st r.1
+  pub leaves : LeavesBefore st r.1
   pub hold : (p : State) → Solves p r.1.types
       → RecPatsHold p.marks (put_scope p.stands sc) rules (put_recs p.stands more)
 
@@ -207,6 +211,7 @@ rec_pat_derived sc pat exp rest made bound st r v h c k = record {
       (k.distinct (h.binds.distinct d));
   names = k.names ∙ h.binds.names;
   solved = λ p q. h.binds.solved p (k.solved p q);
+  leaves = λ p q. h.binds.leaves p (k.leaves p q);
   hold = λ p q. (h.derives p (k.solved p q), variable_put p.stands sc.env pat ∙ c, k.hold p q);
 }
 
@@ -219,6 +224,7 @@ rec_pats_derive depth sc Rules.EndOfRules made bound st firm h k = record {
   distinct = λ d. subst (λ z. are_distinct z ≡ true) (nothing_after bound) d;
   names = refl;
   solved = λ p q. q;
+  leaves = λ p q. q;
   hold = λ p q. tt;
 }
 rec_pats_derive depth sc (Rules.Rule pat exp rest) made bound st firm h k =
@@ -236,6 +242,7 @@ rec_pats_derive depth sc (Rules.Rule pat exp rest) made bound st firm h k =
 
 pub record RecExpsDerived (sc inner : Scope) (rules : Rules) (rows : RecPats) (st u : Progress) : Type 0 where
   pub solved : SolvesBefore st u
+  pub leaves : LeavesBefore st u
   pub derives : (p : State) → Solves p u.types
       → RecPatsHold p.marks (put_scope p.stands sc) rules (put_recs p.stands rows)
       → ElaboratesRecs p.marks (put_scope p.stands sc) (put_scope p.stands inner) st.names rules
@@ -250,6 +257,7 @@ pub no_rec_exps_derived : (sc inner : Scope) (rows : RecPats) (st : Progress)
     → RecExpsDerived sc inner Rules.EndOfRules rows st st
 no_rec_exps_derived sc inner rows st = record {
   solved = λ p q. q;
+  leaves = λ p q. q;
   derives = λ p q h. no_recs_under p.marks (put_scope p.stands sc) (put_scope p.stands inner) st.names
       (put_recs p.stands rows) h;
 }
@@ -260,6 +268,7 @@ pub rec_exp_derived : (sc inner : Scope) (pat : PatPhrase) (exp : ExpPhrase) (re
     → RecExpsDerived sc inner (Rules.Rule pat exp rest) (row ∷ rows) st v
 rec_exp_derived sc inner pat exp rest row rows st e u v i j k = record {
   solved = λ p q. i.solved p (j.solved p (k.solved p q));
+  leaves = λ p q. i.leaves p (j.leaves p (k.leaves p q));
   derives = λ p q h.
       let f : Substitution = p.stands in
       ElaboratesRecs.rule_26 p.marks (put_scope f sc) (put_scope f inner) st.names u.names v.names pat exp rest

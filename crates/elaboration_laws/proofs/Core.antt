@@ -82,6 +82,7 @@ types_derived : (sc : Scope) (binds : List TypPhrase) (at : At) (st : Progress) 
     → TypesDerived sc binds empty_env st r → DecDerived sc (DecPhrase.Types binds at) st r
 types_derived sc binds at st r h = record {
   solved = h.solved;
+  leaves = h.leaves;
   derives = λ p q. subst
       (ElaboratesDec p.marks (put_scope p.stands sc) st.names (DecPhrase.Types binds at) (put_env p.stands r.0))
       (sym h.made)
@@ -96,6 +97,7 @@ local_derived : (sc : Scope) (hidden shown : DecPhrase) (at : At) (st : Progress
     → DecDerived sc (DecPhrase.Local hidden shown at) st r
 local_derived sc hidden shown at st d r h k = record {
   solved = λ p q. h.solved p (k.solved p q);
+  leaves = λ p q. h.leaves p (k.leaves p q);
   derives = λ p q. ElaboratesDec.rule_21 p.marks (put_scope p.stands sc) st.names d.1.names r.1.names hidden shown at
       (put_env p.stands d.0) (put_env p.stands r.0) (h.derives p (k.solved p q))
       (subst (λ z. ElaboratesDec p.marks z d.1.names shown (put_env p.stands r.0) r.1.names)
@@ -107,6 +109,7 @@ decs_derived : (sc : Scope) (dec : DecPhrase) (rest : DecPhrases) (st : Progress
     → DecsDerived sc (DecPhrases.Dec dec rest) st (modified_by d.0 r.0, r.1)
 decs_derived sc dec rest st d r h k = record {
   solved = λ p q. h.solved p (k.solved p q);
+  leaves = λ p q. h.leaves p (k.leaves p q);
   derives = λ p q. subst
       (λ z. ElaboratesDecs p.marks (put_scope p.stands sc) st.names (DecPhrases.Dec dec rest) z r.1.names)
       (modified_put p.stands d.0 r.0)
@@ -120,6 +123,7 @@ sequence_derived : (sc : Scope) (decs : DecPhrases) (at : At) (st : Progress) (r
     → DecsDerived sc decs st r → DecDerived sc (DecPhrase.Sequence decs at) st r
 sequence_derived sc decs at st r h = record {
   solved = h.solved;
+  leaves = h.leaves;
   derives = λ p q. ElaboratesDec.rules_23_24 p.marks (put_scope p.stands sc) st.names r.1.names decs at
       (put_env p.stands r.0) (h.derives p q);
 }
@@ -434,6 +438,7 @@ mutual
       → FirmEnv sc.env → IsReady Any sc st → Given (DecsDerived sc decs st) (infer_decs depth sc decs st)
   decs_derive depth sc DecPhrases.EndOfDecs st has firm h = record {
     solved = λ p q. q;
+    leaves = λ p q. q;
     derives = λ p q. ElaboratesDecs.rule_23 p.marks (put_scope p.stands sc) st.names;
   }
   decs_derive depth sc (DecPhrases.Dec dec rest) st has firm h =

@@ -38,7 +38,7 @@ dec_sized sc dec st at r h =
 pub stateless_derived : (sc : Scope) (dec : DecPhrase) (st : Progress) (made : Env)
     → ((p : State) → ElaboratesDec p.marks (put_scope p.stands sc) st.names dec (put_env p.stands made) st.names)
     → DecDerived sc dec st (made, st)
-stateless_derived sc dec st made h = record { solved = λ p q. q; derives = λ p q. h p }
+stateless_derived sc dec st made h = record { solved = λ p q. q; leaves = λ p q. q; derives = λ p q. h p }
 
 -- ---- replication
 

@@ -20,10 +20,10 @@ use Rattle.static_semantics.proofs.Holding.{given_then, given_where}
 use Rattle.static_semantics.proofs.Growing.{grows_variable, ty_constant}
 use Rattle.inference_laws.specs.Alike.{FirmEnv}
 use Rattle.inference_laws.specs.Promises.{Any}
-use Rattle.elaboration_laws.specs.Derived.{SolvesBefore, PatDerived, ExpDerived, ExpFieldsDerived, RulesDerived, MatchDerived, DecDerived}
+use Rattle.elaboration_laws.specs.Derived.{SolvesBefore, LeavesBefore, PatDerived, ExpDerived, ExpFieldsDerived, RulesDerived, MatchDerived, DecDerived}
 use Rattle.elaboration_laws.proofs.Finding.{no_entry_put, with_entry_put, under_put, under_bound_put, record_put, distinct_put}
 use Rattle.elaboration_laws.proofs.Types.{TyDerived}
-use Rattle.elaboration_laws.proofs.Steps.{Joined, unify_joins, unify_known, solved_variable, solved_instance, instance_under}
+use Rattle.elaboration_laws.proofs.Steps.{Joined, unify_joins, unify_known, solved_variable, leaves_variable, solved_instance, leaves_instance, instance_under}
 use Rattle.elaboration_laws.proofs.Patterns.{ValueFound, value_known}
 
 pub exp_sized : (sc : Scope) (exp : ExpPhrase) (st : Progress) (at : At) (r : Ty × Progress) → ExpDerived sc exp st r
@@ -34,7 +34,7 @@ exp_sized sc exp st at r h =
 pub constant_derived : (sc : Scope) (exp : ExpPhrase) (ty : Ty) (st : Progress)
     → ((p : State) → ElaboratesExp p.marks (put_scope p.stands sc) st.names exp (put p.stands ty) st.names)
     → ExpDerived sc exp st (ty, st)
-constant_derived sc exp ty st h = record { solved = λ p q. q; derives = λ p q. h p }
+constant_derived sc exp ty st h = record { solved = λ p q. q; leaves = λ p q. q; derives = λ p q. h p }
 
 -- a name
 pub long_derived : (sc : Scope) (long : LongName) (at : At) (st : Progress) → FirmEnv sc.env → IsReady Any sc st
@@ -43,6 +43,7 @@ long_derived sc long at st firm h =
     given_then (ValueFound sc long) (ExpDerived sc (ExpPhrase.Long long at) st)
     (known sc long (found_at values long.parts sc.env)) _ (value_known sc long firm) (λ value f. record {
       solved = solved_instance value.scheme st h.fit;
+      leaves = leaves_instance value.scheme st h.fit;
       derives = λ p q. ElaboratesExp.rule_2 p.marks (put_scope p.stands sc) st.names long at (put_value p.stands value)
           (put p.stands (new_instance value.scheme st).0) (f.found p.stands) (instance_under value.scheme st p q);
     })
@@ -52,6 +53,7 @@ pub record_derived : (sc : Scope) (fields : ExpFields) (at : At) (st : Progress)
     → ExpFieldsDerived sc fields [] st r → ExpDerived sc (ExpPhrase.Record fields at) st (record_ty r.0, r.1)
 record_derived sc fields at st r h = record {
   solved = h.solved;
+  leaves = h.leaves;
   derives = λ p q. subst
       (λ z. ElaboratesExp p.marks (put_scope p.stands sc) st.names (ExpPhrase.Record fields at) z r.1.names)
       (record_put p.stands r.0)
@@ -63,6 +65,7 @@ pub no_fields_derived : (sc : Scope) (made : Table Ty) (st : Progress)
     → ExpFieldsDerived sc ExpFields.EndOfFields made st (made, st)
 no_fields_derived sc made st = record {
   solved = λ p q. q;
+  leaves = λ p q. q;
   derives = λ p q. ElaboratesExpFields.no_exp_fields p.marks (put_scope p.stands sc) st.names (put_rows p.stands made);
 }
 
@@ -72,6 +75,7 @@ pub field_derived : (sc : Scope) (label : Name) (exp : ExpPhrase) (rest : ExpFie
     → ExpFieldsDerived sc (ExpFields.Field label exp rest) made st v
 field_derived sc label exp rest made st r v e h k = record {
   solved = λ p q. h.solved p (k.solved p q);
+  leaves = λ p q. h.leaves p (k.leaves p q);
   derives = λ p q.
       let f : Substitution = p.stands in
       ElaboratesExpFields.rule_6 p.marks (put_scope f sc) st.names r.1.names v.1.names label exp rest
@@ -87,6 +91,7 @@ pub let_derived : (sc : Scope) (dec : DecPhrase) (body : ExpPhrase) (at : At) (s
     → ExpDerived sc (ExpPhrase.Let dec body at) st r
 let_derived sc dec body at st d r h k = record {
   solved = λ p q. h.solved p (k.solved p q);
+  leaves = λ p q. h.leaves p (k.leaves p q);
   derives = λ p q. ElaboratesExp.rule_4 p.marks (put_scope p.stands sc) st.names d.1.names r.1.names dec body at
       (put_env p.stands d.0) (put p.stands r.0) (h.derives p (k.solved p q))
       (subst (λ z. ElaboratesExp p.marks z d.1.names body (put p.stands r.0) r.1.names)
@@ -111,8 +116,10 @@ app_derived depth sc function argument at st f a ready h k =
     (unify_joins depth sc at f.0 (arrow_ty a.0 new) u (grows_variable Any false false a.1 ready.fit ready.new).fit)
     (λ v j.
     let back : SolvesBefore a.1 v = λ p q. solved_variable a.1 ready.fit p (j.solved p q) in
+    let back_leaves : LeavesBefore a.1 v = λ p q. leaves_variable a.1 ready.fit p (j.leaves p q) in
     record {
       solved = λ p q. h.solved p (k.solved p (back p q));
+      leaves = λ p q. h.leaves p (k.leaves p (back_leaves p q));
       derives = λ p q. subst
           (ElaboratesExp p.marks (put_scope p.stands sc) st.names (ExpPhrase.App function argument at)
           (put p.stands new)) (sym j.names)
@@ -132,6 +139,7 @@ typed_derived depth sc exp ty at st e t ready h d =
     given_then (Joined e.0 t e.1) (ExpDerived sc (ExpPhrase.Typed exp ty at) st) (unify_at depth sc at e.0 t e.1) _
     (unify_joins depth sc at e.0 t e.1 ready.fit) (λ v j. record {
       solved = λ p q. h.solved p (j.solved p q);
+      leaves = λ p q. h.leaves p (j.leaves p q);
       derives = λ p q. subst
           (ElaboratesExp p.marks (put_scope p.stands sc) st.names (ExpPhrase.Typed exp ty at) (put p.stands e.0))
           (sym j.names)
@@ -156,6 +164,7 @@ handle_derived depth sc exp rules at st e m ready h k =
     (unify_at depth sc at m.0 (arrow_ty exn_ty e.0) m.1) _
     (unify_joins depth sc at m.0 (arrow_ty exn_ty e.0) m.1 ready.fit) (λ v j. record {
       solved = λ p q. h.solved p (k.each.solved p (j.solved p q));
+      leaves = λ p q. h.leaves p (k.each.leaves p (j.leaves p q));
       derives = λ p q.
           let sides : arrow_ty (put p.stands k.from) (put p.stands k.to) ≡ arrow_ty exn_ty (put p.stands e.0) =
           sym (ap (put p.stands) k.arrow) ∙ j.same p q in
@@ -180,8 +189,10 @@ raise_derived depth sc exp at st e ready t h =
     (unify_at depth sc at e.0 exn_ty e.1) _
     (unify_known depth sc at e.0 exn_ty e.1 ready.fit t (ty_constant Any e.1.types _)) (λ v j.
     let back : SolvesBefore e.1 (new_variable v).1 = λ p q. j.1.solved p (solved_variable v j.0.fit p q) in
+    let back_leaves : LeavesBefore e.1 (new_variable v).1 = λ p q. j.1.leaves p (leaves_variable v j.0.fit p q) in
     record {
       solved = λ p q. h.solved p (back p q);
+      leaves = λ p q. h.leaves p (back_leaves p q);
       derives = λ p q. subst
           (ElaboratesExp p.marks (put_scope p.stands sc) st.names (ExpPhrase.Raise exp at)
           (put p.stands (new_variable v).0)) (sym j.1.names)
@@ -196,6 +207,7 @@ pub fn_derived : (sc : Scope) (rules : Rules) (at : At) (st : Progress) (r : Ty 
     → MatchDerived sc rules st r → ExpDerived sc (ExpPhrase.Fn rules at) st r
 fn_derived sc rules at st r h = record {
   solved = h.each.solved;
+  leaves = h.each.leaves;
   derives = λ p q. subst
       (λ z. ElaboratesExp p.marks (put_scope p.stands sc) st.names (ExpPhrase.Fn rules at) (put p.stands z) r.1.names)
       (sym h.arrow)
@@ -208,6 +220,7 @@ fn_derived sc rules at st r h = record {
 pub no_rules_derived : (sc : Scope) (from to : Ty) (st : Progress) → RulesDerived sc from to Rules.EndOfRules st st
 no_rules_derived sc from to st = record {
   solved = λ p q. q;
+  leaves = λ p q. q;
   derives = λ p q. ElaboratesMatch.no_rules p.marks (put_scope p.stands sc) st.names (put p.stands from)
       (put p.stands to);
 }
@@ -226,6 +239,7 @@ no_match_derived sc st h =
       arrow = refl;
       each = record {
         solved = λ p q. solved_variable st h.fit p (solved_variable first g.fit p q);
+        leaves = λ p q. leaves_variable st h.fit p (leaves_variable first g.fit p q);
         derives = λ p q. ElaboratesMatch.no_rules p.marks (put_scope p.stands sc) st.names
             (put p.stands (new_variable st).0) (put p.stands (new_variable first).0);
       };
@@ -261,6 +275,7 @@ match_derived sc pat exp rest st r e u h k l = record {
   arrow = refl;
   each = record {
     solved = λ p q. h.binds.solved p (k.solved p (l.solved p q));
+    leaves = λ p q. h.binds.leaves p (k.leaves p (l.leaves p q));
     derives = λ p q. rule_under p sc st.names e.1.names u.names pat exp rest r.1 (put p.stands r.0) (put p.stands e.0)
         (pat_alone sc pat st r h p (k.solved p (l.solved p q))) (h.binds.distinct refl)
         (subst (λ n. ElaboratesExp p.marks (put_scope p.stands (under_bound r.1 sc)) n exp (put p.stands e.0) e.1.names)
@@ -275,6 +290,7 @@ pub rule_derived : (sc : Scope) (from to : Ty) (pat : PatPhrase) (exp : ExpPhras
     → RulesDerived sc from to rest u v → RulesDerived sc from to (Rules.Rule pat exp rest) st v
 rule_derived sc from to pat exp rest st r s e u v h i k j l = record {
   solved = λ p q. h.binds.solved p (i.solved p (k.solved p (j.solved p (l.solved p q))));
+  leaves = λ p q. h.binds.leaves p (i.leaves p (k.leaves p (j.leaves p (l.leaves p q))));
   derives = λ p q.
       let at_u : Solves p u.types = l.solved p q in
       let at_s : Solves p s.types = k.solved p (j.solved p at_u) in

@@ -13,4 +13,5 @@ pub mod Around
 pub mod Schemes
 pub mod Bindings
 pub mod Vals
+pub mod Own
 pub mod Promised

@@ -34,10 +34,10 @@ use Rattle.inference_laws.specs.Alike.{is_variable_tree, FirmType, FirmValue, An
 use Rattle.inference_laws.specs.Promises.{Any}
 use Rattle.inference_laws.proofs.EnvsWith.{env_values, env_found}
 use Rattle.inference_laws.proofs.Making.{given_both}
-use Rattle.elaboration_laws.specs.Derived.{SolvesBefore, BindsMore, PatDerived, PatFieldsDerived}
+use Rattle.elaboration_laws.specs.Derived.{SolvesBefore, LeavesBefore, BindsMore, PatDerived, PatFieldsDerived}
 use Rattle.elaboration_laws.proofs.Finding.{no_entry_put, with_entry_put, rows_after_put, value_found_put, con_put, record_put}
 use Rattle.elaboration_laws.proofs.Types.{given_check, given_new, is_not, TyDerived, ty_derives}
-use Rattle.elaboration_laws.proofs.Steps.{given_each, found_each, Joined, unify_joins, solved_variable, solved_instance, instance_under, ty_known, unify_known}
+use Rattle.elaboration_laws.proofs.Steps.{given_each, found_each, Joined, unify_joins, solved_variable, leaves_variable, solved_instance, leaves_instance, instance_under, ty_known, unify_known}
 
 -- ---- names that differ
 
@@ -93,8 +93,15 @@ after_both : (a b c : Bound) → (a ++ b) ++ c ≡ a ++ (b ++ c)
 after_both [] b c = refl
 after_both (row ∷ rows) b c = ap (λ z. row ∷ z) (after_both rows b c)
 
-binds_none : (bound : Bound) (st u : Progress) → u.names ≡ st.names → SolvesBefore st u → BindsMore bound [] st u bound
-binds_none bound st u e h = record { after = sym (after_nothing bound); distinct = λ k. k; names = e; solved = h }
+binds_none : (bound : Bound) (st u : Progress) → u.names ≡ st.names → SolvesBefore st u → LeavesBefore st u
+    → BindsMore bound [] st u bound
+binds_none bound st u e h l = record {
+  after = sym (after_nothing bound);
+  distinct = λ k. k;
+  names = e;
+  solved = h;
+  leaves = l;
+}
 
 binds_then : (bound first second mid last : Bound) (st u v : Progress) → BindsMore bound first st u mid
     → BindsMore mid second u v last → BindsMore bound (first ++ second) st v last
@@ -103,16 +110,18 @@ binds_then bound first second mid last st u v h k = record {
   distinct = λ e. k.distinct (h.distinct e);
   names = k.names ∙ h.names;
   solved = λ p q. h.solved p (k.solved p q);
+  leaves = λ p q. h.leaves p (k.leaves p q);
 }
 
 -- a step that binds nothing
 binds_on : (bound own all : Bound) (st u v : Progress) → BindsMore bound own st u all → v.names ≡ u.names
-    → SolvesBefore u v → BindsMore bound own st v all
-binds_on bound own all st u v h e k = record {
+    → SolvesBefore u v → LeavesBefore u v → BindsMore bound own st v all
+binds_on bound own all st u v h e k l = record {
   after = h.after;
   distinct = h.distinct;
   names = e ∙ h.names;
   solved = λ p q. h.solved p (k p q);
+  leaves = λ p q. h.leaves p (l p q);
 }
 
 -- ---- values that are found
@@ -174,6 +183,7 @@ variable_bound sc at name bound st h rows =
         distinct = distinct_more name (new_variable st).0 bound k;
         names = refl;
         solved = solved_variable st h.fit;
+        leaves = leaves_variable st h.fit;
       };
       grows = (
         g,
@@ -203,7 +213,8 @@ lone_derived sc long at bound value st h f =
     let c : is_con value.status ≡ true = is_not (is_con value.status) e in
     record {
       own = [];
-      binds = binds_none bound st (new_instance value.scheme st).1 refl (solved_instance value.scheme st h.fit);
+      binds = binds_none bound st (new_instance value.scheme st).1 refl (solved_instance value.scheme st h.fit)
+          (leaves_instance value.scheme st h.fit);
       derives = λ p q. ElaboratesPat.rule_35 p.marks (put_scope p.stands sc) long at (put_value p.stands value)
           (put p.stands (new_instance value.scheme st).0) (f.found p.stands) c
           (takes_none_put p.stands value.scheme.body (f.firm c) ∙ is_not (takes_none value.scheme.body) k)
@@ -275,7 +286,8 @@ applied_derived depth sc long arg at bound st value r g h f d =
     record {
       own = d.own;
       binds = binds_on bound d.own r.1 st r.2 v d.binds j.names
-          (λ p q. solved_instance value.scheme r.2 h.fit p (j.solved p q));
+          (λ p q. solved_instance value.scheme r.2 h.fit p (j.solved p q))
+          (λ p q. leaves_instance value.scheme r.2 h.fit p (j.leaves p q));
       derives = λ p q. ElaboratesPat.rule_41 p.marks (put_scope p.stands sc) long arg at (put_value p.stands value)
           (put_rows p.stands d.own) (put p.stands parts.0) (put p.stands parts.1) (f.found p.stands)
           (is_not (is_con value.status) e)
@@ -288,6 +300,7 @@ applied_derived depth sc long arg at bound st value r g h f d =
 -- a type that is written at a variable is its type
 record TypedBy (sc : Scope) (ty : Option TyPhrase) (x : Ty) (st u : Progress) : Type 0 where
   solved : SolvesBefore st u
+  leaves : LeavesBefore st u
   names : u.names ≡ st.names
   typed : (p : State) → Solves p u.types → ElaboratesTyIfAny (put_scope p.stands sc) ty (put p.stands x)
   grows : Grows Any st u
@@ -296,6 +309,7 @@ typed_by : (depth : ℕ) (sc : Scope) (at : At) (x : Ty) (ty : Option TyPhrase) 
     → TyIn Any st.types x → Given (TypedBy sc ty x st) (typed_variable depth sc at x ty st)
 typed_by depth sc at x None st h k = record {
   solved = λ p q. q;
+  leaves = λ p q. q;
   names = refl;
   typed = λ p q. ElaboratesTyIfAny.no_ty (put_scope p.stands sc) (put p.stands x);
   grows = grows_same Any st h.fit;
@@ -307,6 +321,7 @@ typed_by depth sc at x (Some ty) st h k =
     given_more (λ u. Grows Any st u × Joined x t st u) (TypedBy sc (Some ty) x st) (unify_at depth sc at x t st)
     (λ u j. record {
       solved = j.1.solved;
+      leaves = j.1.leaves;
       names = j.1.names;
       typed = λ p q. ElaboratesTyIfAny.some_ty (put_scope p.stands sc) ty (put p.stands x)
           (subst (ElaboratesTy (put_scope p.stands sc) ty) (sym (j.1.same p q)) (d.1 p.stands));
@@ -320,7 +335,7 @@ wild_derived : (sc : Scope) (at : At) (bound : Bound) (st : Progress) → IsRead
     → PatDerived sc (PatPhrase.Wild at) bound st ((new_variable st).0, bound, (new_variable st).1)
 wild_derived sc at bound st h = record {
   own = [];
-  binds = binds_none bound st (new_variable st).1 refl (solved_variable st h.fit);
+  binds = binds_none bound st (new_variable st).1 refl (solved_variable st h.fit) (leaves_variable st h.fit);
   derives = λ p q. ElaboratesPat.rule_32 p.marks (put_scope p.stands sc) at (put p.stands (new_variable st).0);
 }
 
@@ -328,7 +343,7 @@ constant_derived : (sc : Scope) (pat : PatPhrase) (ty : Ty) (bound : Bound) (st 
     → ((p : State) → ElaboratesPat p.marks (put_scope p.stands sc) pat [] (put p.stands ty))
     → PatDerived sc pat bound st (ty, bound, st)
 constant_derived sc pat ty bound st h =
-    record { own = []; binds = binds_none bound st st refl (λ p q. q); derives = λ p q. h p }
+    record { own = []; binds = binds_none bound st st refl (λ p q. q) (λ p q. q); derives = λ p q. h p }
 
 record_derived : (sc : Scope) (fields : PatFields) (at : At) (bound : Bound) (st : Progress)
     (r : Table Ty × Bound × Progress) → PatFieldsDerived sc fields [] bound st r
@@ -349,7 +364,7 @@ typed_derived : (sc : Scope) (pat : PatPhrase) (ty : TyPhrase) (at : At) (bound 
     → PatDerived sc (PatPhrase.Typed pat ty at) bound st (r.0, r.1, u)
 typed_derived sc pat ty at bound st r t u h d j = record {
   own = h.own;
-  binds = binds_on bound h.own r.1 st r.2 u h.binds j.names j.solved;
+  binds = binds_on bound h.own r.1 st r.2 u h.binds j.names j.solved j.leaves;
   derives = λ p q. ElaboratesPat.rule_42 p.marks (put_scope p.stands sc) pat ty at (put_rows p.stands h.own)
       (put p.stands r.0) (h.derives p (j.solved p q))
       (subst (ElaboratesTy (put_scope p.stands sc) ty) (sym (j.same p q)) (d p.stands));
@@ -362,11 +377,11 @@ as_derived : (sc : Scope) (name : Name) (ty : Option TyPhrase) (pat : PatPhrase)
     → PatDerived sc (PatPhrase.As name ty pat at) bound st (x.0, r.1, u)
 as_derived sc name ty pat at bound st x s r u c b t h j =
     let first : BindsMore bound ((name.text, x.0) ∷ []) st s x.1 =
-    binds_on bound ((name.text, x.0) ∷ []) x.1 st x.2 s b.binds t.names t.solved in
+    binds_on bound ((name.text, x.0) ∷ []) x.1 st x.2 s b.binds t.names t.solved t.leaves in
     record {
       own = (name.text, x.0) ∷ h.own;
       binds = binds_on bound ((name.text, x.0) ∷ h.own) r.1 st r.2 u
-          (binds_then bound ((name.text, x.0) ∷ []) h.own x.1 r.1 st s r.2 first h.binds) j.names j.solved;
+          (binds_then bound ((name.text, x.0) ∷ []) h.own x.1 r.1 st s r.2 first h.binds) j.names j.solved j.leaves;
       derives = λ p q. ElaboratesPat.rule_43 p.marks (put_scope p.stands sc) name ty pat at
           (put_rows p.stands h.own) (put p.stands x.0) (con_put p.stands name.text sc.env ∙ c) b.allowed
           (t.typed p (h.binds.solved p (j.solved p q)))
@@ -396,7 +411,7 @@ no_fields_derived : (sc : Scope) (made : Table Ty) (bound : Bound) (st : Progres
     → PatFieldsDerived sc PatFields.EndOfFields made bound st (made, bound, st)
 no_fields_derived sc made bound st = record {
   own = [];
-  binds = binds_none bound st st refl (λ p q. q);
+  binds = binds_none bound st st refl (λ p q. q) (λ p q. q);
   derives = λ p q. ElaboratesPatFields.no_pat_fields p.marks (put_scope p.stands sc) (put_rows p.stands made);
 }
 

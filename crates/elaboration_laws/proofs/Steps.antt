@@ -5,14 +5,14 @@ use Rattle.std.specs.Prelude.{Result, Ok, Err, eqb}
 use Rattle.std.specs.Option.{option_map}
 use Rattle.sml_trees.specs.declared.name.At.{At}
 use Rattle.semantic_objects.specs.Trees.{TypeScheme}
-use Rattle.unification.specs.Types.{Ty, Substitution, State, put}
-use Rattle.unification.specs.Unification.{Fault, unify_in, Solves, IsSettled, IsMostGeneral, MakesEqual}
+use Rattle.unification.specs.Types.{Ty, Substitution, Marks, State, put}
+use Rattle.unification.specs.Unification.{Fault, unify_in, Solves, IsSettled, IsMostGeneral, MakesEqual, LeavesRigid}
 use Rattle.unification.specs.Instances.{mark_of, with_variable, with_variables, IsInstance}
 use Rattle.unification.specs.Fitting.{IsFit}
 use Rattle.unification.proofs.Walking.{either_way}
 use Rattle.unification.proofs.General.{most_general}
 use Rattle.unification.proofs.Filling.{put_fill, fill_put}
-use Rattle.unification.proofs.Fitting.{fit_variable, solves_before}
+use Rattle.unification.proofs.Fitting.{fit_variable, solves_before, leaves_before}
 use Rattle.static_semantics.specs.Inferring.{Progress, Scope, Answer, unified, unify_at, new_variable, new_instance}
 use Rattle.static_semantics.specs.EnvironmentsPut.{put_scheme}
 use Rattle.static_semantics.specs.Holding.{Given, IfSome}
@@ -24,7 +24,7 @@ use Rattle.static_semantics.proofs.TypesGrow.{ty_grows}
 use Rattle.inference_laws.specs.Promises.{Any}
 use Rattle.inference_laws.proofs.Making.{given_both}
 use Rattle.elaboration_laws.proofs.Types.{TyDerived, ty_derives}
-use Rattle.elaboration_laws.specs.Derived.{SolvesBefore}
+use Rattle.elaboration_laws.specs.Derived.{SolvesBefore, LeavesBefore}
 
 -- ---- what holds whatever is put in
 
@@ -44,6 +44,7 @@ found_each f (Some x) p h = h
 -- two types are one under each choice that solves the state afterwards
 pub record Joined (a b : Ty) (st u : Progress) : Type 0 where
   pub solved : SolvesBefore st u
+  pub leaves : LeavesBefore st u
   pub same : (p : State) → Solves p u.types → put p.stands a ≡ put p.stands b
   pub names : u.names ≡ st.names
 
@@ -53,7 +54,15 @@ unified_joins depth sc at a b st None h e = tt
 unified_joins depth sc at a b st (Some (Err fault)) h e = tt
 unified_joins depth sc at a b st (Some (Ok s)) h e =
     let m : IsMostGeneral st.types s (MakesEqual a b) = most_general depth a b st.types (Ok s) h e in
-    record { solved = λ p q. (m.sound p q).0; same = λ p q. (m.sound p q).1; names = refl }
+    record {
+      solved = λ p q. (m.sound p q).0;
+      leaves = λ p q. record {
+        alone = λ n e. q.alone n (ap (λ (z : Marks). z n) m.rigid ∙ e);
+        unmarked = λ n e i. m.unmarked n e (q.unmarked n (ap (λ (z : Marks). z n) m.rigid ∙ e) i);
+      };
+      same = λ p q. (m.sound p q).1;
+      names = refl;
+    }
 
 pub unify_joins : (depth : ℕ) (sc : Scope) (at : At) (a b : Ty) (st : Progress) → IsFit st.types
     → Given (Joined a b st) (unify_at depth sc at a b st)
@@ -71,6 +80,20 @@ solved_variables (mark ∷ marks) s p h q = solves_before false mark p s h
 
 pub solved_instance : (σ : TypeScheme) (st : Progress) → IsFit st.types → SolvesBefore st (new_instance σ st).1
 solved_instance σ st h p q = solved_variables σ.marks st.types p h q
+
+-- the same of rigid variables
+
+pub leaves_variable : (st : Progress) → IsFit st.types → LeavesBefore st (new_variable st).1
+leaves_variable st h p q = leaves_before false false p st.types h q
+
+leaves_variables : (marks : List Bool) (s p : State) → IsFit s → LeavesRigid p (with_variables false marks s)
+    → LeavesRigid p s
+leaves_variables [] s p h q = q
+leaves_variables (mark ∷ marks) s p h q = leaves_before false mark p s h
+    (leaves_variables marks (with_variable false mark s) p (fit_variable false mark s h) q)
+
+pub leaves_instance : (σ : TypeScheme) (st : Progress) → IsFit st.types → LeavesBefore st (new_instance σ st).1
+leaves_instance σ st h p q = leaves_variables σ.marks st.types p h q
 
 -- ---- instances
 

@@ -1,14 +1,15 @@
 -- `type` has derivations.
-use Rattle.std.proofs.Common.{◌≡◌, ℕ, ◌+◌, ◌<◌, List, [], ◌∷◌, ◌++◌, map, refl, sym, ap, ◌∙◌, subst, arith, Option, Some, None, Bool, true, false, ◌||◌, not}
-use Rattle.std.proofs.lemmas.Bool.{eqb-true}
+use Rattle.std.proofs.Common.{◌≡◌, ℕ, ◌+◌, ◌<◌, List, [], ◌∷◌, ◌++◌, map, refl, sym, ap, ◌∙◌, subst, arith, Option, Some, None, Bool, true, false, ◌||◌, not, cond}
+use Rattle.std.proofs.lemmas.Bool.{eq-eqb, eqb-true}
 use Rattle.std.specs.Prelude.{eqb}
 use Rattle.std.specs.Option.{option_map}
 use Rattle.sml_trees.specs.declared.name.Name.{Name}
 use Rattle.semantic_objects.specs.declared.entry.TypeStr.{TypeStr}
 use Rattle.semantic_objects.specs.Tables.{entry}
 use Rattle.semantic_objects.specs.Environments.{Env, types, with_type}
-use Rattle.unification.specs.Types.{Ty, Substitution, put}
+use Rattle.unification.specs.Types.{Ty, Substitution, Marks, State, put}
 use Rattle.unification.specs.Closing.{is_among, closed_over}
+use Rattle.unification.specs.Instances.{with_variable}
 use Rattle.unification.specs.Touching.{IsWithin}
 use Rattle.unification.proofs.Walking.{either_way, and_left, and_right, and_both, or_left, or_right, or_false_left, or_false_right}
 use Rattle.unification.proofs.Putting.{put_free}
@@ -24,13 +25,13 @@ use Rattle.static_semantics.specs.Holding.{Given, IfSome, AllItems, AllRows}
 use Rattle.static_semantics.proofs.Holding.{given_then, items_more}
 use Rattle.static_semantics.proofs.TypesGrow.{given_more}
 use Rattle.static_semantics.proofs.CoreGrow.{items_after}
-use Rattle.unification.proofs.Fitting.{fit_variable, solves_before}
+use Rattle.unification.proofs.Fitting.{fit_variable, solves_before, leaves_before}
 use Rattle.inference_laws.specs.Alike.{IsFirm, FirmType, FirmValue, AnyName, FirmEnv}
 use Rattle.inference_laws.proofs.EnvsWith.{env_types, env_found}
 use Rattle.inference_laws.proofs.Firm.{ty_within, closed_firm}
 use Rattle.inference_laws.proofs.PutAlike.{firm_type}
 use Rattle.inference_laws.proofs.Making.{given_both}
-use Rattle.elaboration_laws.specs.Derived.{SolvesBefore}
+use Rattle.elaboration_laws.specs.Derived.{SolvesBefore, LeavesBefore}
 use Rattle.elaboration_laws.proofs.Finding.{types_put, no_entry_put, type_found_put, with_type_put}
 use Rattle.elaboration_laws.proofs.Types.{given_check, given_new, Shows, shown_derives}
 use Rattle.elaboration_laws.proofs.Steps.{given_each}
@@ -48,7 +49,7 @@ absent_still m n (i ∷ ns) h k = neither (eqb m i) (is_among m (ns ++ n ∷ [])
     (or_false_left (eqb m i) (is_among m ns) h) (absent_still m n ns (or_false_right (eqb m i) (is_among m ns) h) k)
 
 -- numbers after others that are all below
-differ_more : (n : ℕ) (ns : List ℕ) → AllItems (λ m. m < n) ns → do_differ ns ≡ true → do_differ (ns ++ n ∷ []) ≡ true
+pub differ_more : (n : ℕ) (ns : List ℕ) → AllItems (λ m. m < n) ns → do_differ ns ≡ true → do_differ (ns ++ n ∷ []) ≡ true
 differ_more n [] h k = refl
 differ_more n (m ∷ ns) h k =
     and_both (not (is_among m (ns ++ n ∷ []))) (do_differ (ns ++ n ∷ []))
@@ -58,42 +59,82 @@ differ_more n (m ∷ ns) h k =
     (λ e. e))))
     (differ_more n ns h.1 (and_right (not (is_among m ns)) (do_differ ns) k))
 
-texts_more : (before : List (List ℕ × ℕ)) (row : List ℕ × ℕ) (rest : List (List ℕ))
+pub texts_more : (before : List (List ℕ × ℕ)) (row : List ℕ × ℕ) (rest : List (List ℕ))
     → map (λ (r : List ℕ × ℕ). r.0) (before ++ row ∷ []) ++ rest
     ≡ map (λ (r : List ℕ × ℕ). r.0) before ++ row.0 ∷ rest
 texts_more [] row rest = refl
 texts_more (first ∷ before) row rest = ap (λ z. first.0 ∷ z) (texts_more before row rest)
 
-numbers_more : (before : List (List ℕ × ℕ)) (row : List ℕ × ℕ)
+pub numbers_more : (before : List (List ℕ × ℕ)) (row : List ℕ × ℕ)
     → numbers (before ++ row ∷ []) ≡ numbers before ++ row.1 ∷ []
 numbers_more [] row = refl
 numbers_more (first ∷ before) row = ap (λ z. first.1 ∷ z) (numbers_more before row)
 
+-- a variable that is there is rigid, and marked where its text says so
+abbrev pub IsOwn : State → List ℕ × ℕ → Type 0
+IsOwn s row = (row.1 < s.next) × (s.rigid row.1 ≡ true) × (s.marks row.1 ≡ is_equality_variable row.0)
+
+flag_other : (next n : ℕ) (flag : Bool) (q : Marks) → n < next → cond (eqb n next) flag (q n) ≡ q n
+flag_other next n flag q h = either_way (eqb n next)
+    (λ e. let l : n ≡ next = eqb-true n next e in absurd (omega (arith, h, l)))
+    (λ e. ap (λ z. cond z flag (q n)) e)
+
+own_later : (mark : Bool) (s : State) (row : List ℕ × ℕ) → IsOwn s row → IsOwn (with_variable true mark s) row
+own_later mark s row h = (
+  omega (arith, h.0),
+  flag_other s.next row.1 true s.rigid h.0 ∙ h.1,
+  flag_other s.next row.1 mark s.marks h.0 ∙ h.2,
+)
+
+pub own_new : (text : List ℕ) (before : List (List ℕ × ℕ)) (st : Progress) → AllItems (IsOwn st.types) before
+    → AllItems (IsOwn (new_rigid text st).types) (before ++ (text, st.types.next) ∷ [])
+own_new text before st h =
+    let n : ℕ = st.types.next in
+    let mark : Bool = is_equality_variable text in
+    items_after (IsOwn (new_rigid text st).types) before ((text, n) ∷ [])
+    (items_more (IsOwn st.types) (IsOwn (new_rigid text st).types) before (own_later mark st.types) h) (
+      (
+        omega arith,
+        ap (λ z. cond z true (st.types.rigid n)) (eq-eqb n n refl),
+        ap (λ z. cond z mark (st.types.marks n)) (eq-eqb n n refl),
+      ),
+      tt,
+    )
+
+pub own_below : (s : State) (rows : List (List ℕ × ℕ)) → AllItems (IsOwn s) rows
+    → AllItems (λ n. n < s.next) (numbers rows)
+own_below s [] h = tt
+own_below s (row ∷ rows) h = (h.0.0, own_below s rows h.1)
+
 -- a list of type variables after others, whose numbers are those of variables that are there
-record ListedOf (names : List Name) (before : List (List ℕ × ℕ)) (st : Progress) (r : List (List ℕ × ℕ) × Progress) :
+pub record ListedOf (names : List Name) (before : List (List ℕ × ℕ)) (st : Progress) (r : List (List ℕ × ℕ) × Progress) :
     Type 0 where
-  texts : map (λ (row : List ℕ × ℕ). row.0) r.0
+  pub texts : map (λ (row : List ℕ × ℕ). row.0) r.0
       ≡ map (λ (row : List ℕ × ℕ). row.0) before ++ map (λ (name : Name). name.text) names
-  distinct : are_distinct before ≡ true → are_distinct r.0 ≡ true
-  differ : AllItems (λ n. n < st.types.next) (numbers before) → do_differ (numbers before) ≡ true
+  pub distinct : are_distinct before ≡ true → are_distinct r.0 ≡ true
+  pub differ : AllItems (λ n. n < st.types.next) (numbers before) → do_differ (numbers before) ≡ true
       → do_differ (numbers r.0) ≡ true
-  solved : SolvesBefore st r.1
-  fit : IsFit r.1.types
-  made : r.1.names ≡ st.names
+  pub solved : SolvesBefore st r.1
+  pub leaves : LeavesBefore st r.1
+  pub fit : IsFit r.1.types
+  pub made : r.1.names ≡ st.names
+  pub each : AllItems (IsOwn st.types) before → AllItems (IsOwn r.1.types) r.0
 
 after_none : (texts : List (List ℕ)) → texts ≡ texts ++ []
 after_none [] = refl
 after_none (text ∷ texts) = ap (λ z. text ∷ z) (after_none texts)
 
-listed_of : (sc : Scope) (names : List Name) (before : List (List ℕ × ℕ)) (st : Progress) → IsFit st.types
+pub listed_of : (sc : Scope) (names : List Name) (before : List (List ℕ × ℕ)) (st : Progress) → IsFit st.types
     → Given (ListedOf names before st) (listed sc names before st)
 listed_of sc [] before st h = record {
   texts = after_none (map (λ (row : List ℕ × ℕ). row.0) before);
   distinct = λ k. k;
   differ = λ k l. l;
   solved = λ p q. q;
+  leaves = λ p q. q;
   fit = h;
   made = refl;
+  each = λ k. k;
 }
 listed_of sc (name ∷ names) before st h =
     let row : List ℕ × ℕ = (name.text, st.types.next) in
@@ -113,8 +154,10 @@ listed_of sc (name ∷ names) before st h =
           (subst (λ z. do_differ z ≡ true) (sym (numbers_more before row))
           (differ_more st.types.next (numbers before) below d));
       solved = λ p q. solves_before true mark p st.types h (k.solved p q);
+      leaves = λ p q. leaves_before true mark p st.types h (k.leaves p q);
       fit = k.fit;
       made = k.made;
+      each = λ i. k.each (own_new name.text before st i);
     })
     (listed_of sc names (before ++ row ∷ []) next (fit_variable true mark st.types h)))
 
@@ -182,6 +225,7 @@ own_ty sc own bind firm =
 pub record TypesDerived (sc : Scope) (binds : List TypPhrase) (before : Env) (st : Progress) (r : Env × Progress) :
     Type 0 where
   pub solved : SolvesBefore st r.1
+  pub leaves : LeavesBefore st r.1
   pub made : r.1.names ≡ st.names
   pub derives : (s : Substitution) → ElaboratesTypes (put_scope s sc) binds (put_env s before) (put_env s r.0)
 
@@ -194,6 +238,7 @@ bind_derived sc bind binds before st own ty r e h t k =
     let str : TypeStr = plain_type (type_function (numbers own.0) ty) in
     record {
       solved = λ p q. h.solved p (k.solved p q);
+      leaves = λ p q. h.leaves p (k.leaves p q);
       made = k.made ∙ h.made;
       derives = λ s. ElaboratesTypes.rule_27 (put_scope s sc) bind binds (put_env s before) (put_env s r.0) own.0 ty
           (of_list bind.tyvars st own h)
@@ -208,6 +253,7 @@ pub types_derive : (sc : Scope) (binds : List TypPhrase) (before : Env) (st : Pr
     → IsFit st.types → Given (TypesDerived sc binds before st) (infer_types sc binds before st)
 types_derive sc [] before st firm h = record {
   solved = λ p q. q;
+  leaves = λ p q. q;
   made = refl;
   derives = λ s. ElaboratesTypes.no_types (put_scope s sc) (put_env s before);
 }

@@ -185,6 +185,7 @@ module _ (sc : Scope) (rules recs : Rules) (at : At) (st : Progress) (b : Bound 
   pub val_derived : DecDerived sc (DecPhrase.Val [] rules recs at) st (val_made sc recs b c u, u)
   val_derived = record {
     solved = λ p q. binds.solved p (pats.solved p (exps.solved p q));
+    leaves = λ p q. binds.leaves p (pats.leaves p (exps.leaves p q));
     derives = λ p q. whole p q;
   }
 
