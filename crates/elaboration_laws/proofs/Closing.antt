@@ -54,7 +54,7 @@ mutual
 
 -- ---- numbers after others
 
-abbrev shifted : ℕ → List ℕ → List ℕ
+abbrev pub shifted : ℕ → List ℕ → List ℕ
 shifted from vs = map (λ v. from + v) vs
 
 eqb_shifted : (from a b : ℕ) → eqb (from + a) (from + b) ≡ eqb a b
@@ -69,7 +69,7 @@ among_shifted : (from v : ℕ) (vs : List ℕ) → is_among (from + v) (shifted 
 among_shifted from v [] = refl
 among_shifted from v (w ∷ vs) = ap₂ (λ a b. a || b) (eqb_shifted from v w) (among_shifted from v vs)
 
-differ_shifted : (from : ℕ) (vs : List ℕ) → do_differ (shifted from vs) ≡ do_differ vs
+pub differ_shifted : (from : ℕ) (vs : List ℕ) → do_differ (shifted from vs) ≡ do_differ vs
 differ_shifted from [] = refl
 differ_shifted from (v ∷ vs) = ap₂ (λ a b. not a && b) (among_shifted from v vs) (differ_shifted from vs)
 

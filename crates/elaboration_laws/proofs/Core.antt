@@ -1,33 +1,37 @@
--- Expressions, matches and declarations without `val` and `datatype` have derivations.
-use Rattle.std.proofs.Common.{◌≡◌, ℕ, List, [], ◌∷◌, ◌++◌, refl, sym, subst, Bool, true}
+-- Expressions, matches and declarations without `datatype` have derivations.
+use Rattle.std.proofs.Common.{◌≡◌, ℕ, List, [], ◌∷◌, ◌++◌, refl, sym, ap, ◌∙◌, subst, Bool, true, inl, inr}
+use Rattle.std.specs.Prelude.{◌⊎◌}
+use Rattle.sml_trees.specs.declared.name.Name.{Name}
+use Rattle.unification.proofs.Walking.{and_both}
 use Rattle.sml_trees.specs.declared.name.At.{At}
 use Rattle.semantic_objects.specs.Tables.{Table, with_entry}
 use Rattle.semantic_objects.specs.Environments.{Env, empty_env, modified_by}
 use Rattle.unification.specs.Types.{Ty, Substitution}
 use Rattle.bare_phrases.specs.Phrases.{TypPhrase, ExpPhrase, ExpFields, Rules, DecPhrase, DecPhrases}
 use Rattle.static_semantics.specs.BasicTypes.{int_ty, string_ty, char_ty, record_ty}
-use Rattle.static_semantics.specs.Inferring.{Progress, Scope, Answer, ◌>>=◌, under, with_written, name_at, unify_at, Bound, with_bound, under_bound, variable_entry, is_kept, sized_dec}
-use Rattle.static_semantics.specs.TypeInference.{infer_ty, as_written, infer_types}
+use Rattle.static_semantics.specs.Inferring.{Progress, Scope, Answer, under, name_at, unify_at, Bound, with_bound, under_bound, variable_entry, is_kept}
+use Rattle.static_semantics.specs.TypeInference.{infer_ty, infer_types}
 use Rattle.static_semantics.specs.PatternInference.{pat_at, infer_pat}
 use Rattle.static_semantics.specs.DatatypeInference.{infer_replication, exceptions_of}
-use Rattle.static_semantics.specs.CoreInference.{exp_at, known_exp, applied, joined, handled, raised, within_let, infer_open, Group, added, own_variables, closed_val, RecPats, rec_bound, rec_groups, infer_exp, infer_exp_fields, infer_match, infer_rules, infer_binds, infer_rec_pats, infer_rec_exps, infer_dec, infer_decs}
+use Rattle.static_semantics.specs.CoreInference.{exp_at, known_exp, applied, joined, handled, raised, within_let, infer_open, Group, added, own_variables, closed_val, RecPats, rec_bound, infer_exp, infer_exp_fields, infer_match, infer_rules, infer_binds, infer_rec_pats, infer_rec_exps, infer_dec, infer_decs}
 use Rattle.static_semantics.specs.EnvironmentsPut.{put_env, put_scope}
-use Rattle.static_semantics.specs.Nonexpansive.{is_nonexpansive}
+use Rattle.static_semantics.specs.Nonexpansive.{is_nonexpansive, are_nonexpansive}
+use Rattle.static_semantics.specs.RuleConditions.{unscoped}
 use Rattle.static_semantics.specs.Elaborates.{ElaboratesExp, ElaboratesDec, ElaboratesDecs}
 use Rattle.static_semantics.specs.Holding.{Given, AllItems, AllRows}
 use Rattle.static_semantics.specs.Growing.{TyIn, Grows, IsReady}
 use Rattle.static_semantics.proofs.Holding.{given_then}
 use Rattle.static_semantics.proofs.Growing.{grows_then, ty_later, rows_later, ready_later}
-use Rattle.static_semantics.proofs.TypesGrow.{MadeIn, given_more}
+use Rattle.static_semantics.proofs.TypesGrow.{ListedIn, MadeIn, given_more}
 use Rattle.static_semantics.proofs.DatatypesGrow.{ready_under}
-use Rattle.static_semantics.proofs.CoreGrow.{ExpIn, BindsIn, GroupsIn, RecIn, RecsIn, recs_later, rec_pats_grow, rec_bound_in, binds_grow, ready_bound, exp_grows, match_grows, dec_grows}
+use Rattle.static_semantics.proofs.CoreGrow.{ready_written, own_grows, ExpIn, BindsIn, GroupsIn, RecIn, RecsIn, recs_later, rec_pats_grow, rec_bound_in, binds_grow, ready_bound, exp_grows, match_grows, dec_grows}
 use Rattle.inference_laws.specs.Alike.{FirmType, FirmValue, AnyName, FirmEnv}
 use Rattle.inference_laws.specs.Promises.{Any}
 use Rattle.inference_laws.proofs.EnvsWith.{env_with_value, env_modified}
 use Rattle.inference_laws.proofs.Firm.{dec_firm}
 use Rattle.inference_laws.proofs.Making.{given_both}
 use Rattle.elaboration_laws.specs.Derived.{ExpDerived, ExpFieldsDerived, RulesDerived, MatchDerived, DecDerived, DecsDerived}
-use Rattle.elaboration_laws.specs.Declaring.{IsFunction, AreFunctions, ClosesAlike, IsPlain, ExpHas, ExpFieldsHave, RulesHave, DecHas, DecsHave}
+use Rattle.elaboration_laws.specs.Declaring.{IsValue, FieldsAreValues, AreValues, BindsOne, IsPlain, ExpHas, ExpFieldsHave, RulesHave, DecHas, DecsHave}
 use Rattle.elaboration_laws.proofs.Finding.{under_put, modified_put}
 use Rattle.elaboration_laws.proofs.Types.{given_new, TyDerived, ty_derives}
 use Rattle.elaboration_laws.proofs.Steps.{given_each, Joined, unify_known}
@@ -35,7 +39,8 @@ use Rattle.elaboration_laws.proofs.Patterns.{PatKnown, pat_known}
 use Rattle.elaboration_laws.proofs.Expressions.{exp_sized, constant_derived, long_derived, record_derived, no_fields_derived, field_derived, let_derived, within_derived, app_derived, typed_derived, handle_derived, raise_derived, fn_derived, no_rules_derived, no_match_derived, match_derived, rule_derived}
 use Rattle.elaboration_laws.proofs.TypeBindings.{TypesDerived, types_derive}
 use Rattle.elaboration_laws.proofs.Bindings.{HaveFlag, BindsDerived, no_binds_derived, bind_derived, RecPatsDerived, rec_pats_derive, RecExpsDerived, no_rec_exps_derived, rec_exp_derived}
-use Rattle.elaboration_laws.proofs.Vals.{inner_scope, val_groups, val_derived, closed_given, sized_given, no_own}
+use Rattle.elaboration_laws.proofs.Vals.{inner_scope, val_groups, val_derived, closed_given, sized_given}
+use Rattle.elaboration_laws.proofs.Own.{texts_of, OwnDerived, own_derives}
 use Rattle.elaboration_laws.proofs.Declarations.{dec_sized, stateless_derived, replication_derives, ExceptionsDerived, exceptions_derive, OpenDerived, open_derives}
 
 -- ---- with what is known of how states grow
@@ -157,47 +162,64 @@ with_made sc dec st m h k = given_more (λ r. MadeIn Any st r × (MadeIn Any st 
     (DecDerived sc dec st) m (λ r i. i.1 i.0)
     (given_both (MadeIn Any st) (λ r. MadeIn Any st r → DecDerived sc dec st r) m h k)
 
-ready_inner : (sc : Scope) (st : Progress) → IsReady Any sc st → IsReady Any (inner_scope sc) st
-ready_inner sc st h = record {
-  fit = h.fit;
-  new = h.new;
-  scope = record { env = h.scope.env; written = h.scope.written };
-}
+mutual
+  value_flag : (env : Env) (exp : ExpPhrase) → IsValue exp → is_nonexpansive env exp ≡ true
+  value_flag env (ExpPhrase.Int value at) h = refl
+  value_flag env (ExpPhrase.Str value at) h = refl
+  value_flag env (ExpPhrase.Char value at) h = refl
+  value_flag env (ExpPhrase.Long long at) h = refl
+  value_flag env (ExpPhrase.Record fields at) h = fields_flag env fields h
+  value_flag env (ExpPhrase.Let dec body at) h = absurd h
+  value_flag env (ExpPhrase.App function argument at) h = absurd h
+  value_flag env (ExpPhrase.Typed exp ty at) h = value_flag env exp h
+  value_flag env (ExpPhrase.Handle exp rules at) h = absurd h
+  value_flag env (ExpPhrase.Raise exp at) h = absurd h
+  value_flag env (ExpPhrase.Fn rules at) h = refl
 
--- what follows once the written variables are known
-abbrev after_own : ℕ → Scope → Rules → Rules → At → List (List ℕ × ℕ) × Progress → Answer (Env × Progress)
-after_own depth sc rules recs at own =
-    infer_binds depth (with_written (as_written own.0) sc) rules [] [] own.1
-    >>= λ b. infer_rec_pats depth (with_written (as_written own.0) sc) recs [] b.0 b.2
-    >>= λ p. infer_rec_exps depth (under_bound (rec_bound p.0) (with_written (as_written own.0) sc)) recs p.0 p.1
-    >>= λ u. closed_val sc at (is_kept sc u.types.stands) own.0 (b.1 ++ rec_groups sc.env recs p.0) u
-    >>= λ r. sized_dec sc at r
+  fields_flag : (env : Env) (fields : ExpFields) → FieldsAreValues fields → are_nonexpansive env fields ≡ true
+  fields_flag env ExpFields.EndOfFields h = refl
+  fields_flag env (ExpFields.Field label exp rest) h =
+      and_both (is_nonexpansive env exp) (are_nonexpansive env rest) (value_flag env exp h.0) (fields_flag env rest h.1)
 
-function_flag : (env : Env) (exp : ExpPhrase) → IsFunction exp → is_nonexpansive env exp ≡ true
-function_flag env (ExpPhrase.Int value at) h = absurd h
-function_flag env (ExpPhrase.Str value at) h = absurd h
-function_flag env (ExpPhrase.Char value at) h = absurd h
-function_flag env (ExpPhrase.Long long at) h = absurd h
-function_flag env (ExpPhrase.Record fields at) h = absurd h
-function_flag env (ExpPhrase.Let dec body at) h = absurd h
-function_flag env (ExpPhrase.App function argument at) h = absurd h
-function_flag env (ExpPhrase.Typed exp ty at) h = function_flag env exp h
-function_flag env (ExpPhrase.Handle exp rules at) h = absurd h
-function_flag env (ExpPhrase.Raise exp at) h = absurd h
-function_flag env (ExpPhrase.Fn rules at) h = refl
+value_flags : (env : Env) (rules : Rules) → AreValues rules → HaveFlag true env rules
+value_flags env Rules.EndOfRules h = tt
+value_flags env (Rules.Rule pat exp rest) h = (value_flag env exp h.0, value_flags env rest h.1)
 
-function_flags : (env : Env) (rules : Rules) → AreFunctions rules → HaveFlag true env rules
-function_flags env Rules.EndOfRules h = tt
-function_flags env (Rules.Rule pat exp rest) h = (function_flag env exp h.0, function_flags env rest h.1)
+-- whether the variables of a `val` are closed
+abbrev Choice : Env → Rules → Rules → List (List ℕ × ℕ) → Type 0
+Choice env rules recs own =
+    (flag : Bool) × HaveFlag flag env rules × HaveFlag flag env recs
+    × AllItems (λ (row : List ℕ × ℕ). flag ≡ true) own
 
-choice : (env : Env) (rules recs : Rules) → ClosesAlike rules recs
-    → (flag : Bool) × HaveFlag flag env rules × HaveFlag flag env recs
-choice env Rules.EndOfRules recs h = (true, tt, function_flags env recs h)
-choice env (Rules.Rule pat exp Rules.EndOfRules) Rules.EndOfRules h = (is_nonexpansive env exp, (refl, tt), tt)
-choice env (Rules.Rule pat exp Rules.EndOfRules) (Rules.Rule first right more) h =
-    (true, (function_flag env exp h.0, tt), function_flags env (Rules.Rule first right more) h.1)
-choice env (Rules.Rule pat exp (Rules.Rule next right more)) recs h =
-    (true, function_flags env (Rules.Rule pat exp (Rules.Rule next right more)) h.0, function_flags env recs h.1)
+all_true : (own : List (List ℕ × ℕ)) → AllItems (λ (row : List ℕ × ℕ). true ≡ true) own
+all_true [] = tt
+all_true (row ∷ own) = (refl, all_true own)
+
+none_there : (flag : Bool) (own : List (List ℕ × ℕ)) → texts_of own ≡ []
+    → AllItems (λ (row : List ℕ × ℕ). flag ≡ true) own
+none_there flag [] h = tt
+none_there flag (row ∷ own) h = absurd (cc)
+
+one_choice : (sc : Scope) (tyvars : List Name) (rules recs : Rules) (st : Progress)
+    (own : List (List ℕ × ℕ) × Progress) → OwnDerived sc tyvars rules recs st own → BindsOne tyvars rules recs
+    → Choice sc.env rules recs own.0
+one_choice sc [] Rules.EndOfRules recs st own d h = absurd h
+one_choice sc [] (Rules.Rule pat exp Rules.EndOfRules) Rules.EndOfRules st own d h = (
+  is_nonexpansive sc.env exp,
+  (refl, tt),
+  tt,
+  none_there (is_nonexpansive sc.env exp) own.0 (d.texts ∙ ap (unscoped sc.written []) h),
+)
+one_choice sc [] (Rules.Rule pat exp Rules.EndOfRules) (Rules.Rule first right more) st own d h = absurd h
+one_choice sc [] (Rules.Rule pat exp (Rules.Rule next right more)) recs st own d h = absurd h
+one_choice sc (name ∷ names) rules recs st own d h = absurd h
+
+choice : (sc : Scope) (tyvars : List Name) (rules recs : Rules) (st : Progress) (own : List (List ℕ × ℕ) × Progress)
+    → OwnDerived sc tyvars rules recs st own → (AreValues rules × AreValues recs) ⊎ BindsOne tyvars rules recs
+    → Choice sc.env rules recs own.0
+choice sc tyvars rules recs st own d (inl h) =
+    (true, value_flags sc.env rules h.0, value_flags sc.env recs h.1, all_true own.0)
+choice sc tyvars rules recs st own d (inr h) = one_choice sc tyvars rules recs st own d h
 
 -- ---- the phrases
 
@@ -374,20 +396,22 @@ mutual
 
   pub dec_derives : (depth : ℕ) (sc : Scope) (dec : DecPhrase) (st : Progress) → DecHas IsPlain dec → FirmEnv sc.env
       → IsReady Any sc st → Given (DecDerived sc dec st) (infer_dec depth sc dec st)
-  dec_derives depth sc (DecPhrase.Val (name ∷ names) rules recs at) st has firm h = absurd has.0
-  dec_derives depth sc (DecPhrase.Val [] rules recs at) st has firm h =
-      let dec : DecPhrase = DecPhrase.Val [] rules recs at in
-      let inner : Scope = inner_scope sc in
-      let ready : IsReady Any inner st = ready_inner sc st h in
+  dec_derives depth sc (DecPhrase.Val tyvars rules recs at) st has firm h =
+      let dec : DecPhrase = DecPhrase.Val tyvars rules recs at in
       let Q : Env × Progress → Type 0 = λ r. MadeIn Any st r → DecDerived sc dec st r in
-      let f = choice sc.env rules recs has.0.1 in
       with_made sc dec st (infer_dec depth sc dec st) (dec_grows Any depth sc dec st h)
-      (given_then (λ own. own ≡ ([], st)) Q (own_variables sc [] rules recs st) _ (no_own sc rules recs st has.0.0)
-      (λ own e. subst (λ own. Given Q (after_own depth sc rules recs at own)) (sym e)
-      (given_then (BindsKnown inner rules [] [] st) Q (infer_binds depth inner rules [] [] st) _
-      (binds_with depth inner rules [] [] st ready tt tt
-      (binds_derive depth inner rules [] [] st has.1 firm ready tt)) (λ b k.
-      let at_b : IsReady Any inner b.2 = ready_later Any inner st b.2 ready k.0.0 in
+      (given_then (λ own. ListedIn Any st own × OwnDerived sc tyvars rules recs st own) Q
+      (own_variables sc tyvars rules recs st) _
+      (given_both (ListedIn Any st) (OwnDerived sc tyvars rules recs st) (own_variables sc tyvars rules recs st)
+      (own_grows Any sc tyvars rules recs st h) (own_derives sc tyvars rules recs st h.fit)) (λ own o.
+      let inner : Scope = inner_scope own.0 sc in
+      let ready : IsReady Any inner own.1 =
+      ready_written Any own.0 sc own.1 o.0.1 (ready_later Any sc st own.1 h o.0.0) in
+      let f : Choice sc.env rules recs own.0 = choice sc tyvars rules recs st own o.1 has.0 in
+      given_then (BindsKnown inner rules [] [] own.1) Q (infer_binds depth inner rules [] [] own.1) _
+      (binds_with depth inner rules [] [] own.1 ready tt tt
+      (binds_derive depth inner rules [] [] own.1 has.1 firm ready tt)) (λ b k.
+      let at_b : IsReady Any inner b.2 = ready_later Any inner own.1 b.2 ready k.0.0 in
       given_then (RecPatsKnown inner recs [] b.0 b.2) Q (infer_rec_pats depth inner recs [] b.0 b.2) _
       (rec_pats_with depth inner recs [] b.0 b.2 firm at_b tt k.0.1) (λ c l.
       let inmost : Scope = under_bound (rec_bound c.0) inner in
@@ -395,10 +419,10 @@ mutual
       (rec_exps_derive depth inner inmost recs c.0 c.1 has.2 (firm_bound (rec_bound c.0) sc.env firm)
       (ready_bound Any (rec_bound c.0) inner c.1 (rec_bound_in Any c.1.types c.0 l.0.1)
       (ready_later Any inner b.2 c.1 at_b l.0.0)) l.0.1) (λ u m.
-      given_then Q Q (closed_val sc at (is_kept sc u.types.stands) [] (val_groups sc recs b c) u) _
-      (closed_given Q sc at [] (val_groups sc recs b c) u
-      (λ grown. val_derived sc rules recs at st b c u f.0 has.0.0 f.1 f.2 k.1 l.1 m h grown))
-      (λ r n. sized_given Q sc at r n)))))))
+      given_then Q Q (closed_val sc at (is_kept sc u.types.stands) own.0 (val_groups sc recs b c) u) _
+      (closed_given Q sc at own.0 (val_groups sc recs b c) u
+      (λ left grown. val_derived sc rules recs at st b c u tyvars own f.0 o.1 f.3 f.1 f.2 k.1 l.1 m h grown left))
+      (λ r n. sized_given Q sc at r n))))))
   dec_derives depth sc (DecPhrase.Types binds at) st has firm h =
       let dec : DecPhrase = DecPhrase.Types binds at in
       given_then (TypesDerived sc binds empty_env st) (DecDerived sc dec st) (infer_types sc binds empty_env st) _

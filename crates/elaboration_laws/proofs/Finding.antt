@@ -71,7 +71,7 @@ some_mapped : {A B : Type 0} (f : A → B) (o : Option A) → is_some (option_ma
 some_mapped f None = refl
 some_mapped f (Some x) = refl
 
-is_named_put : (s : Substitution) (name : List ℕ) (rows : Bound) → is_named name (put_rows s rows) ≡ is_named name rows
+pub is_named_put : (s : Substitution) (name : List ℕ) (rows : Bound) → is_named name (put_rows s rows) ≡ is_named name rows
 is_named_put s name rows = ap is_some (named_put s name rows) ∙ some_mapped (put s) (named name rows)
 
 pub distinct_put : (s : Substitution) (rows : Bound) → are_distinct (put_rows s rows) ≡ are_distinct rows

@@ -1,10 +1,9 @@
 -- The written type variables that a `val` binds.
-use Rattle.std.proofs.Common.{◌≡◌, ℕ, ◌+◌, ◌<◌, List, [], ◌∷◌, ◌++◌, map, refl, sym, ap, ap₂, ◌∙◌, subst, arith, Option, Some, None, Bool, true, false, ◌||◌, cond}
+use Rattle.std.proofs.Common.{◌≡◌, ℕ, List, [], ◌∷◌, ◌++◌, map, refl, sym, ap, ap₂, ◌∙◌, subst, Option, Some, None, Bool, true, false, ◌||◌, cond}
 use Rattle.std.specs.Option.{is_some}
-use Rattle.std.specs.List.{list_any}
 use Rattle.sml_trees.specs.declared.name.Name.{Name}
 use Rattle.semantic_objects.specs.Symbols.{same_text}
-use Rattle.unification.specs.Types.{Ty, State}
+use Rattle.unification.specs.Types.{Ty}
 use Rattle.unification.specs.Fitting.{IsFit}
 use Rattle.unification.proofs.Walking.{or_false_left, or_false_right}
 use Rattle.unification.proofs.Fitting.{fit_variable, solves_before, leaves_before}
@@ -17,7 +16,6 @@ use Rattle.static_semantics.specs.CoreInference.{implicit, own_variables}
 use Rattle.static_semantics.specs.RuleConditions.{are_distinct, do_differ, unscoped}
 use Rattle.static_semantics.specs.Holding.{Given, AllItems}
 use Rattle.static_semantics.proofs.Holding.{given_then, items_more}
-use Rattle.static_semantics.proofs.CoreGrow.{items_after}
 use Rattle.elaboration_laws.specs.Derived.{SolvesBefore, LeavesBefore}
 use Rattle.elaboration_laws.proofs.Patterns.{distinct_more}
 use Rattle.elaboration_laws.proofs.TypeBindings.{IsOwn, own_new, differ_more, own_below, numbers_more, texts_more, ListedOf, listed_of}
@@ -42,7 +40,7 @@ some_or : {A : Type 0} (c : Bool) (x : A) (o : Option A) → is_some (cond c (So
 some_or true x o = refl
 some_or false x o = refl
 
-named_one : (text : List ℕ) (rows : List (List ℕ × ℕ)) → is_named text rows ≡ is_one_of (texts_of rows) text
+pub named_one : (text : List ℕ) (rows : List (List ℕ × ℕ)) → is_named text rows ≡ is_one_of (texts_of rows) text
 named_one text [] = refl
 named_one text (row ∷ rows) = some_or (same_text text row.0) row.1 (named text rows)
     ∙ ap (λ z. same_text text row.0 || z) (named_one text rows)
@@ -101,7 +99,7 @@ nothing_more : (xs : List (List ℕ)) → xs ≡ xs ++ []
 nothing_more [] = refl
 nothing_more (x ∷ xs) = ap (λ z. x ∷ z) (nothing_more xs)
 
-abbrev texts_in : List Name → List (List ℕ)
+abbrev pub texts_in : List Name → List (List ℕ)
 texts_in tyvars = map (λ (name : Name). name.text) tyvars
 
 both_named : (text : List ℕ) (n : ℕ) (before : List (List ℕ × ℕ)) (texts : List (List ℕ)) (tyvars : List Name)

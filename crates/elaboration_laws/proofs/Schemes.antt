@@ -205,10 +205,14 @@ module _ (sc : Scope) (st : Progress) (p : State) (closes : ℕ → Bool) (h : I
       let new : st.types.next ≤ r.from = r.new in omega (arith, below, new))
       (λ i. let w = (closes_types.held st.types.next p.stands v).0 i in r.below w.0 w.1 v w.2)
 
+  pub free_below : (made : Env) (v : ℕ) → EnvIn Any st.types made
+      → free_in_env v Ty.Var (put_env p.stands made) ≡ true → v < r.from
+  free_below made v l e =
+      let other : Scope = record { env = made; written = []; home = sc.home } in
+      kept_below other v (record { env = l; written = tt })
+      (or_left (free_in_env v p.stands made) false (sym (free_put p.stands v made) ∙ e))
+
   pub marks_agree : (made : Env) (v : ℕ) → EnvIn Any st.types made → IsSeen around (put_env p.stands made) v
       → r.inside.marks v ≡ p.marks v
   marks_agree made v l (inl e) = r.marks v (kept_below sc v k (sym (kept_put p.stands v sc) ∙ e))
-  marks_agree made v l (inr e) =
-      let other : Scope = record { env = made; written = []; home = sc.home } in
-      r.marks v (kept_below other v (record { env = l; written = tt })
-      (or_left (free_in_env v p.stands made) false (sym (free_put p.stands v made) ∙ e)))
+  marks_agree made v l (inr e) = r.marks v (free_below made v l e)

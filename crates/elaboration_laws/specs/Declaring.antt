@@ -1,6 +1,7 @@
 -- What holds of every declaration in a phrase, those inside others included. Of a sequence and of `local` nothing is
 -- asked but of the declarations in them, and nothing of a structure declaration.
-use Rattle.std.specs.Prelude.{◌≡◌, [], ◌∷◌}
+use Rattle.std.specs.Prelude.{◌≡◌, List, [], ◌∷◌, ◌⊎◌}
+use Rattle.sml_trees.specs.declared.name.Name.{Name}
 use Rattle.bare_phrases.specs.Phrases.{ExpPhrase, ExpFields, Rules, DecPhrase, DecPhrases}
 use Rattle.static_semantics.specs.WrittenVariables.{written_in}
 
@@ -42,38 +43,42 @@ abbrev mutual
   DecsHave P DecPhrases.EndOfDecs = Unit {0}
   DecsHave P (DecPhrases.Dec dec rest) = DecHas P dec × DecsHave P rest
 
--- right sides that are functions, as those of `rec` bindings are
-abbrev pub IsFunction : ExpPhrase → Type 0
-IsFunction (ExpPhrase.Int value at) = ⊥
-IsFunction (ExpPhrase.Str value at) = ⊥
-IsFunction (ExpPhrase.Char value at) = ⊥
-IsFunction (ExpPhrase.Long long at) = ⊥
-IsFunction (ExpPhrase.Record fields at) = ⊥
-IsFunction (ExpPhrase.Let dec body at) = ⊥
-IsFunction (ExpPhrase.App function argument at) = ⊥
-IsFunction (ExpPhrase.Typed exp ty at) = IsFunction exp
-IsFunction (ExpPhrase.Handle exp rules at) = ⊥
-IsFunction (ExpPhrase.Raise exp at) = ⊥
-IsFunction (ExpPhrase.Fn rules at) = Unit {0}
+-- an expression that is nonexpansive in every environment
+abbrev mutual
+  pub IsValue : ExpPhrase → Type 0
+  IsValue (ExpPhrase.Int value at) = Unit {0}
+  IsValue (ExpPhrase.Str value at) = Unit {0}
+  IsValue (ExpPhrase.Char value at) = Unit {0}
+  IsValue (ExpPhrase.Long long at) = Unit {0}
+  IsValue (ExpPhrase.Record fields at) = FieldsAreValues fields
+  IsValue (ExpPhrase.Let dec body at) = ⊥
+  IsValue (ExpPhrase.App function argument at) = ⊥
+  IsValue (ExpPhrase.Typed exp ty at) = IsValue exp
+  IsValue (ExpPhrase.Handle exp rules at) = ⊥
+  IsValue (ExpPhrase.Raise exp at) = ⊥
+  IsValue (ExpPhrase.Fn rules at) = Unit {0}
 
-abbrev pub AreFunctions : Rules → Type 0
-AreFunctions Rules.EndOfRules = Unit {0}
-AreFunctions (Rules.Rule pat exp rest) = IsFunction exp × AreFunctions rest
+  pub FieldsAreValues : ExpFields → Type 0
+  FieldsAreValues ExpFields.EndOfFields = Unit {0}
+  FieldsAreValues (ExpFields.Field label exp rest) = IsValue exp × FieldsAreValues rest
 
--- the bindings of a `val`: one plain binding, or any number of them whose right sides are functions
-abbrev pub ClosesAlike : Rules → Rules → Type 0
-ClosesAlike Rules.EndOfRules recs = AreFunctions recs
-ClosesAlike (Rules.Rule pat exp Rules.EndOfRules) Rules.EndOfRules = Unit {0}
-ClosesAlike (Rules.Rule pat exp Rules.EndOfRules) (Rules.Rule first right more) =
-    IsFunction exp × AreFunctions (Rules.Rule first right more)
-ClosesAlike (Rules.Rule pat exp (Rules.Rule next right more)) recs =
-    AreFunctions (Rules.Rule pat exp (Rules.Rule next right more)) × AreFunctions recs
+-- right sides that are such expressions, as all those of `rec` bindings are: functions
+abbrev pub AreValues : Rules → Type 0
+AreValues Rules.EndOfRules = Unit {0}
+AreValues (Rules.Rule pat exp rest) = IsValue exp × AreValues rest
 
--- a declaration that is no `datatype`, and that, if it is a `val`, binds no written type variable and has one plain
--- binding, or right sides that are functions
+-- one plain binding, without a list of type variables, in which none stands unguarded
+abbrev pub BindsOne : List Name → Rules → Rules → Type 0
+BindsOne [] Rules.EndOfRules recs = ⊥
+BindsOne [] (Rules.Rule pat exp Rules.EndOfRules) Rules.EndOfRules =
+    written_in (Rules.Rule pat exp Rules.EndOfRules) Rules.EndOfRules ≡ []
+BindsOne [] (Rules.Rule pat exp Rules.EndOfRules) (Rules.Rule first right more) = ⊥
+BindsOne [] (Rules.Rule pat exp (Rules.Rule next right more)) recs = ⊥
+BindsOne (name ∷ names) rules recs = ⊥
+
+-- a declaration that is no `datatype`; a `val` has such right sides alone, or is one such plain binding
 abbrev pub IsPlain : DecPhrase → Type 0
-IsPlain (DecPhrase.Val [] rules recs at) = (written_in rules recs ≡ []) × ClosesAlike rules recs
-IsPlain (DecPhrase.Val (name ∷ names) rules recs at) = ⊥
+IsPlain (DecPhrase.Val tyvars rules recs at) = (AreValues rules × AreValues recs) ⊎ BindsOne tyvars rules recs
 IsPlain (DecPhrase.Types binds at) = Unit {0}
 IsPlain (DecPhrase.Datatypes binds at) = ⊥
 IsPlain (DecPhrase.Replication name long at) = Unit {0}

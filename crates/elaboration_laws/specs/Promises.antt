@@ -32,9 +32,9 @@ pub record PatternsHaveDerivations : Type 0 where
       → Given (PatDerived sc pat bound st) (infer_pat depth sc pat bound st)
 
 -- for each choice that solves the state after an expression, a match or a declaration in which no `datatype` stands, and
--- each `val` binds no written type variable and has one plain binding or right sides that are functions, the rules give
--- it, in the scope under the choice, what inference gives under the choice, from the number of type names at the start
--- to the one at the end
+-- each `val` has right sides that are values, or is one plain binding that writes no type variables, the rules give it,
+-- in the scope under the choice, what inference gives under the choice, from the number of type names at the start to
+-- the one at the end
 pub record ExpressionsHaveDerivations : Type 0 where
   pub exp : (depth : ℕ) (sc : Scope) (exp : ExpPhrase) (st : Progress) → ExpHas IsPlain exp → FirmEnv sc.env
       → IsReady Any sc st → Given (ExpDerived sc exp st) (infer_exp depth sc exp st)

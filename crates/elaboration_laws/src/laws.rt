@@ -16,7 +16,7 @@ pub fn patterns_have_derivations()
 {}
 
 /// The rules give what inference gives of each expression, match and declaration in which no `datatype` stands, and each
-/// `val` binds no written type variable and has one plain binding or right sides that are functions.
+/// `val` has right sides that are values, or is one plain binding that writes no type variables.
 #[tactic(auto, using(crate::proofs::Promised::expressions_have_derivations))]
 pub fn expressions_have_derivations()
     ensures { ExpressionsHaveDerivations }
