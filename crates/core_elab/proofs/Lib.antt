@@ -1,1 +1,3 @@
 pub mod Ruling
+pub mod Entering
+pub mod Leaves

@@ -3,6 +3,8 @@
 
 ghost use Rattle.unification.specs.Unification.{depth};
 ghost use Rattle.type_nodes.specs.Tables.{Has, type_of};
+ghost use Rattle.sml_modules.specs.Graphs.{Graph};
+ghost use Rattle.bare_phrases.specs.Phrases.{Rules};
 ghost use Rattle.static_semantics.specs.CoreInference as inference;
 ghost use Rattle.type_phrases.specs.Inferred.{progress};
 ghost use Rattle.core_elab.specs.Rules.{IsRule};
@@ -90,4 +92,16 @@ pub fn raised(
     unify_at(alloc, g, t, at, ty, exn)?;
     t.is_kept();
     Ok(t.fresh(false)?)
+}
+
+/// A match without rules: it takes a new variable to another.
+pub fn no_rules(t: &mut TypeTable) -> Result<TyId, Fault>
+    ensures { (g : Graph) → IsRule g t.old t.new
+        (λ sc. inference.infer_match depth sc Rules.EndOfRules (progress t.old g)) result }
+{
+    t.is_kept();
+    let from = t.fresh(false)?;
+    t.is_kept();
+    let to = t.fresh(false)?;
+    Ok(t.arrow(from, to)?)
 }
