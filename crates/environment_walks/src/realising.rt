@@ -11,18 +11,12 @@ ghost use Rattle.environment_walks.specs.Changing.{IsChanged, AreChanged, MakesO
 
 use crate::places::Images;
 use crate::rows::{are_tables_kept, mapped_rows};
+use crate::steps::{Step, enter_rows};
 use cm_base::{List, NoMemory};
-use env_parts::{EnvTables, Rows, type_facts, value_facts};
+use env_parts::{EnvTables, type_facts, value_facts};
 use sml_modules::{EnvGraph, EnvId, KeptType, KeptValue, Kind, Node};
 use std::alloc::Global;
 use type_walks::{Realisation, Replacements, replaced_type, replaced_value};
-
-/// A step of a walk: a node is met, or the parts of a node are done.
-#[derive(Clone, Copy)]
-enum Step {
-    Enter(usize),
-    Leave(usize),
-}
 
 /// A node for what becomes of a type structure, and none where it stays.
 fn made_type(alloc: Global, by: &Replacements, kept: &KeptType) -> Result<Option<Node>, NoMemory>
@@ -145,15 +139,6 @@ fn finish(
     } else {
         finish_entry(graph, by, place, images)
     }
-}
-
-/// All places of rows are still to be met.
-fn enter_rows(alloc: Global, rows: &Rows, steps: &mut List<Step>) -> Result<(), NoMemory> {
-    let places = rows.places(alloc)?;
-    for place in places.as_slice() {
-        steps.add(Step::Enter(*place))?;
-    }
-    Ok(())
 }
 
 /// A node is met. Its parts are done before it is left; one that has an image is done.

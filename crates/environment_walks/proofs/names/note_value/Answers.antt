@@ -1,0 +1,7 @@
+use Rattle.type_walks.proofs.Imaging.{on_ok}
+use Rattle.environment_walks.proofs.Going.{one_noted}
+use Rattle.environment_walks.proofs.names.note_value.Goals as goal
+
+pub returns-clause-names : goal.returns-clause-names
+returns-clause-names c = on_ok c.note_tree.result c.note_tree.ensures.names
+    (λ h. one_noted c.args.table.now.names c.note_tree.new.table.names c.args.entry.now.scheme.body h)
