@@ -97,16 +97,16 @@ S = RisingSignature
 abbrev Out : Signature × Progress → Type 0
 Out r = S r.0
 
-one_value : (name : List ℕ) (value : ValueEntry) → RisingEnv (with_value name value empty_env)
+pub one_value : (name : List ℕ) (value : ValueEntry) → RisingEnv (with_value name value empty_env)
 one_value name value = rising_with_value name value empty_env rising_nothing
 
-one_type : (name : List ℕ) (str : TypeStr) → RisingType str → RisingEnv (with_type name str empty_env)
+pub one_type : (name : List ℕ) (str : TypeStr) → RisingType str → RisingEnv (with_type name str empty_env)
 one_type name str h = rising_with_type name str empty_env h rising_nothing
 
-one_structure : (name : List ℕ) (env : Env) → RisingEnv env → RisingEnv (with_structure name env empty_env)
+pub one_structure : (name : List ℕ) (env : Env) → RisingEnv env → RisingEnv (with_structure name env empty_env)
 one_structure name env h = rising_with_structure name env empty_env h rising_nothing
 
-specified_rises : (sc : Scope) (at : At) (part : Env) (made : Signature) → RisingEnv part → S made
+pub specified_rises : (sc : Scope) (at : At) (part : Env) (made : Signature) → RisingEnv part → S made
     → Given S (specified sc at part made)
 specified_rises sc at part made h k =
     given_where S (have_common part made.env) 40 sc at _ (rising_modified made.env part k h)
@@ -135,7 +135,7 @@ type_descs_rise sc eq (desc ∷ descs) made st k =
     (also_bound (name ∷ []) made) (one_type desc.name.text (own_type name) refl) k)
     (λ sig m. type_descs_rise sc eq descs sig (after_names 1 r.1) m))
 
-exception_specs_rise : (sc : Scope) (cons : List ConPhrase) (made : Signature) → S made
+pub exception_specs_rise : (sc : Scope) (cons : List ConPhrase) (made : Signature) → S made
     → Given S (infer_exception_specs sc cons made)
 exception_specs_rise sc [] made k = k
 exception_specs_rise sc (con ∷ cons) made k =
@@ -147,15 +147,15 @@ exception_specs_rise sc (con ∷ cons) made k =
     made (one_value con.name.text (exception_entry (exception_ty arg))) k)
     (λ sig m. exception_specs_rise sc cons sig m))
 
-type_alone_rises : (name : List ℕ) (o : Option TypeStr) → IfSome RisingType o → RisingEnv (type_alone name o)
+pub type_alone_rises : (name : List ℕ) (o : Option TypeStr) → IfSome RisingType o → RisingEnv (type_alone name o)
 type_alone_rises name None h = rising_nothing
 type_alone_rises name (Some str) h = one_type name str h
 
-value_alone_rises : (name : List ℕ) (o : Option ValueEntry) → RisingEnv (value_alone name o)
+pub value_alone_rises : (name : List ℕ) (o : Option ValueEntry) → RisingEnv (value_alone name o)
 value_alone_rises name None = rising_nothing
 value_alone_rises name (Some value) = one_value name value
 
-cons_specified : (sc : Scope) (cons : List ConPhrase) (new : Env) (made : Signature) → S made
+pub cons_specified : (sc : Scope) (cons : List ConPhrase) (new : Env) (made : Signature) → S made
     → Given S (specified_cons sc cons new made)
 cons_specified sc [] new made k = k
 cons_specified sc (con ∷ cons) new made k =
@@ -164,7 +164,7 @@ cons_specified sc (con ∷ cons) new made k =
     (specified_rises sc (name_at con.name) (value_alone con.name.text found) made
     (value_alone_rises con.name.text found) k) (λ sig m. cons_specified sc cons new sig m)
 
-types_specified : (sc : Scope) (binds : List DatPhrase) (new : Env) (made : Signature) → RisingEnv new → S made
+pub types_specified : (sc : Scope) (binds : List DatPhrase) (new : Env) (made : Signature) → RisingEnv new → S made
     → Given S (specified_types sc binds new made)
 types_specified sc [] new made h k = k
 types_specified sc (bind ∷ binds) new made h k =
@@ -201,7 +201,7 @@ abbrev Sigs : Table Signature → Type 0
 Sigs = AllRows S
 
 mutual
-  sig_rises : (sigs : Table Signature) (sc : Scope) (sig : SigPhrase) (st : Progress) → Sigs sigs → RisingEnv sc.env
+  pub sig_rises : (sigs : Table Signature) (sc : Scope) (sig : SigPhrase) (st : Progress) → Sigs sigs → RisingEnv sc.env
       → Given Out (infer_sig sigs sc sig st)
   sig_rises sigs sc (SigPhrase.Sig spec at) st s h = spec_rises sigs sc spec empty_signature st s h rising_nothing
   sig_rises sigs sc (SigPhrase.Named name at) st s h =
@@ -216,7 +216,7 @@ mutual
       given_then S Out (where_type sc at long str.function (type_function (numbers own.0) t) r.0) _
       (where_rises sc at long str.function (type_function (numbers own.0) t) r.0 k) (λ with m. m)))))
 
-  spec_rises : (sigs : Table Signature) (sc : Scope) (spec : SpecPhrase) (made : Signature) (st : Progress)
+  pub spec_rises : (sigs : Table Signature) (sc : Scope) (spec : SpecPhrase) (made : Signature) (st : Progress)
       → Sigs sigs → RisingEnv sc.env → S made → Given Out (infer_spec sigs sc spec made st)
   spec_rises sigs sc (SpecPhrase.Vals descs at) made st s h k = vals_rise sc descs made st k
   spec_rises sigs sc (SpecPhrase.Types descs at) made st s h k = type_descs_rise sc false descs made st k
@@ -238,7 +238,7 @@ mutual
       (specified_rises sc at r.0.env (also_bound r.0.bound made) l k) (λ with m. m))
   spec_rises sigs sc (SpecPhrase.Sequence specs at) made st s h k = specs_rise sigs sc specs made st s h k
 
-  specs_of : (sigs : Table Signature) (sc : Scope) (binds : SigBinds) (made : Signature) (st : Progress)
+  pub specs_of : (sigs : Table Signature) (sc : Scope) (binds : SigBinds) (made : Signature) (st : Progress)
       → Sigs sigs → RisingEnv sc.env → S made → Given Out (infer_structure_specs sigs sc binds made st)
   specs_of sigs sc SigBinds.EndOfBinds made st s h k = k
   specs_of sigs sc (SigBinds.Bind name sig rest) made st s h k =
@@ -248,7 +248,7 @@ mutual
       (specified_rises sc (name_at name) (with_structure name.text r.0.env empty_env) (also_bound r.0.bound made)
       (one_structure name.text r.0.env l) k) (λ with m. specs_of sigs sc rest with r.1 s h m))
 
-  specs_rise : (sigs : Table Signature) (sc : Scope) (specs : SpecPhrases) (made : Signature) (st : Progress)
+  pub specs_rise : (sigs : Table Signature) (sc : Scope) (specs : SpecPhrases) (made : Signature) (st : Progress)
       → Sigs sigs → RisingEnv sc.env → S made → Given Out (infer_specs sigs sc specs made st)
   specs_rise sigs sc SpecPhrases.EndOfSpecs made st s h k = k
   specs_rise sigs sc (SpecPhrases.Next spec rest) made st s h k =
@@ -256,13 +256,13 @@ mutual
       (spec_rises sigs (under made.env sc) spec made st s (rising_modified sc.env made.env h k) k)
       (λ r l. specs_rise sigs sc rest r.0 r.1 s h l)
 
-signature_rises : (sigs : Table Signature) (sc : Scope) (sig : SigPhrase) (st : Progress) → Sigs sigs
+pub signature_rises : (sigs : Table Signature) (sc : Scope) (sig : SigPhrase) (st : Progress) → Sigs sigs
     → RisingEnv sc.env → Given Out (signature_of sigs sc sig st)
 signature_rises sigs sc sig st s h =
     given_then Out Out (infer_sig sigs sc sig st) _ (sig_rises sigs sc sig st s h) (λ r k.
     env_realised (of_rows (rows_between r.0.bound (bound_names 0 r.0.bound))) r.0.env k)
 
-opened_rises : (home : List ℕ) (sig : Signature) (st : Progress) → S sig → S (opened home sig st).0
+pub opened_rises : (home : List ℕ) (sig : Signature) (st : Progress) → S sig → S (opened home sig st).0
 opened_rises home sig st h =
     env_realised (of_rows (rows_between sig.bound (unit_names home st.names sig.bound))) sig.env h
 
@@ -375,7 +375,7 @@ signatures_rise home top (SigBinds.Bind name sig rest) made st h k =
     signatures_rise home top rest (with_entry name.text r.0 made) r.1 h
     (table_with S name.text r.0 made l k)))
 
-param_rises : (top : Top) (name : Name) (param : Env) → RisingTop top → RisingEnv param
+pub param_rises : (top : Top) (name : Name) (param : Env) → RisingTop top → RisingEnv param
     → RisingTop (top_with_param name param top)
 param_rises top name param h k =
     under_rises top (with_structure name.text param empty_env) h (one_structure name.text param k)
@@ -433,7 +433,7 @@ TopIn r = RisingTop r.0
 nothing_in : {A : Type 0} (R : A → Type 0) → TableWith R []
 nothing_in R = (refl, tt)
 
-top_rises : (depth : ℕ) (home : List ℕ) (top : Top) (dec : TopPhrase) (st : Progress) → RisingTop top
+pub top_rises : (depth : ℕ) (home : List ℕ) (top : Top) (dec : TopPhrase) (st : Progress) → RisingTop top
     → Given TopIn (infer_top depth home top dec st)
 top_rises depth home top (TopPhrase.Structures binds at) st h =
     given_then Mod TopIn (infer_structures depth home top binds empty_env st) _
@@ -468,7 +468,7 @@ top_rises depth home top (TopPhrase.Funsigs binds at) st h =
       funsigs = k;
     })
 
-both_rise : (first second : Top) → RisingTop first → RisingTop second → RisingTop (top_with first second)
+pub both_rise : (first second : Top) → RisingTop first → RisingTop second → RisingTop (top_with first second)
 both_rise first second h k = record {
   env = rising_modified first.env second.env h.env k.env;
   signatures = table_with_all S second.signatures first.signatures k.signatures h.signatures;
