@@ -27,15 +27,15 @@ use Rattle.static_semantics.specs.Holding.{Given, AllItems}
 use Rattle.static_semantics.proofs.Holding.{given_then}
 use Rattle.static_semantics.proofs.TypesGrow.{given_more}
 use Rattle.static_semantics.proofs.Maximal.{datatypes_maximise}
-use Rattle.inference_laws.specs.Nodes.{EnvOf, below_number}
 use Rattle.inference_laws.specs.Alike.{FirmType, FirmEnv}
 use Rattle.inference_laws.proofs.Firm.{closed_firm, own_within, new_firm, DatWithin, dats_within, schemes_firm, entries_firm, firm_nothing, firm_modified}
 use Rattle.inference_laws.proofs.PutAlike.{firm_type}
 use Rattle.inference_laws.proofs.Making.{given_both}
-use Rattle.elaboration_laws.specs.Derived.{SolvesBefore, LeavesBefore}
-use Rattle.elaboration_laws.proofs.Types.{given_check}
-use Rattle.elaboration_laws.proofs.TypeBindings.{ListedOf, listed_of}
-use Rattle.elaboration_laws.proofs.Declarations.{with_datatype_put}
+use Rattle.phrase_laws.specs.Derived.{SolvesBefore, LeavesBefore}
+use Rattle.phrase_laws.proofs.Types.{given_check}
+use Rattle.phrase_laws.proofs.TypeBindings.{ListedOf, listed_of}
+use Rattle.phrase_laws.proofs.Declarations.{with_datatype_put}
+use Rattle.datatype_laws.specs.Below.{TypesBelow}
 use Rattle.datatype_laws.specs.Derived.{DatatypesDerived}
 use Rattle.datatype_laws.specs.Promises.{DatatypesHaveDerivations}
 use Rattle.datatype_laws.proofs.Settling.{ShowsSettled, settled_derives}
@@ -264,7 +264,7 @@ module _ (home : List ℕ) (first : ℕ) (choice : List Bool) where
 
   -- ---- the choice
 
-  as_many : (whole other : List Bool) (dats : List Dat) → RespectsIn home first whole other dats
+  pub as_many : (whole other : List Bool) (dats : List Dat) → RespectsIn home first whole other dats
       → length other ≡ length dats
   as_many whole [] [] k = refl
   as_many whole [] (dat ∷ dats) k = absurd k
@@ -390,7 +390,7 @@ datatypes_have_derivations = record {
 }
   where
     whole : (sc : Scope) (refused : List (List ℕ)) (binds : List DatPhrase) (st : Progress) → FirmEnv sc.env
-        → EnvOf (below_number sc.home st.names) sc.env → IsFit st.types
+        → TypesBelow sc.home st.names sc.env → IsFit st.types
         → Given (DatatypesDerived sc refused binds st) (datatypes_of sc refused binds st)
     whole sc refused binds st firm old fit =
         let Q : Env × Progress → Type 0 = DatatypesDerived sc refused binds st in

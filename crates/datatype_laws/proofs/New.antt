@@ -28,12 +28,13 @@ use Rattle.static_semantics.specs.RuleConditions.{are_distinct, type_names, type
 use Rattle.static_semantics.specs.Holding.{Given, IfSome, AllItems, AllRows, TypeHas}
 use Rattle.static_semantics.proofs.Holding.{has_found, has_types}
 use Rattle.static_semantics.proofs.TypesGrow.{given_more}
-use Rattle.inference_laws.specs.Nodes.{TreeOf, TreesOf, SchemeOf, FunctionOf, EnvOf, count_trees, below_number}
+use Rattle.inference_laws.specs.Nodes.{TreeOf, TreesOf, count_trees, below_number}
 use Rattle.inference_laws.specs.Alike.{FirmType, FirmValue, AnyName, FirmEnv}
 use Rattle.inference_laws.specs.Naming.{RowsWith}
 use Rattle.inference_laws.proofs.EnvsWith.{env_types, env_found}
 use Rattle.inference_laws.proofs.PutAlike.{firm_type}
-use Rattle.elaboration_laws.proofs.Finding.{with_entry_put, with_all_put, entry_put, types_put, type_found_put}
+use Rattle.phrase_laws.proofs.Finding.{with_entry_put, with_all_put, entry_put, types_put, type_found_put}
+use Rattle.datatype_laws.specs.Below.{AnyScheme, FunctionBelow, TypesBelow}
 use Rattle.datatype_laws.proofs.Settling.{settled_tree, settled_trees, settled_str, ShowsSettled}
 
 -- ---- names that stand for themselves
@@ -100,10 +101,10 @@ module _ (home : List ℕ) (first : ℕ) (choice : List Bool) where
   } in made)) (old_tree str.function.body h)
 
   abbrev F : TypeFn → Type 0
-  F = FunctionOf (below_number home first)
+  F = FunctionBelow home first
 
   stays : (str : TypeStr) → F str.function → FirmType str → Stays str
-  stays str h k = record { settles = str_settles str h.body; puts = λ s. firm_type s str k }
+  stays str h k = record { settles = str_settles str h; puts = λ s. firm_type s str k }
 
   both_stay : (o : Option TypeStr) → IfSome (λ (str : TypeStr). F str.function) o → IfSome FirmType o
       → (s : Substitution) → option_map (put_type s) o ≡ option_map (settled_str home first choice) o
@@ -199,7 +200,7 @@ module _ (home : List ℕ) (first : ℕ) (choice : List Bool) where
 
   -- a scope, and the same with what was put in, each with the new types
   module _ (sc : Scope) (binds : List DatPhrase) (s : Substitution) (firm : FirmEnv sc.env)
-      (old : EnvOf (below_number home first) sc.env) (counts : length choice ≡ length binds) where
+      (old : TypesBelow home first sc.env) (counts : length choice ≡ length binds) where
     abbrev pub one : Env
     one = first_types home binds first empty_env
 
@@ -208,12 +209,12 @@ module _ (home : List ℕ) (first : ℕ) (choice : List Bool) where
 
     old_found : (parts : List (List ℕ)) → IfSome (λ (str : TypeStr). F str.function) (found_at types parts sc.env)
     old_found parts = first_of (found_at types parts sc.env)
-        (has_found (SchemeOf (below_number home first)) F
-        (TypeHas (SchemeOf (below_number home first)) F) types
-        (has_types (SchemeOf (below_number home first)) F) parts sc.env old)
+        (has_found AnyScheme F
+        (TypeHas AnyScheme F) types
+        (has_types AnyScheme F) parts sc.env old)
       where
         first_of : (o : Option TypeStr)
-            → IfSome (TypeHas (SchemeOf (below_number home first)) F) o
+            → IfSome (TypeHas AnyScheme F) o
             → IfSome (λ (str : TypeStr). F str.function) o
         first_of None h = tt
         first_of (Some str) h = h.0
@@ -229,7 +230,7 @@ module _ (home : List ℕ) (first : ℕ) (choice : List Bool) where
 
     -- the table of types as a whole
     rows_stay : (rows : Table TypeStr)
-        → AllRows (TypeHas (SchemeOf (below_number home first)) F) rows
+        → AllRows (TypeHas AnyScheme F) rows
         → RowsWith AnyName FirmType rows → each_entry (put_type s) rows ≡ E rows
     rows_stay [] h k = refl
     rows_stay (row ∷ rows) h k = ap₂ (λ str more. (row.0, str) ∷ more)
@@ -240,7 +241,7 @@ module _ (home : List ℕ) (first : ℕ) (choice : List Bool) where
         (new_settled binds choice first empty_env empty_env (omega arith)
         (let z : length choice ≡ length binds = counts in omega (arith, z)) counts
         (ap (λ k. drop k choice) (let z : first - first ≡ 0 = omega arith in z)) refl)
-        (types_put s sc.env ∙ rows_stay (types sc.env) (has_types (SchemeOf (below_number home first)) F sc.env old)
+        (types_put s sc.env ∙ rows_stay (types sc.env) (has_types AnyScheme F sc.env old)
         (env_types AnyName FirmType FirmValue sc.env firm))
         ∙ with_all_put (settled_str home first choice) (types one) (types sc.env)
 

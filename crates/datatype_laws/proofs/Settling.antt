@@ -26,8 +26,8 @@ use Rattle.static_semantics.specs.Elaborates.{ElaboratesTy, ElaboratesTyFields, 
 use Rattle.static_semantics.specs.Holding.{Given, IfSome}
 use Rattle.static_semantics.proofs.Holding.{given_then, given_known}
 use Rattle.static_semantics.proofs.TypesGrow.{given_more}
-use Rattle.elaboration_laws.proofs.Finding.{no_entry_put, with_entry_put}
-use Rattle.elaboration_laws.proofs.Types.{given_check, given_new, is_not, found_if}
+use Rattle.phrase_laws.proofs.Finding.{no_entry_put, with_entry_put}
+use Rattle.phrase_laws.proofs.Types.{given_check, given_new, is_not, found_if}
 
 module _ (home : List ℕ) (first : ℕ) (choice : List Bool) where
   -- ---- trees

@@ -8,7 +8,7 @@ use Rattle.static_semantics.specs.DatatypeInference.{Dat, made_types}
 use Rattle.static_semantics.specs.EnvironmentsPut.{put_env, put_scope}
 use Rattle.static_semantics.specs.RuleConditions.{are_distinct, type_names, types_by, MaximisesEquality}
 use Rattle.static_semantics.specs.Elaborates.{ElaboratesDats}
-use Rattle.elaboration_laws.specs.Derived.{SolvesBefore, LeavesBefore}
+use Rattle.phrase_laws.specs.Derived.{SolvesBefore, LeavesBefore}
 
 -- there are a choice of the types that admit equality and datatypes, so that the rules give these in the scope with the
 -- types by the choice, whatever is put in for variables of the table around; the choice maximises equality, and what is

@@ -3,4 +3,4 @@
 
 mod laws;
 
-pub use laws::datatypes_have_derivations;
+pub use laws::{datatypes_have_derivations, types_stay_below};

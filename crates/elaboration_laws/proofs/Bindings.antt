@@ -18,12 +18,12 @@ use Rattle.static_semantics.proofs.Growing.{ready_later}
 use Rattle.static_semantics.proofs.TypesGrow.{given_more}
 use Rattle.inference_laws.specs.Alike.{FirmEnv}
 use Rattle.inference_laws.specs.Promises.{Any}
-use Rattle.elaboration_laws.specs.Derived.{SolvesBefore, LeavesBefore, PatDerived, ExpDerived}
-use Rattle.elaboration_laws.proofs.Finding.{rows_after_put, con_mapped, con_put, value_found_put}
-use Rattle.elaboration_laws.proofs.Types.{given_check, is_not}
-use Rattle.elaboration_laws.proofs.Steps.{Joined}
-use Rattle.elaboration_laws.proofs.Patterns.{PatKnown, pat_known}
-use Rattle.elaboration_laws.proofs.Schemes.{put_groups}
+use Rattle.phrase_laws.specs.Derived.{SolvesBefore, LeavesBefore, PatDerived, ExpDerived}
+use Rattle.phrase_laws.proofs.Finding.{rows_after_put, con_mapped, con_put, value_found_put}
+use Rattle.phrase_laws.proofs.Types.{given_check, is_not}
+use Rattle.phrase_laws.proofs.Steps.{Joined}
+use Rattle.phrase_laws.proofs.Patterns.{PatKnown, pat_known}
+use Rattle.reopening_laws.proofs.Schemes.{put_groups}
 
 -- ---- lists
 

@@ -1,16 +1,5 @@
-pub mod Finding
-pub mod Types
-pub mod Steps
-pub mod Patterns
 pub mod Expressions
-pub mod Declarations
-pub mod TypeBindings
 pub mod Core
-pub mod Reopening
-pub mod Closing
-pub mod Keeping
-pub mod Around
-pub mod Schemes
 pub mod Bindings
 pub mod Vals
 pub mod Own

@@ -25,16 +25,16 @@ use Rattle.static_semantics.proofs.Growing.{ready_later}
 use Rattle.static_semantics.proofs.TypesGrow.{MadeIn}
 use Rattle.static_semantics.proofs.CoreGrow.{items_after}
 use Rattle.inference_laws.specs.Promises.{Any}
-use Rattle.elaboration_laws.specs.Derived.{DecDerived}
-use Rattle.elaboration_laws.specs.Reopening.{Reopened}
-use Rattle.elaboration_laws.proofs.Finding.{rows_after_put, is_named_put, distinct_put, under_bound_put}
-use Rattle.elaboration_laws.proofs.Keeping.{mapped_after, new_apart}
-use Rattle.elaboration_laws.proofs.Closing.{shifted, differ_shifted}
-use Rattle.elaboration_laws.proofs.TypeBindings.{IsOwn}
+use Rattle.phrase_laws.specs.Derived.{DecDerived}
+use Rattle.reopening_laws.specs.Reopening.{Reopened}
+use Rattle.phrase_laws.proofs.Finding.{rows_after_put, is_named_put, distinct_put, under_bound_put}
+use Rattle.reopening_laws.proofs.Keeping.{mapped_after, new_apart}
+use Rattle.reopening_laws.proofs.Closing.{shifted, differ_shifted}
+use Rattle.phrase_laws.proofs.TypeBindings.{IsOwn}
 use Rattle.elaboration_laws.proofs.Own.{texts_of, texts_in, named_one, OwnDerived}
-use Rattle.elaboration_laws.proofs.Reopening.{reopened}
-use Rattle.elaboration_laws.proofs.Around.{scope_around}
-use Rattle.elaboration_laws.proofs.Schemes.{ClosesOf, GroupCloses, put_groups, groups_bound_put, all_schemes, groups_have_schemes, groups_made, marks_agree, free_below}
+use Rattle.reopening_laws.proofs.Reopening.{reopened}
+use Rattle.reopening_laws.proofs.Around.{scope_around}
+use Rattle.reopening_laws.proofs.Schemes.{ClosesOf, GroupCloses, put_groups, groups_bound_put, all_schemes, groups_have_schemes, groups_made, marks_agree, free_below}
 use Rattle.elaboration_laws.proofs.Bindings.{after_both, HaveFlag, HasFlag, BindsDerived, put_recs, RecPatsHold, RecPatsDerived, RecExpsDerived, rec_bound_put, rec_groups_put, rec_groups_bound, rec_flags}
 
 -- ---- the groups

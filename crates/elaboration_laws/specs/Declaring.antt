@@ -76,11 +76,11 @@ BindsOne [] (Rules.Rule pat exp Rules.EndOfRules) (Rules.Rule first right more) 
 BindsOne [] (Rules.Rule pat exp (Rules.Rule next right more)) recs = ⊥
 BindsOne (name ∷ names) rules recs = ⊥
 
--- a declaration that is no `datatype`; a `val` has such right sides alone, or is one such plain binding
+-- a declaration; a `val` has such right sides alone, or is one such plain binding
 abbrev pub IsPlain : DecPhrase → Type 0
 IsPlain (DecPhrase.Val tyvars rules recs at) = (AreValues rules × AreValues recs) ⊎ BindsOne tyvars rules recs
 IsPlain (DecPhrase.Types binds at) = Unit {0}
-IsPlain (DecPhrase.Datatypes binds at) = ⊥
+IsPlain (DecPhrase.Datatypes binds at) = Unit {0}
 IsPlain (DecPhrase.Replication name long at) = Unit {0}
 IsPlain (DecPhrase.Exceptions binds at) = Unit {0}
 IsPlain (DecPhrase.Local hidden shown at) = Unit {0}

@@ -16,7 +16,7 @@ use Rattle.static_semantics.specs.Inferring.{Scope, seen, con_bodies, type_bodie
 use Rattle.static_semantics.specs.EnvironmentsPut.{put_con, put_type, put_value, each_entry, put_env, put_structures, put_rows, put_scope}
 use Rattle.static_semantics.specs.Holding.{AllItems}
 use Rattle.inference_laws.proofs.Making.{items_left, items_right}
-use Rattle.elaboration_laws.specs.Reopening.{Reopened}
+use Rattle.reopening_laws.specs.Reopening.{Reopened}
 
 -- ---- environments whose trees are one under two choices
 

@@ -16,9 +16,9 @@ use Rattle.unification.proofs.Putting.{put_alike, put_solved}
 use Rattle.static_semantics.specs.RuleConditions.{do_differ}
 use Rattle.static_semantics.proofs.Ages.{known_itself}
 use Rattle.inference_laws.proofs.Nodes.{closed_binds}
-use Rattle.elaboration_laws.specs.Reopening.{Reopened, OpenInside}
-use Rattle.elaboration_laws.proofs.Patterns.{not_true}
-use Rattle.elaboration_laws.proofs.TypeBindings.{absent_still}
+use Rattle.reopening_laws.specs.Reopening.{Reopened, OpenInside}
+use Rattle.phrase_laws.proofs.Patterns.{not_true}
+use Rattle.phrase_laws.proofs.TypeBindings.{absent_still}
 
 -- ---- what is found differs
 

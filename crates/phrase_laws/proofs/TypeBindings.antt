@@ -31,11 +31,11 @@ use Rattle.inference_laws.proofs.EnvsWith.{env_types, env_found}
 use Rattle.inference_laws.proofs.Firm.{ty_within, closed_firm}
 use Rattle.inference_laws.proofs.PutAlike.{firm_type}
 use Rattle.inference_laws.proofs.Making.{given_both}
-use Rattle.elaboration_laws.specs.Derived.{SolvesBefore, LeavesBefore}
-use Rattle.elaboration_laws.proofs.Finding.{types_put, no_entry_put, type_found_put, with_type_put}
-use Rattle.elaboration_laws.proofs.Types.{given_check, given_new, Shows, shown_derives}
-use Rattle.elaboration_laws.proofs.Steps.{given_each}
-use Rattle.elaboration_laws.proofs.Patterns.{not_true, distinct_more}
+use Rattle.phrase_laws.specs.Derived.{SolvesBefore, LeavesBefore}
+use Rattle.phrase_laws.proofs.Finding.{types_put, no_entry_put, type_found_put, with_type_put}
+use Rattle.phrase_laws.proofs.Types.{given_check, given_new, Shows, shown_derives}
+use Rattle.phrase_laws.proofs.Steps.{given_each}
+use Rattle.phrase_laws.proofs.Patterns.{not_true, distinct_more}
 
 -- ---- lists of type variables
 

@@ -21,7 +21,7 @@ use Rattle.static_semantics.specs.Elaborates.{ElaboratesTy, ElaboratesTyFields, 
 use Rattle.static_semantics.specs.Holding.{Given, IfSome}
 use Rattle.static_semantics.proofs.Holding.{given_then, given_known}
 use Rattle.static_semantics.proofs.TypesGrow.{given_more}
-use Rattle.elaboration_laws.proofs.Finding.{no_entry_put, with_entry_put, named_put, type_found_put, record_put}
+use Rattle.phrase_laws.proofs.Finding.{no_entry_put, with_entry_put, named_put, type_found_put, record_put}
 
 -- ---- answers
 

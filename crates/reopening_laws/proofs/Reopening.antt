@@ -9,7 +9,7 @@ use Rattle.unification.specs.Fitting.{Below, IsBelow, IsFit}
 use Rattle.unification.proofs.Walking.{either_way, or_left, or_right, or_either, and_left, and_right, and_both}
 use Rattle.unification.proofs.Putting.{put-put, put_alike, put_free, put_solved}
 use Rattle.unification.proofs.Requiring.{more_parts}
-use Rattle.elaboration_laws.specs.Reopening.{Reopened}
+use Rattle.reopening_laws.specs.Reopening.{Reopened}
 
 -- ---- a number above all variables of a type, and of what stands for the first variables
 

@@ -23,11 +23,11 @@ use Rattle.static_semantics.proofs.Holding.{given_then, given_where, given_known
 use Rattle.static_semantics.proofs.TypesGrow.{given_more}
 use Rattle.inference_laws.specs.Alike.{FirmEnv}
 use Rattle.inference_laws.proofs.SeenLater.{put_closed}
-use Rattle.elaboration_laws.specs.Derived.{DecDerived}
-use Rattle.elaboration_laws.proofs.Finding.{no_entry_put, structures_put, values_put, found_put, type_found_put, with_value_put, with_type_put, modified_put}
-use Rattle.elaboration_laws.proofs.Types.{given_check, given_new, is_not, TyDerived, ty_derives}
-use Rattle.elaboration_laws.proofs.Steps.{given_each, found_each}
-use Rattle.elaboration_laws.proofs.Patterns.{ValueFound, value_known}
+use Rattle.phrase_laws.specs.Derived.{DecDerived}
+use Rattle.phrase_laws.proofs.Finding.{no_entry_put, structures_put, values_put, found_put, type_found_put, with_value_put, with_type_put, modified_put}
+use Rattle.phrase_laws.proofs.Types.{given_check, given_new, is_not, TyDerived, ty_derives}
+use Rattle.phrase_laws.proofs.Steps.{given_each, found_each}
+use Rattle.phrase_laws.proofs.Patterns.{ValueFound, value_known}
 
 pub dec_sized : (sc : Scope) (dec : DecPhrase) (st : Progress) (at : At) (r : Env × Progress) → DecDerived sc dec st r
     → Given (DecDerived sc dec st) (sized_dec sc at r)

@@ -23,8 +23,8 @@ use Rattle.static_semantics.proofs.Growing.{unify_grows}
 use Rattle.static_semantics.proofs.TypesGrow.{ty_grows}
 use Rattle.inference_laws.specs.Promises.{Any}
 use Rattle.inference_laws.proofs.Making.{given_both}
-use Rattle.elaboration_laws.proofs.Types.{TyDerived, ty_derives}
-use Rattle.elaboration_laws.specs.Derived.{SolvesBefore, LeavesBefore}
+use Rattle.phrase_laws.proofs.Types.{TyDerived, ty_derives}
+use Rattle.phrase_laws.specs.Derived.{SolvesBefore, LeavesBefore}
 
 -- ---- what holds whatever is put in
 

@@ -26,10 +26,10 @@ use Rattle.static_semantics.proofs.Growing.{within_at}
 use Rattle.static_semantics.proofs.Ages.{kept_aged}
 use Rattle.inference_laws.specs.Promises.{Any}
 use Rattle.inference_laws.proofs.SeenLater.{put_closed}
-use Rattle.elaboration_laws.specs.Reopening.{Reopened, OpenInside}
-use Rattle.elaboration_laws.proofs.Finding.{rows_after_put, with_value_put}
-use Rattle.elaboration_laws.proofs.Closing.{kept_or, open_inside}
-use Rattle.elaboration_laws.proofs.Keeping.{free_put, kept_put, new_apart}
+use Rattle.reopening_laws.specs.Reopening.{Reopened, OpenInside}
+use Rattle.phrase_laws.proofs.Finding.{rows_after_put, with_value_put}
+use Rattle.reopening_laws.proofs.Closing.{kept_or, open_inside}
+use Rattle.reopening_laws.proofs.Keeping.{free_put, kept_put, new_apart}
 
 -- ---- what is kept, in what a choice puts in for it
 

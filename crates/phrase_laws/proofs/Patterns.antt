@@ -34,10 +34,10 @@ use Rattle.inference_laws.specs.Alike.{is_variable_tree, FirmType, FirmValue, An
 use Rattle.inference_laws.specs.Promises.{Any}
 use Rattle.inference_laws.proofs.EnvsWith.{env_values, env_found}
 use Rattle.inference_laws.proofs.Making.{given_both}
-use Rattle.elaboration_laws.specs.Derived.{SolvesBefore, LeavesBefore, BindsMore, PatDerived, PatFieldsDerived}
-use Rattle.elaboration_laws.proofs.Finding.{no_entry_put, with_entry_put, rows_after_put, value_found_put, con_put, record_put}
-use Rattle.elaboration_laws.proofs.Types.{given_check, given_new, is_not, TyDerived, ty_derives}
-use Rattle.elaboration_laws.proofs.Steps.{given_each, found_each, Joined, unify_joins, solved_variable, leaves_variable, solved_instance, leaves_instance, instance_under, ty_known, unify_known}
+use Rattle.phrase_laws.specs.Derived.{SolvesBefore, LeavesBefore, BindsMore, PatDerived, PatFieldsDerived}
+use Rattle.phrase_laws.proofs.Finding.{no_entry_put, with_entry_put, rows_after_put, value_found_put, con_put, record_put}
+use Rattle.phrase_laws.proofs.Types.{given_check, given_new, is_not, TyDerived, ty_derives}
+use Rattle.phrase_laws.proofs.Steps.{given_each, found_each, Joined, unify_joins, solved_variable, leaves_variable, solved_instance, leaves_instance, instance_under, ty_known, unify_known}
 
 -- ---- names that differ
 

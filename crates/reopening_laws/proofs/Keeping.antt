@@ -21,7 +21,7 @@ use Rattle.static_semantics.specs.EnvironmentsPut.{put_con, put_type, put_value,
 use Rattle.static_semantics.specs.Growing.{ScopeIn}
 use Rattle.static_semantics.proofs.Ages.{kept_aged}
 use Rattle.inference_laws.specs.Promises.{Any}
-use Rattle.elaboration_laws.specs.Reopening.{Reopened}
+use Rattle.reopening_laws.specs.Reopening.{Reopened}
 
 pub mapped_after : {A B : Type 0} (f : A → B) (xs ys : List A) → map f (xs ++ ys) ≡ map f xs ++ map f ys
 mapped_after f [] ys = refl
