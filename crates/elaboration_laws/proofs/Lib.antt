@@ -4,3 +4,5 @@ pub mod Bindings
 pub mod Vals
 pub mod Own
 pub mod Promised
+pub mod Behind
+pub mod Apart
