@@ -100,12 +100,12 @@ abbrev AllAbsent : Table ValueEntry → Table ValueEntry → Type 0
 AllAbsent t [] = Unit {0}
 AllAbsent t (row ∷ rows) = (entry row.0 t ≡ None) × AllAbsent t rows
 
-named_apart : {A : Type 0} (c : Bool) (x : A) (o : Option A) → is_some (cond c (Some x) o) ≡ false
+pub named_apart : {A : Type 0} (c : Bool) (x : A) (o : Option A) → is_some (cond c (Some x) o) ≡ false
     → (c ≡ false) × (is_some o ≡ false)
 named_apart true x o h = absurd (cc)
 named_apart false x o h = (refl, h)
 
-not_true : (b : Bool) → not b ≡ true → b ≡ false
+pub not_true : (b : Bool) → not b ≡ true → b ≡ false
 not_true true h = absurd (cc)
 not_true false h = refl
 
@@ -118,9 +118,10 @@ absent_with : (name : List ℕ) (x : ValueEntry) (t rows : Table ValueEntry) →
 absent_with name x t [] h k = tt
 absent_with name x t (row ∷ rows) h k =
     let e : (same_text name row.0 ≡ false) × (is_named name rows ≡ false) =
-    named_apart (same_text name row.0) row.1 (named name rows) h in
-    ((sets_entries ValueEntry).others name row.0 x t (texts_differ name row.0 e.0) ∙ k.0,
-    absent_with name x t rows e.1 k.1)
+    named_apart (same_text name row.0) row.1 (named name rows) h in (
+      (sets_entries ValueEntry).others name row.0 x t (texts_differ name row.0 e.0) ∙ k.0,
+      absent_with name x t rows e.1 k.1,
+    )
 
 absent_from_nothing : (rows : Table ValueEntry) → AllAbsent [] rows
 absent_from_nothing [] = tt
