@@ -6,7 +6,6 @@ use Rattle.static_semantics.proofs.Growing.{ready_later, unify_grows}
 use Rattle.static_semantics.proofs.PatternsGrow.{pat_grows}
 use Rattle.static_semantics.proofs.TypesGrow.{given_more, ty_grows}
 use Rattle.static_semantics.specs.Inferring.{unify_at}
-use Rattle.static_semantics.specs.TypeInference.{infer_ty}
 use Rattle.static_semantics.specs.PatternInference.{infer_pat}
 use Rattle.static_semantics.specs.CoreInference.{own_variables, infer_exp, infer_match, infer_dec}
 use Rattle.closing_laws.specs.Promises.{Any, StaysOfState, BindsNamesOnce, EndsByVariables}

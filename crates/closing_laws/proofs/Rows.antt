@@ -2,23 +2,21 @@
 use Rattle.std.proofs.Common.{◌≡◌, ◌≢◌, ℕ, ◌+◌, List, [], ◌∷◌, ◌++◌, map, refl, sym, ap, ap₂, ◌∙◌, subst, Option, Some, None, Bool, true, false, ◌||◌, ◌&&◌, not, cond}
 use Rattle.std.proofs.lemmas.Bool.{eqb-true}
 use Rattle.std.specs.List.{list_any}
-use Rattle.std.specs.Prelude.{Result, Ok, Err, eqb, ltb}
+use Rattle.std.specs.Prelude.{ltb}
 use Rattle.std.specs.Option.{is_some}
 use Rattle.std.specs.FinMap.Entries.{by_order}
 use Rattle.std.specs.Ordering.{is_eq, eq_by_cmp}
 use Rattle.std.specs.declared.cmp.Ordering.{Ordering}
 use Rattle.std.specs.declared.cmp.Ordering.TheVariants as ordering
-use Rattle.cm_base.specs.declared.diag.Diag.{Diag}
 use Rattle.sml_trees.specs.declared.name.At.{At}
 use Rattle.semantic_objects.specs.declared.entry.ValueEntry.{ValueEntry}
-use Rattle.semantic_objects.specs.declared.symbol.Symbol.{Symbol}
 use Rattle.semantic_objects.specs.Symbols.{same_text}
 use Rattle.semantic_objects.specs.Tables.{Table, by_bytes, entry, with_entry, with_all}
 use Rattle.semantic_objects.specs.Trees.{Tree}
 use Rattle.semantic_objects.specs.Environments.{Env, env_of, empty_env}
 use Rattle.semantic_objects.proofs.Same.{text_same}
 use Rattle.semantic_objects.proofs.Promised.{sets_entries}
-use Rattle.unification.specs.Types.{Ty, Types, Substitution, State, put, put_all, occurs, size, size_all}
+use Rattle.unification.specs.Types.{Ty, Substitution, State, put, put_all, occurs, size, size_all}
 use Rattle.unification.specs.Unification.{IsSettled}
 use Rattle.unification.specs.Closing.{is_among, found_in, closed_over, filler}
 use Rattle.unification.specs.Touching.{IsWithin}
@@ -28,11 +26,11 @@ use Rattle.unification.proofs.Filling.{fill_closed}
 use Rattle.unification.proofs.Untouched.{within_put}
 use Rattle.unification.proofs.Closing.{found_all}
 use Rattle.static_semantics.specs.BasicTypes.{unit_ty}
-use Rattle.static_semantics.specs.Inferring.{Progress, Scope, Answer, ◌>>=◌, gives, refuses_where, is_named, named, Bound, seen, value_bodies, bodies, free_in_env, is_too_large, has_too_large, sized_dec}
-use Rattle.static_semantics.specs.CoreInference.{Group, closed_where, closed_variables, closed_groups, left_over, none_left, closed_val}
+use Rattle.static_semantics.specs.Inferring.{Progress, Scope, ◌>>=◌, gives, refuses_where, is_named, named, Bound, seen, value_bodies, bodies, free_in_env, is_too_large, has_too_large, sized_dec}
+use Rattle.static_semantics.specs.CoreInference.{Group, closed_where, closed_variables, closed_groups, left_over, none_left}
 use Rattle.static_semantics.specs.RuleConditions.{are_distinct, groups_bound}
 use Rattle.static_semantics.proofs.Ages.{known_itself}
-use Rattle.closing_laws.specs.Variables.{Closing, all_closing, variables_of, closed_entry, closed_rows, env_of_values, stays_open, first_left, any_too_large, ended_val}
+use Rattle.closing_laws.specs.Variables.{Closing, all_closing, variables_of, closed_entry, closed_rows, env_of_values, stays_open, first_left, any_too_large, val_end, ended_val}
 
 -- ---- one environment
 
@@ -338,7 +336,7 @@ checked sc at r (Some text) b h = refl
 
 pub ended : (sc : Scope) (at : At) (kept : ℕ → Bool) (own : List (List ℕ × ℕ)) (groups : List Group) (st : Progress)
     → IsSettled st.types → are_distinct (groups_bound groups) ≡ true
-    → (closed_val sc at kept own groups st >>= λ r. sized_dec sc at r)
+    → val_end sc at kept own groups st
     ≡ ended_val sc at kept own (variables_of groups) st
 ended sc at kept own groups st h d =
     let xs : List Closing = variables_of groups in

@@ -5,15 +5,15 @@ use Rattle.sml_trees.specs.declared.name.Name.{Name}
 use Rattle.unification.specs.Types.{Ty}
 use Rattle.unification.specs.Unification.{IsSettled}
 use Rattle.bare_phrases.specs.Phrases.{TyPhrase, PatPhrase, ExpPhrase, Rules, DecPhrase}
-use Rattle.static_semantics.specs.Inferring.{Progress, Scope, Bound, under, under_bound, with_written, unify_at, ◌>>=◌, sized_dec}
+use Rattle.static_semantics.specs.Inferring.{Progress, Scope, Bound, under, under_bound, with_written, unify_at}
 use Rattle.static_semantics.specs.TypeInference.{infer_ty, as_written}
 use Rattle.static_semantics.specs.PatternInference.{infer_pat}
-use Rattle.static_semantics.specs.CoreInference.{Group, own_variables, closed_val, infer_exp, infer_match, infer_dec}
+use Rattle.static_semantics.specs.CoreInference.{Group, own_variables, infer_exp, infer_match, infer_dec}
 use Rattle.static_semantics.specs.RuleConditions.{are_distinct, groups_bound}
 use Rattle.static_semantics.specs.ByAge.{val_by_age}
 use Rattle.static_semantics.specs.Holding.{Given, AllRows}
 use Rattle.static_semantics.specs.Growing.{TyIn, Grows, IsReady}
-use Rattle.closing_laws.specs.Variables.{variables_of, ended_val}
+use Rattle.closing_laws.specs.Variables.{variables_of, val_end, ended_val}
 
 -- ---- everything is of the state
 
@@ -74,5 +74,4 @@ pub record BindsNamesOnce : Type 0 where
 pub record EndsByVariables : Type 0 where
   pub all : (sc : Scope) (at : At) (kept : ℕ → Bool) (own : List (List ℕ × ℕ)) (groups : List Group) (st : Progress)
       → IsSettled st.types → are_distinct (groups_bound groups) ≡ true
-      → (closed_val sc at kept own groups st >>= λ r. sized_dec sc at r)
-      ≡ ended_val sc at kept own (variables_of groups) st
+      → val_end sc at kept own groups st ≡ ended_val sc at kept own (variables_of groups) st

@@ -8,8 +8,8 @@ use Rattle.semantic_objects.specs.declared.entry.VidStatus.TheVariants as status
 use Rattle.semantic_objects.specs.Tables.{Table, with_all}
 use Rattle.semantic_objects.specs.Environments.{Env, env_of}
 use Rattle.unification.specs.Types.{Ty, State, put, occurs}
-use Rattle.static_semantics.specs.Inferring.{Progress, Scope, Answer, ◌>>=◌, gives, refuses_where, Bound, is_too_large}
-use Rattle.static_semantics.specs.CoreInference.{Group, closed_where, none_left}
+use Rattle.static_semantics.specs.Inferring.{Progress, Scope, Answer, ◌>>=◌, gives, refuses_where, Bound, is_too_large, sized_dec}
+use Rattle.static_semantics.specs.CoreInference.{Group, closed_where, none_left, closed_val}
 
 -- whether a variable is closed, its name and its type
 abbrev pub Closing : Type 0
@@ -47,7 +47,11 @@ first_left left (row ∷ rows) = cond (left row.1) (Some row.0) (first_left left
 abbrev pub any_too_large : State → List Closing → Bool
 any_too_large s xs = list_any (λ (x : Closing). is_too_large (put s.stands x.1.1)) xs
 
--- the end of a `val`: 37 for a written type variable that is left, then 38, then its variables
+-- the end of a `val` as inference has it
+abbrev pub val_end : Scope → At → (ℕ → Bool) → List (List ℕ × ℕ) → List Group → Progress → Answer (Env × Progress)
+val_end sc at kept own groups st = closed_val sc at kept own groups st >>= λ r. sized_dec sc at r
+
+-- .. and variable by variable: 37 for a written type variable that is left, then 38, then its variables
 abbrev pub ended_val :
     Scope → At → (ℕ → Bool) → List (List ℕ × ℕ) → List Closing → Progress → Answer (Env × Progress)
 ended_val sc at kept own xs st =

@@ -1,0 +1,4 @@
+pub mod Closings
+pub mod Entering
+pub mod Staying
+pub mod Grouping

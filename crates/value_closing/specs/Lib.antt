@@ -1,0 +1,4 @@
+pub mod Groups
+pub mod Closings
+pub mod OwnVariables
+pub mod Promises
