@@ -168,7 +168,7 @@ mutual
 
 -- ---- bindings
 
-bound_after : (groups : List Group) (closes : Bool) (rows : Bound)
+pub bound_after : (groups : List Group) (closes : Bool) (rows : Bound)
     → groups_bound (groups ++ (closes, rows) ∷ []) ≡ groups_bound groups ++ rows
 bound_after [] closes rows = append-nil rows
 bound_after (group ∷ groups) closes rows =

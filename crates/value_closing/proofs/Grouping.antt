@@ -17,7 +17,7 @@ use Rattle.value_closing.specs.Groups.{own_rows, group_of, groups_of}
 
 -- ---- one binding more
 
-bound_since : (start : ℕ) (rows : Rows OwnVariable) → bound_of (drop start rows) ≡ drop start (bound_of rows)
+pub bound_since : (start : ℕ) (rows : Rows OwnVariable) → bound_of (drop start rows) ≡ drop start (bound_of rows)
 bound_since zero rows = refl
 bound_since (suc n) [] = refl
 bound_since (suc n) (row ∷ rows) = bound_since n rows

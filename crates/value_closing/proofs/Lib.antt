@@ -2,3 +2,4 @@ pub mod Closings
 pub mod Entering
 pub mod Staying
 pub mod Grouping
+pub mod RecPats

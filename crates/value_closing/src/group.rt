@@ -42,7 +42,7 @@ fn variables_in(
 }
 
 /// The rows from a place on.
-fn rows_since(rows: &[(Text, OwnVariable)], start: usize) -> &[(Text, OwnVariable)]
+pub(crate) fn rows_since(rows: &[(Text, OwnVariable)], start: usize) -> &[(Text, OwnVariable)]
     ensures { result.now ≡ drop start rows.now }
 {
     if start <= rows.len() {
@@ -52,9 +52,8 @@ fn rows_since(rows: &[(Text, OwnVariable)], start: usize) -> &[(Text, OwnVariabl
     }
 }
 
-/// One binding more, of the variables that were bound from a place on: of that many as stood before its pattern. Want
-/// of memory leaves the bindings as they were.
-pub fn add_group(
+/// One binding more, of the variables that were bound from a place on. Want of memory leaves the bindings as they were.
+pub(crate) fn add_group(
     alloc: Global,
     groups: &mut List<BoundGroup>,
     closes: bool,

@@ -3,6 +3,7 @@
 ghost use Rattle.std.specs.Prelude.{◌≡◌, not, IfOk};
 ghost use Rattle.bare_phrases.specs.PhraseOf.{pat_phrase};
 ghost use Rattle.static_semantics.specs.Inferring.{refuses_where};
+ghost use Rattle.static_semantics.specs.PatternInference.{pat_at};
 ghost use Rattle.static_semantics.specs.CoreInference.{names_variable, is_variable};
 ghost use Rattle.core_scopes.specs.Scopes.{IsScopeOf};
 ghost use Rattle.type_phrases.specs.Inferred.{Answers};
@@ -45,22 +46,39 @@ fn is_variable(g: &EnvGraph, scope: &CoreScope, pat: &Pat) -> Result<bool, NoMem
     }
 }
 
-/// 34 at a place where the pattern of a `rec` binding isn't a variable, with types or without.
-/// The Definition of Standard ML (Revised), rule 26 and section 2.9.
-pub fn check_recursive(
+/// The place of a pattern, that of its first word.
+#[tactic(auto, using(bare_phrases::proofs::Forms::pat_forms))]
+fn pattern_place(pat: &Pat) -> At
+    ensures { result ≡ pat_at (pat_phrase pat.now) }
+{
+    match pat {
+        Pat::Wild(at) => *at,
+        Pat::Int(_, at) => *at,
+        Pat::Str(_, at) => *at,
+        Pat::Char(_, at) => *at,
+        Pat::Long(_, at) => *at,
+        Pat::Record(_, at) => *at,
+        Pat::Con(_, _, at) => *at,
+        Pat::Typed(_, _, at) => *at,
+        Pat::As(_, _, _, at) => *at,
+    }
+}
+
+/// 34 at the pattern of a `rec` binding that isn't a variable, with types or without. The Definition of Standard ML
+/// (Revised), section 2.9.
+pub(crate) fn check_recursive(
     alloc: Global,
     g: &EnvGraph,
     scope: &CoreScope,
-    at: At,
     pat: &Pat,
 ) -> Result<(), Fault>
     requires { IsScopeOf g.now scope.now }
     ensures { Answers (refuses_where (not (is_variable (scope_of g.now scope.now).env (pat_phrase pat.now))) 34
-        (scope_of g.now scope.now) at) (λ u. tt) result }
+        (scope_of g.now scope.now) (pat_at (pat_phrase pat.now))) (λ u. tt) result }
 {
     if is_variable(g, scope, pat)? {
         Ok(())
     } else {
-        Err(refuse(alloc, g, 34, at))
+        Err(refuse(alloc, g, 34, pattern_place(pat)))
     }
 }
