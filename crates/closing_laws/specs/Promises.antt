@@ -1,14 +1,16 @@
 -- The laws of `val`, as the public functions of this crate state them.
-use Rattle.std.specs.Prelude.{◌≡◌, ℕ, List, [], ◌∷◌, ◌++◌, length, take, drop, true, Bool}
+use Rattle.std.specs.Prelude.{◌≡◌, ℕ, List, [], ◌∷◌, ◌++◌, length, take, drop, Some, Err, Bool, true}
+use Rattle.cm_base.specs.declared.diag.Diag.{Diag}
 use Rattle.sml_trees.specs.declared.name.At.{At}
 use Rattle.sml_trees.specs.declared.name.Name.{Name}
 use Rattle.unification.specs.Types.{Ty}
 use Rattle.unification.specs.Unification.{IsSettled}
+use Rattle.unification.specs.Closing.{kept_since}
 use Rattle.bare_phrases.specs.Phrases.{TyPhrase, PatPhrase, ExpPhrase, Rules, DecPhrase}
-use Rattle.static_semantics.specs.Inferring.{Progress, Scope, Bound, under, under_bound, with_written, unify_at}
+use Rattle.static_semantics.specs.Inferring.{Progress, Scope, gives, Bound, under, under_bound, with_written, unify_at}
 use Rattle.static_semantics.specs.TypeInference.{infer_ty, as_written}
 use Rattle.static_semantics.specs.PatternInference.{infer_pat}
-use Rattle.static_semantics.specs.CoreInference.{Group, own_variables, infer_exp, infer_match, infer_dec}
+use Rattle.static_semantics.specs.CoreInference.{Group, RecPats, own_variables, rec_bound, rec_groups, infer_binds, infer_rec_pats, infer_rec_exps, infer_exp, infer_match, infer_dec}
 use Rattle.static_semantics.specs.RuleConditions.{are_distinct, groups_bound}
 use Rattle.static_semantics.specs.ByAge.{val_by_age}
 use Rattle.static_semantics.specs.Holding.{Given, AllRows}
@@ -75,3 +77,37 @@ pub record EndsByVariables : Type 0 where
   pub all : (sc : Scope) (at : At) (kept : ℕ → Bool) (own : List (List ℕ × ℕ)) (groups : List Group) (st : Progress)
       → IsSettled st.types → are_distinct (groups_bound groups) ≡ true
       → val_end sc at kept own groups st ≡ ended_val sc at kept own (variables_of groups) st
+
+-- ---- one step after another
+
+-- a `val` is what its steps give: the first diagnostic that one of them gives, or its end, closed by age, where
+-- everything was of the state before it
+pub record GoesBySteps (depth : ℕ) (sc : Scope) (tyvars : List Name) (rules recs : Rules) (at : At) (st : Progress) :
+    Type 0 where
+  pub own_fails : (d : Diag) → own_variables sc tyvars rules recs st ≡ Some (Err d)
+      → infer_dec depth sc (DecPhrase.Val tyvars rules recs at) st ≡ Some (Err d)
+  pub binds_fail : (own : List (List ℕ × ℕ) × Progress) (d : Diag) → own_variables sc tyvars rules recs st ≡ gives own
+      → infer_binds depth (with_written (as_written own.0) sc) rules [] [] own.1 ≡ Some (Err d)
+      → infer_dec depth sc (DecPhrase.Val tyvars rules recs at) st ≡ Some (Err d)
+  pub pats_fail : (own : List (List ℕ × ℕ) × Progress) (b : Bound × List Group × Progress) (d : Diag)
+      → own_variables sc tyvars rules recs st ≡ gives own
+      → infer_binds depth (with_written (as_written own.0) sc) rules [] [] own.1 ≡ gives b
+      → infer_rec_pats depth (with_written (as_written own.0) sc) recs [] b.0 b.2 ≡ Some (Err d)
+      → infer_dec depth sc (DecPhrase.Val tyvars rules recs at) st ≡ Some (Err d)
+  pub exps_fail : (own : List (List ℕ × ℕ) × Progress) (b : Bound × List Group × Progress) (p : RecPats × Progress)
+      (d : Diag) → own_variables sc tyvars rules recs st ≡ gives own
+      → infer_binds depth (with_written (as_written own.0) sc) rules [] [] own.1 ≡ gives b
+      → infer_rec_pats depth (with_written (as_written own.0) sc) recs [] b.0 b.2 ≡ gives p
+      → infer_rec_exps depth (under_bound (rec_bound p.0) (with_written (as_written own.0) sc)) recs p.0 p.1
+      ≡ Some (Err d) → infer_dec depth sc (DecPhrase.Val tyvars rules recs at) st ≡ Some (Err d)
+  pub ends : (own : List (List ℕ × ℕ) × Progress) (b : Bound × List Group × Progress) (p : RecPats × Progress)
+      (u : Progress) → IsOfState sc st → own_variables sc tyvars rules recs st ≡ gives own
+      → infer_binds depth (with_written (as_written own.0) sc) rules [] [] own.1 ≡ gives b
+      → infer_rec_pats depth (with_written (as_written own.0) sc) recs [] b.0 b.2 ≡ gives p
+      → infer_rec_exps depth (under_bound (rec_bound p.0) (with_written (as_written own.0) sc)) recs p.0 p.1 ≡ gives u
+      → infer_dec depth sc (DecPhrase.Val tyvars rules recs at) st
+      ≡ val_end sc at (kept_since st.types.next u.types.stands) own.0 (b.1 ++ rec_groups sc.env recs p.0) u
+
+abbrev pub ValuesGoBySteps : Type 0
+ValuesGoBySteps = (depth : ℕ) (sc : Scope) (tyvars : List Name) (rules recs : Rules) (at : At) (st : Progress)
+    → GoesBySteps depth sc tyvars rules recs at st

@@ -5,5 +5,6 @@
 mod laws;
 
 pub use laws::{
-    states_hold_their_scopes, values_end_by_variables, variables_have_names_of_their_own,
+    states_hold_their_scopes, values_end_by_variables, values_go_by_steps,
+    variables_have_names_of_their_own,
 };
