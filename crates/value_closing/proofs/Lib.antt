@@ -1,0 +1,5 @@
+pub mod Closings
+pub mod Entering
+pub mod Staying
+pub mod Grouping
+pub mod RecPats

@@ -1,0 +1,5 @@
+pub mod Groups
+pub mod Closings
+pub mod OwnVariables
+pub mod Recursive
+pub mod Promises
