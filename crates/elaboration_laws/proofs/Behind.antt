@@ -1,6 +1,6 @@
 -- A pattern binds its own variables behind those that were bound before: with fewer before it gives the same type, the
 -- same state, and the same variables of its own.
-use Rattle.std.proofs.Common.{◌≡◌, ℕ, List, [], ◌∷◌, ◌++◌, refl, sym, ap, ◌∙◌, subst, Option, Some, None, Bool, true, false, not, cond}
+use Rattle.std.proofs.Common.{◌≡◌, ℕ, List, [], ◌∷◌, ◌++◌, refl, sym, ap, subst, Option, Some, None, Bool, true, false, not, cond}
 use Rattle.std.specs.Prelude.{Ok, Err}
 use Rattle.std.specs.Option.{is_some}
 use Rattle.sml_trees.specs.declared.name.At.{At}
@@ -10,9 +10,9 @@ use Rattle.semantic_objects.specs.Symbols.{same_text}
 use Rattle.semantic_objects.specs.Tables.{Table, entry, with_entry}
 use Rattle.semantic_objects.specs.Environments.{values}
 use Rattle.unification.specs.Types.{Ty, put}
-use Rattle.bare_phrases.specs.Phrases.{TyPhrase, PatPhrase, PatFields}
+use Rattle.bare_phrases.specs.Phrases.{PatPhrase, PatFields}
 use Rattle.static_semantics.specs.BasicTypes.{int_ty, string_ty, char_ty, record_ty, is_one_of, reserved_names}
-use Rattle.static_semantics.specs.Inferring.{Progress, Scope, Answer, ◌>>=◌, gives, refuses_where, name_at, known, unify_at, found_at, named, is_named, is_con, stands_for_con, new_variable, new_instance, Bound, is_too_large, sized_pat}
+use Rattle.static_semantics.specs.Inferring.{Progress, Scope, Answer, ◌>>=◌, gives, refuses_where, name_at, known, unify_at, found_at, named, is_named, stands_for_con, new_variable, new_instance, Bound, is_too_large, sized_pat}
 use Rattle.static_semantics.specs.TypeInference.{infer_ty, new_label}
 use Rattle.static_semantics.specs.PatternInference.{bind_variable, as_con, takes_none, arrow_in, with_argument, lone_con, applied_con, known_pat, name_by, name_pat, typed_variable, infer_pat, infer_pat_fields}
 use Rattle.static_semantics.specs.Holding.{Given}

@@ -1,7 +1,5 @@
 -- Expressions, matches and declarations have derivations.
-use Rattle.std.proofs.Common.{◌≡◌, ℕ, List, [], ◌∷◌, ◌++◌, refl, sym, ap, ◌∙◌, subst, Bool, true, inl, inr}
-use Rattle.std.specs.Prelude.{◌⊎◌}
-use Rattle.sml_trees.specs.declared.name.Name.{Name}
+use Rattle.std.proofs.Common.{◌≡◌, ◌≤◌, arith, ℕ, List, [], ◌∷◌, ◌++◌, refl, sym, ◌∙◌, subst, true}
 use Rattle.unification.proofs.Walking.{and_both}
 use Rattle.sml_trees.specs.declared.name.At.{At}
 use Rattle.semantic_objects.specs.Tables.{Table, with_entry}
@@ -13,10 +11,9 @@ use Rattle.static_semantics.specs.Inferring.{Progress, Scope, Answer, under, nam
 use Rattle.static_semantics.specs.TypeInference.{infer_ty, infer_types}
 use Rattle.static_semantics.specs.PatternInference.{pat_at, infer_pat}
 use Rattle.static_semantics.specs.DatatypeInference.{datatypes_of, infer_replication, exceptions_of}
-use Rattle.static_semantics.specs.CoreInference.{exp_at, known_exp, applied, joined, handled, raised, within_let, infer_open, Group, added, own_variables, closed_val, RecPats, rec_bound, infer_exp, infer_exp_fields, infer_match, infer_rules, infer_binds, infer_rec_pats, infer_rec_exps, infer_dec, infer_decs}
+use Rattle.static_semantics.specs.CoreInference.{rec_groups, exp_at, known_exp, applied, joined, handled, raised, within_let, infer_open, Group, added, own_variables, closed_val, RecPats, rec_bound, infer_exp, infer_exp_fields, infer_match, infer_rules, infer_binds, infer_rec_pats, infer_rec_exps, infer_dec, infer_decs}
 use Rattle.static_semantics.specs.EnvironmentsPut.{put_env, put_scope}
 use Rattle.static_semantics.specs.Nonexpansive.{is_nonexpansive, are_nonexpansive}
-use Rattle.static_semantics.specs.RuleConditions.{unscoped}
 use Rattle.static_semantics.specs.Elaborates.{ElaboratesExp, ElaboratesDec, ElaboratesDecs}
 use Rattle.static_semantics.specs.Holding.{Given, AllItems, AllRows}
 use Rattle.static_semantics.specs.Growing.{TyIn, Grows, IsReady}
@@ -24,7 +21,7 @@ use Rattle.static_semantics.proofs.Holding.{given_then}
 use Rattle.static_semantics.proofs.Growing.{grows_then, ty_later, rows_later, ready_later}
 use Rattle.static_semantics.proofs.TypesGrow.{ListedIn, MadeIn, given_more}
 use Rattle.static_semantics.proofs.DatatypesGrow.{ready_under}
-use Rattle.static_semantics.proofs.CoreGrow.{ready_written, own_grows, ExpIn, BindsIn, GroupsIn, RecIn, RecsIn, recs_later, rec_pats_grow, rec_bound_in, binds_grow, ready_bound, exp_grows, match_grows, dec_grows}
+use Rattle.static_semantics.proofs.CoreGrow.{ready_written, own_grows, ExpIn, BindsIn, GroupsIn, RecIn, RecsIn, recs_later, rec_pats_grow, rec_bound_in, binds_grow, ready_bound, exp_grows, match_grows, rec_exps_grow, dec_grows}
 use Rattle.inference_laws.specs.Alike.{FirmType, FirmValue, AnyName, FirmEnv}
 use Rattle.inference_laws.specs.Promises.{Any}
 use Rattle.inference_laws.proofs.EnvsWith.{env_with_value, env_modified}
@@ -35,16 +32,18 @@ use Rattle.datatype_laws.specs.Derived.{DatatypesDerived}
 use Rattle.datatype_laws.proofs.Datatypes.{datatypes_have_derivations}
 use Rattle.datatype_laws.proofs.Below.{below_later, bound_below, modified_below, dec_below}
 use Rattle.phrase_laws.specs.Derived.{ExpDerived, ExpFieldsDerived, RulesDerived, MatchDerived, DecDerived, DecsDerived}
-use Rattle.elaboration_laws.specs.Declaring.{IsValue, FieldsAreValues, AreValues, BindsOne, IsPlain, ExpHas, ExpFieldsHave, RulesHave, DecHas, DecsHave}
+use Rattle.elaboration_laws.specs.Declaring.{IsValue, FieldsAreValues, AreValues, BindsValues, ExpHas, ExpFieldsHave, RulesHave, DecHas, DecsHave}
 use Rattle.phrase_laws.proofs.Finding.{under_put, modified_put}
 use Rattle.phrase_laws.proofs.Types.{given_new, TyDerived, ty_derives}
 use Rattle.phrase_laws.proofs.Steps.{given_each, Joined, unify_known}
 use Rattle.phrase_laws.proofs.Patterns.{PatKnown, pat_known}
 use Rattle.elaboration_laws.proofs.Expressions.{exp_sized, constant_derived, long_derived, record_derived, no_fields_derived, field_derived, let_derived, within_derived, app_derived, typed_derived, handle_derived, raise_derived, fn_derived, no_rules_derived, no_match_derived, match_derived, rule_derived}
 use Rattle.phrase_laws.proofs.TypeBindings.{TypesDerived, types_derive}
-use Rattle.elaboration_laws.proofs.Bindings.{HaveFlag, BindsDerived, no_binds_derived, bind_derived, RecPatsDerived, rec_pats_derive, RecExpsDerived, no_rec_exps_derived, rec_exp_derived}
+use Rattle.elaboration_laws.proofs.Bindings.{BindsDerived, no_binds_derived, bind_derived, RecPatsDerived, rec_pats_derive, RecExpsDerived, no_rec_exps_derived, rec_exp_derived}
 use Rattle.elaboration_laws.proofs.Vals.{inner_scope, val_groups, val_derived, closed_given, sized_given}
-use Rattle.elaboration_laws.proofs.Own.{texts_of, OwnDerived, own_derives}
+use Rattle.elaboration_laws.proofs.Own.{OwnDerived, own_derives}
+use Rattle.static_semantics.proofs.Ages.{Opened, ready_open}
+use Rattle.elaboration_laws.proofs.Apart.{Chain, chain_later, binds_chain, RecsOwn, rec_pats_own, rec_groups_within, Apart, open_in, all_apart}
 use Rattle.phrase_laws.proofs.Declarations.{dec_sized, stateless_derived, replication_derives, ExceptionsDerived, exceptions_derive, OpenDerived, open_derives}
 
 -- ---- with what is known of how states grow
@@ -213,50 +212,17 @@ mutual
   fields_flag env (ExpFields.Field label exp rest) h =
       and_both (is_nonexpansive env exp) (are_nonexpansive env rest) (value_flag env exp h.0) (fields_flag env rest h.1)
 
-value_flags : (env : Env) (rules : Rules) → AreValues rules → HaveFlag true env rules
-value_flags env Rules.EndOfRules h = tt
-value_flags env (Rules.Rule pat exp rest) h = (value_flag env exp h.0, value_flags env rest h.1)
-
--- whether the variables of a `val` are closed
-abbrev Choice : Env → Rules → Rules → List (List ℕ × ℕ) → Type 0
-Choice env rules recs own =
-    (flag : Bool) × HaveFlag flag env rules × HaveFlag flag env recs
-    × AllItems (λ (row : List ℕ × ℕ). flag ≡ true) own
-
-all_true : (own : List (List ℕ × ℕ)) → AllItems (λ (row : List ℕ × ℕ). true ≡ true) own
-all_true [] = tt
-all_true (row ∷ own) = (refl, all_true own)
-
-none_there : (flag : Bool) (own : List (List ℕ × ℕ)) → texts_of own ≡ []
-    → AllItems (λ (row : List ℕ × ℕ). flag ≡ true) own
-none_there flag [] h = tt
-none_there flag (row ∷ own) h = absurd (cc)
-
-one_choice : (sc : Scope) (tyvars : List Name) (rules recs : Rules) (st : Progress)
-    (own : List (List ℕ × ℕ) × Progress) → OwnDerived sc tyvars rules recs st own → BindsOne tyvars rules recs
-    → Choice sc.env rules recs own.0
-one_choice sc [] Rules.EndOfRules recs st own d h = absurd h
-one_choice sc [] (Rules.Rule pat exp Rules.EndOfRules) Rules.EndOfRules st own d h = (
-  is_nonexpansive sc.env exp,
-  (refl, tt),
-  tt,
-  none_there (is_nonexpansive sc.env exp) own.0 (d.texts ∙ ap (unscoped sc.written []) h),
-)
-one_choice sc [] (Rules.Rule pat exp Rules.EndOfRules) (Rules.Rule first right more) st own d h = absurd h
-one_choice sc [] (Rules.Rule pat exp (Rules.Rule next right more)) recs st own d h = absurd h
-one_choice sc (name ∷ names) rules recs st own d h = absurd h
-
-choice : (sc : Scope) (tyvars : List Name) (rules recs : Rules) (st : Progress) (own : List (List ℕ × ℕ) × Progress)
-    → OwnDerived sc tyvars rules recs st own → (AreValues rules × AreValues recs) ⊎ BindsOne tyvars rules recs
-    → Choice sc.env rules recs own.0
-choice sc tyvars rules recs st own d (inl h) =
-    (true, value_flags sc.env rules h.0, value_flags sc.env recs h.1, all_true own.0)
-choice sc tyvars rules recs st own d (inr h) = one_choice sc tyvars rules recs st own d h
+-- `rec` bindings whose right sides are such expressions are closed
+rec_closed : (env : Env) (rules : Rules) (rows : RecPats) → AreValues rules
+    → AllItems (λ (group : Group). group.0 ≡ true) (rec_groups env rules rows)
+rec_closed env Rules.EndOfRules rows h = tt
+rec_closed env (Rules.Rule pat exp rest) [] h = tt
+rec_closed env (Rules.Rule pat exp rest) (row ∷ rows) h = (value_flag env exp h.0, rec_closed env rest rows h.1)
 
 -- ---- the phrases
 
 mutual
-  pub exp_derives : (depth : ℕ) (sc : Scope) (exp : ExpPhrase) (st : Progress) → ExpHas IsPlain exp → FirmEnv sc.env
+  pub exp_derives : (depth : ℕ) (sc : Scope) (exp : ExpPhrase) (st : Progress) → ExpHas BindsValues exp → FirmEnv sc.env
       → TypesBelow sc.home st.names sc.env → IsReady Any sc st → Given (ExpDerived sc exp st) (infer_exp depth sc exp st)
   exp_derives depth sc (ExpPhrase.Int value at) st has firm low h = exp_sized sc (ExpPhrase.Int value at) st at (int_ty, st)
       (constant_derived sc (ExpPhrase.Int value at) int_ty st
@@ -331,7 +297,7 @@ mutual
       (λ r k. exp_sized sc (ExpPhrase.Fn rules at) st at r (fn_derived sc rules at st r k))
 
   pub exp_fields_derive : (depth : ℕ) (sc : Scope) (fields : ExpFields) (made : Table Ty) (st : Progress)
-      → ExpFieldsHave IsPlain fields → FirmEnv sc.env → TypesBelow sc.home st.names sc.env
+      → ExpFieldsHave BindsValues fields → FirmEnv sc.env → TypesBelow sc.home st.names sc.env
       → IsReady Any sc st
       → Given (ExpFieldsDerived sc fields made st) (infer_exp_fields depth sc fields made st)
   exp_fields_derive depth sc ExpFields.EndOfFields made st has firm low h = no_fields_derived sc made st
@@ -346,7 +312,7 @@ mutual
       (exp_fields_derive depth sc rest (with_entry label.text r.0 made) r.1 has.1 firm
       (low_later sc st r.1 low k.0.0) (ready_later Any sc st r.1 h k.0.0))))
 
-  pub match_derives : (depth : ℕ) (sc : Scope) (rules : Rules) (st : Progress) → RulesHave IsPlain rules
+  pub match_derives : (depth : ℕ) (sc : Scope) (rules : Rules) (st : Progress) → RulesHave BindsValues rules
       → FirmEnv sc.env → TypesBelow sc.home st.names sc.env
       → IsReady Any sc st → Given (MatchDerived sc rules st) (infer_match depth sc rules st)
   match_derives depth sc Rules.EndOfRules st has firm low h = no_match_derived sc st h
@@ -367,7 +333,7 @@ mutual
       match_derived sc pat exp rest st r e u i.1 k.1 l)))
 
   pub rules_derive : (depth : ℕ) (sc : Scope) (from to : Ty) (rules : Rules) (st : Progress)
-      → RulesHave IsPlain rules → FirmEnv sc.env → TypesBelow sc.home st.names sc.env
+      → RulesHave BindsValues rules → FirmEnv sc.env → TypesBelow sc.home st.names sc.env
       → IsReady Any sc st → TyIn Any st.types from → TyIn Any st.types to
       → Given (RulesDerived sc from to rules st) (infer_rules depth sc from to rules st)
   rules_derive depth sc from to Rules.EndOfRules st has firm low h f t = no_rules_derived sc from to st
@@ -394,7 +360,7 @@ mutual
       (ty_later Any st u to all t))))))
 
   binds_derive : (depth : ℕ) (sc : Scope) (rules : Rules) (bound : Bound) (groups : List Group) (st : Progress)
-      → RulesHave IsPlain rules → FirmEnv sc.env → TypesBelow sc.home st.names sc.env
+      → RulesHave BindsValues rules → FirmEnv sc.env → TypesBelow sc.home st.names sc.env
       → IsReady Any sc st → AllRows (TyIn Any st.types) bound
       → Given (BindsDerived sc rules bound groups st) (infer_binds depth sc rules bound groups st)
   binds_derive depth sc Rules.EndOfRules bound groups st has firm low h k = no_binds_derived sc bound groups st
@@ -416,7 +382,7 @@ mutual
       (rows_later Any r.2 u r.1 g i.0.2)))))
 
   rec_exps_derive : (depth : ℕ) (sc inner : Scope) (rules : Rules) (rows : RecPats) (st : Progress)
-      → RulesHave IsPlain rules → FirmEnv inner.env → TypesBelow inner.home st.names inner.env
+      → RulesHave BindsValues rules → FirmEnv inner.env → TypesBelow inner.home st.names inner.env
       → IsReady Any inner st → AllItems (RecIn Any st.types) rows
       → Given (RecExpsDerived sc inner rules rows st) (infer_rec_exps depth inner rules rows st)
   rec_exps_derive depth sc inner Rules.EndOfRules rows st has firm low h k = no_rec_exps_derived sc inner rows st
@@ -435,7 +401,7 @@ mutual
       (rec_exps_derive depth sc inner rest rows u has.1 firm (low_later inner st u low g) (ready_later Any inner st u h g)
       (recs_later Any st u rows g k.1))))
 
-  pub dec_derives : (depth : ℕ) (sc : Scope) (dec : DecPhrase) (st : Progress) → DecHas IsPlain dec → FirmEnv sc.env
+  pub dec_derives : (depth : ℕ) (sc : Scope) (dec : DecPhrase) (st : Progress) → DecHas BindsValues dec → FirmEnv sc.env
       → TypesBelow sc.home st.names sc.env → IsReady Any sc st → Given (DecDerived sc dec st) (infer_dec depth sc dec st)
   dec_derives depth sc (DecPhrase.Val tyvars rules recs at) st has firm low h =
       let dec : DecPhrase = DecPhrase.Val tyvars rules recs at in
@@ -448,23 +414,48 @@ mutual
       let inner : Scope = inner_scope own.0 sc in
       let ready : IsReady Any inner own.1 =
       ready_written Any own.0 sc own.1 o.0.1 (ready_later Any sc st own.1 h o.0.0) in
-      let f : Choice sc.env rules recs own.0 = choice sc tyvars rules recs st own o.1 has.0 in
-      given_then (BindsKnown inner rules [] [] own.1) Q (infer_binds depth inner rules [] [] own.1) _
+      let from : ℕ = own.1.types.next in
+      given_then (λ b. BindsKnown inner rules [] [] own.1 b × Chain inner b.2.types from b.1 b.2.types.next) Q
+      (infer_binds depth inner rules [] [] own.1) _
+      (given_both (BindsKnown inner rules [] [] own.1) (λ b. Chain inner b.2.types from b.1 b.2.types.next)
+      (infer_binds depth inner rules [] [] own.1)
       (binds_with depth inner rules [] [] own.1 ready tt tt
-      (binds_derive depth inner rules [] [] own.1 has.1 firm (low_later sc st own.1 low o.0.0) ready tt)) (λ b k.
-      let at_b : IsReady Any inner b.2 = ready_later Any inner own.1 b.2 ready k.0.0 in
-      given_then (RecPatsKnown inner recs [] b.0 b.2) Q (infer_rec_pats depth inner recs [] b.0 b.2) _
-      (rec_pats_with depth inner recs [] b.0 b.2 firm at_b tt k.0.1) (λ c l.
+      (binds_derive depth inner rules [] [] own.1 has.1 firm (low_later sc st own.1 low o.0.0) ready tt))
+      (binds_chain inner depth rules [] [] own.1 from ready (let z : from ≤ from = omega arith in z))) (λ b k.
+      let at_b : IsReady Any inner b.2 = ready_later Any inner own.1 b.2 ready k.0.0.0 in
+      let P : ℕ → Type 0 = Opened inner b.2.types in
+      let open_b : IsReady P inner b.2 = ready_open inner b.2 at_b in
+      given_then (λ c. RecPatsKnown inner recs [] b.0 b.2 c × RecsOwn inner P b.2 c) Q
+      (infer_rec_pats depth inner recs [] b.0 b.2) _
+      (given_both (RecPatsKnown inner recs [] b.0 b.2) (RecsOwn inner P b.2)
+      (infer_rec_pats depth inner recs [] b.0 b.2)
+      (rec_pats_with depth inner recs [] b.0 b.2 firm at_b tt k.0.0.1)
+      (rec_pats_own inner P depth recs [] b.0 b.2 open_b tt)) (λ c l.
       let inmost : Scope = under_bound (rec_bound c.0) inner in
-      given_then (RecExpsDerived inner inmost recs c.0 c.1) Q (infer_rec_exps depth inmost recs c.0 c.1) _
+      let open_c : IsReady P inmost c.1 =
+      ready_bound P (rec_bound c.0) inner c.1 (rec_bound_in P c.1.types c.0 l.1.1)
+      (ready_later P inner b.2 c.1 open_b l.1.0) in
+      given_then (λ u. RecExpsDerived inner inmost recs c.0 c.1 u × Grows P c.1 u) Q
+      (infer_rec_exps depth inmost recs c.0 c.1) _
+      (given_both (RecExpsDerived inner inmost recs c.0 c.1) (Grows P c.1) (infer_rec_exps depth inmost recs c.0 c.1)
       (rec_exps_derive depth inner inmost recs c.0 c.1 has.2 (firm_bound (rec_bound c.0) sc.env firm)
       (bound_below sc.home c.1.names (rec_bound c.0) sc.env (low_later inner b.2 c.1
-      (low_later inner own.1 b.2 (low_later sc st own.1 low o.0.0) k.0.0) l.0.0))
-      (ready_bound Any (rec_bound c.0) inner c.1 (rec_bound_in Any c.1.types c.0 l.0.1)
-      (ready_later Any inner b.2 c.1 at_b l.0.0)) l.0.1) (λ u m.
+      (low_later inner own.1 b.2 (low_later sc st own.1 low o.0.0) k.0.0.0) l.0.0.0))
+      (ready_bound Any (rec_bound c.0) inner c.1 (rec_bound_in Any c.1.types c.0 l.0.0.1)
+      (ready_later Any inner b.2 c.1 at_b l.0.0.0)) l.0.0.1)
+      (rec_exps_grow P depth inmost recs c.0 c.1 open_c l.1.1)) (λ u m.
+      let after : Grows P b.2 u = grows_then P b.2 c.1 u l.1.0 m.1 in
+      let recs_apart : List Group = rec_groups sc.env recs c.0 in
+      let apart : AllItems (Apart inner u.types (λ v. open_in inner u.types v (b.1 ++ recs_apart) ≡ true))
+      (b.1 ++ recs_apart) =
+      all_apart inner u.types from b.2.types.next u.types.next b.1 recs_apart
+      (chain_later inner b.2 u from b.1 b.2.types.next after
+      (let z : b.2.types.next ≤ b.2.types.next = omega arith in z) k.1)
+      (rec_groups_within inner sc.env b.2 u recs c.0 at_b.fit after (recs_later P c.1 u c.0 m.1 l.1.1))
+      (rec_closed sc.env recs c.0 has.0) in
       given_then Q Q (closed_val sc at (is_kept sc u.types.stands) own.0 (val_groups sc recs b c) u) _
       (closed_given Q sc at own.0 (val_groups sc recs b c) u
-      (λ left grown. val_derived sc rules recs at st b c u tyvars own f.0 o.1 f.3 f.1 f.2 k.1 l.1 m h grown left))
+      (λ left grown. val_derived sc rules recs at st b c u tyvars own o.1 apart k.0.1 l.0.1 m.0 h grown left))
       (λ r n. sized_given Q sc at r n))))))
   dec_derives depth sc (DecPhrase.Types binds at) st has firm low h =
       let dec : DecPhrase = DecPhrase.Types binds at in
@@ -507,7 +498,7 @@ mutual
       (sequence_derived sc decs at st) (decs_derive depth sc decs st has firm low h)
   dec_derives depth sc (DecPhrase.Structures binds at) st has firm low h = tt
 
-  pub decs_derive : (depth : ℕ) (sc : Scope) (decs : DecPhrases) (st : Progress) → DecsHave IsPlain decs
+  pub decs_derive : (depth : ℕ) (sc : Scope) (decs : DecPhrases) (st : Progress) → DecsHave BindsValues decs
       → FirmEnv sc.env → TypesBelow sc.home st.names sc.env
       → IsReady Any sc st → Given (DecsDerived sc decs st) (infer_decs depth sc decs st)
   decs_derive depth sc DecPhrases.EndOfDecs st has firm low h = record {

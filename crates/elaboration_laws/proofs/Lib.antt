@@ -3,6 +3,6 @@ pub mod Core
 pub mod Bindings
 pub mod Vals
 pub mod Own
-pub mod Promised
 pub mod Behind
 pub mod Apart
+pub mod Promised
