@@ -1,6 +1,6 @@
 -- Whole expressions: the scope that they begin with, and the table after a diagnostic.
-use Rattle.std.proofs.Common.{◌≡◌, List, [], refl, sym, ap₂, subst}
-use Rattle.std.specs.Prelude.{Result, Ok, Err}
+use Rattle.std.proofs.Common.{◌≡◌, [], sym, ap₂, subst}
+use Rattle.std.specs.Prelude.{Result, Err}
 use Rattle.cm_base.specs.declared.fault.Fault.{Fault}
 use Rattle.cm_base.specs.declared.fault.Fault.TheVariants as fault
 use Rattle.semantic_objects.specs.declared.name.TyId.{TyId}
@@ -13,7 +13,7 @@ use Rattle.sml_modules.specs.Items.{map_rows}
 use Rattle.sml_modules.specs.Graphs.{Graph, env_at}
 use Rattle.name_trails.specs.Trails.{Rows}
 use Rattle.bare_phrases.specs.Phrases.{ExpPhrase}
-use Rattle.static_semantics.specs.Inferring.{Progress, Scope, Answer, outermost}
+use Rattle.static_semantics.specs.Inferring.{Progress, Answer, outermost}
 use Rattle.static_semantics.specs.CoreInference.{infer_exp}
 use Rattle.core_scopes.specs.Scopes.{Bindings, seen, written_of, IsScopeOf}
 use Rattle.type_phrases.specs.Inferred.{Inferred, progress}

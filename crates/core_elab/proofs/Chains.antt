@@ -6,12 +6,12 @@ use Rattle.cm_base.specs.declared.fault.Fault.TheVariants as fault
 use Rattle.sml_trees.specs.declared.name.At.{At}
 use Rattle.semantic_objects.specs.declared.name.TyId.{TyId}
 use Rattle.semantic_objects.specs.Environments.{Env}
-use Rattle.unification.specs.Types.{Ty, State}
-use Rattle.type_nodes.specs.Tables.{Table, Has, state, type_of}
+use Rattle.unification.specs.Types.{Ty}
+use Rattle.type_nodes.specs.Tables.{Table, Has, type_of}
 use Rattle.sml_modules.specs.Items.{map_rows}
 use Rattle.sml_modules.specs.Graphs.{Graph, Keeps}
 use Rattle.sml_modules.proofs.Keeping.{keeps, extends_self}
-use Rattle.static_semantics.specs.Inferring.{Progress, Scope, Answer, ◌>>=◌, gives, with_types, sized, sized_exp}
+use Rattle.static_semantics.specs.Inferring.{Progress, Scope, Answer, ◌>>=◌, gives, sized, sized_exp}
 use Rattle.core_scopes.specs.Scopes.{Bindings, written_of}
 use Rattle.core_scopes.proofs.Scoping.{scope_there, scope_seen}
 use Rattle.type_phrases.specs.Inferred.{Answers, KeepsTypes, progress, home_scope}

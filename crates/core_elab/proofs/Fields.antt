@@ -6,14 +6,12 @@ use Rattle.cm_base.specs.declared.fault.Fault.TheVariants as fault
 use Rattle.sml_trees.specs.declared.name.Name.{Name}
 use Rattle.sml_trees.specs.declared.exp.ExpField.{ExpField, out-ExpField}
 use Rattle.semantic_objects.specs.declared.name.TyId.{TyId}
-use Rattle.semantic_objects.specs.Symbols.{AreDiffering}
-use Rattle.semantic_objects.specs.Tables.{Table as Named, names_of, with_entry, with_all}
+use Rattle.semantic_objects.specs.Tables.{Table as Named, with_entry, with_all}
 use Rattle.semantic_objects.proofs.Promised.{sets_entries}
 use Rattle.unification.specs.Types.{Ty}
 use Rattle.unification.specs.Unification.{depth}
 use Rattle.type_nodes.specs.Tables.{Table, type_of}
 use Rattle.sml_modules.specs.Items.{map_rows}
-use Rattle.sml_modules.specs.Graphs.{Graph}
 use Rattle.sml_types.proofs.Frames.{drop_past}
 use Rattle.name_trails.specs.Trails.{Rows, last_entry}
 use Rattle.bare_phrases.specs.Phrases.{ExpPhrase, ExpFields}
@@ -26,7 +24,7 @@ use Rattle.core_scopes.proofs.Scoping.{map_append}
 use Rattle.type_phrases.specs.Inferred.{Answers, KeepsTypes, HaveRows, made_fields}
 use Rattle.type_phrases.proofs.Keeping.{keeps_all, rows_later, rows_have, rows_more}
 use Rattle.type_phrases.proofs.Records.{differ_more}
-use Rattle.core_elab.specs.Moments.{Moment, moment, scope_at, progress_at, IsCoreAt, typed_as, Passes, Elabs}
+use Rattle.core_elab.specs.Moments.{Moment, scope_at, progress_at, IsCoreAt, typed_as, Passes, Elabs}
 use Rattle.core_elab.specs.Expressions.{IsExp, AreExpFields, IsExpField, AreLabelled, fields_at, infer_exp_field}
 use Rattle.core_elab.proofs.Entering.{left_row}
 use Rattle.core_elab.proofs.Chains.{passes_table, passes_then, scope_kept, stops, goes_on, memory, answers_stop}
@@ -108,8 +106,10 @@ module _ {m0 : Moment} (x : ExpField) (rows : Rows TyId) where
       (λ m (u : Unit {0}). fields_at m more) (λ t u. AreLabelled t more) m1 (Ok tt) =
       record {
         infers = ap (λ (z : Named Ty). gives (z, progress_at m1)) is;
-        has = (rows_more m1.table rows more label.text a (rows_have m0.table m1.table rows k.goes.ids have.0) k.has e,
-            differ_more rows more label.text a have.1 free e);
+        has = (
+          rows_more m1.table rows more label.text a (rows_have m0.table m1.table rows k.goes.ids have.0) k.has e,
+          differ_more rows more label.text a have.1 free e,
+        );
         goes = passes_table m1 m1.table m1.scope (keeps_all m1.table);
         left = refl;
         core = k.core;

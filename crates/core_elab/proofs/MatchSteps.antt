@@ -1,9 +1,8 @@
 -- Matches: their rules, one after the other.
 use Rattle.std.proofs.Common.{◌≡◌, ℕ, ◌+◌, ◌<◌, ◌≤◌, List, [], ◌∷◌, length, map, drop, get_or, refl, sym, ap, ap₂, ◌∙◌, subst, Option, Some, None}
-use Rattle.std.specs.Prelude.{Result, Ok, Err, IfOk, IfSome}
+use Rattle.std.specs.Prelude.{Result, Ok, Err, IfSome}
 use Rattle.std.specs.Option.{option_map}
 use Rattle.cm_base.specs.declared.fault.Fault.{Fault}
-use Rattle.cm_base.specs.declared.fault.Fault.TheVariants as fault
 use Rattle.sml_trees.specs.declared.name.At.{At}
 use Rattle.sml_trees.specs.declared.exp.Rule.{Rule, out-Rule}
 use Rattle.semantic_objects.specs.declared.name.TyId.{TyId}
@@ -20,18 +19,18 @@ use Rattle.bare_phrases.proofs.Forms.{rule_phrase-kept}
 use Rattle.static_semantics.specs.BasicTypes.{arrow_ty}
 use Rattle.static_semantics.specs.Inferring.{Progress, Scope, Answer, ◌>>=◌, gives, with_types, Bound, under_bound, unify_at}
 use Rattle.static_semantics.specs.PatternInference.{pat_at, infer_pat}
-use Rattle.static_semantics.specs.CoreInference.{exp_at, infer_exp, infer_rules, infer_match}
+use Rattle.static_semantics.specs.CoreInference.{exp_at, infer_exp, infer_rules}
 use Rattle.core_scopes.specs.Scopes.{Bindings}
 use Rattle.type_phrases.specs.Inferred.{Answers, Inferred, KeepsTypes, progress}
 use Rattle.type_phrases.proofs.Keeping.{keeps_all, keeps_later}
 use Rattle.pattern_elab.specs.declared.own.OwnVariable.{OwnVariable}
-use Rattle.pattern_elab.specs.Scopes.{bound_of, scope_of, IsCoreScope}
+use Rattle.pattern_elab.specs.Scopes.{bound_of, IsCoreScope}
 use Rattle.pattern_elab.specs.Steps.{Unified, IsPat}
 use Rattle.pattern_elab.proofs.Scoping.{core_later}
 use Rattle.core_elab.specs.Rules.{IsRule}
 use Rattle.core_elab.specs.declared.matching.RuleType.{RuleType}
 use Rattle.core_elab.specs.Moments.{Moment, moment, scope_at, progress_at, IsCoreAt, typed_as, Passes, Elabs}
-use Rattle.core_elab.specs.Expressions.{IsUnder, IsMatch, IsRulePat, IsTypedRule, bound_at, sides_in, HasSides, sides_at, HasFirst, as_first, infer_rule_pat, infer_rule, match_on}
+use Rattle.core_elab.specs.Expressions.{IsUnder, IsMatch, IsRulePat, IsTypedRule, bound_at, sides_in, HasSides, sides_at, HasFirst, as_first, infer_rule, match_on}
 use Rattle.core_elab.proofs.Entering.{left_row}
 use Rattle.core_elab.proofs.Ruling.{unified_gives, unified_fails}
 use Rattle.core_elab.proofs.Chains.{passes_table, passes_then, scope_kept, stops, goes_on, ruled, answers_stop}
@@ -196,8 +195,11 @@ module _ {m : Moment} {t1 : Table} {before bound : Rows OwnVariable} (first : Op
       let q = pattern {m = m} p core empty h in
       let step = from_step m (moment m.graph t1 m.scope) t2 (pat_at p) place first chosen a (Ok from) q.core
       h.goes.ids has at by k in
-      let ends : Elabs (moment m.graph t2 m.scope) (λ sc. pat_end (bound_of bound) sc (type_of t2 from, progress t2
-      m.graph)) bound_at (λ t r. Has t r.0) (moment m.graph t2 m.scope) (Ok (from, bound)) =
+      let ends : Elabs (moment m.graph t2 m.scope) (λ sc. pat_end (bound_of bound) sc (
+        type_of t2 from,
+        progress t2
+            m.graph,
+      )) bound_at (λ t r. Has t r.0) (moment m.graph t2 m.scope) (Ok (from, bound)) =
       record {
         infers = refl;
         has = k.has;

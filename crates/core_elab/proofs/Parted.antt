@@ -1,8 +1,7 @@
 -- Expressions with parts: what a call answers of each, from what it answers of its parts.
-use Rattle.std.proofs.Common.{◌≡◌, [], refl, sym, ap, ap₂, ◌∙◌, subst}
+use Rattle.std.proofs.Common.{◌≡◌, refl, sym, subst}
 use Rattle.std.specs.Prelude.{Result, Ok, Err, IfOk}
 use Rattle.cm_base.specs.declared.fault.Fault.{Fault}
-use Rattle.cm_base.specs.declared.fault.Fault.TheVariants as fault
 use Rattle.sml_trees.specs.declared.name.At.{At}
 use Rattle.semantic_objects.specs.declared.name.TyId.{TyId}
 use Rattle.semantic_objects.specs.Tables.{Table as Named}
@@ -22,7 +21,7 @@ use Rattle.pattern_elab.specs.declared.own.OwnVariable.{OwnVariable}
 use Rattle.pattern_elab.proofs.Scoping.{core_later}
 use Rattle.core_elab.specs.Rules.{IsRule}
 use Rattle.core_elab.specs.Entered.{IsEntered}
-use Rattle.core_elab.specs.Moments.{Moment, moment, scope_at, progress_at, IsCoreAt, typed_as, Passes, Elabs}
+use Rattle.core_elab.specs.Moments.{Moment, moment, scope_at, progress_at, IsCoreAt, typed_as, Elabs}
 use Rattle.core_elab.specs.Expressions.{IsExp, IsUnder, IsMatch, AreExpFields, IsConstrained, ends_sized, infer_constraint, fields_at}
 use Rattle.core_elab.proofs.Chains.{passes_table, core_kept, stops, goes_on, ruled, has_same, IsSized, checked, rule_stops, rule_checked}
 use Rattle.core_elab.proofs.Leaves.{made_sized}

@@ -1,15 +1,11 @@
-use Rattle.std.proofs.Common.{rules, refl, sym, ap, ap₂, subst, ◌∙◌, map, [], ◌∷◌, ◌++◌}
-use Rattle.std.specs.Prelude.{Ok, Err}
-use Rattle.cm_base.specs.declared.fault.Fault.TheVariants as fault
-use Rattle.sml_trees.specs.declared.exp.ExpField.{out-ExpField}
+use Rattle.std.proofs.Common.{rules, refl, sym, ap, ap₂, ◌∙◌, map, [], ◌∷◌, ◌++◌}
 use Rattle.bare_phrases.specs.Phrases.{ExpPhrase}
 use Rattle.bare_phrases.specs.PhraseOf.{ty_phrase, exp_phrase, exp_field_phrase, exp_fields, rule_phrase, rules_of}
 use Rattle.bare_phrases.proofs.Forms.{exp_phrase-Int, exp_phrase-Str, exp_phrase-Char, exp_phrase-Long, exp_phrase-Record, exp_phrase-App, exp_phrase-Typed, exp_phrase-Handle, exp_phrase-Raise, exp_phrase-Fn}
-use Rattle.type_phrases.proofs.Keeping.{keeps_extended}
 use Rattle.pattern_elab.specs.Scopes.{scope_of}
-use Rattle.core_elab.specs.Moments.{moment, IsCoreAt}
+use Rattle.core_elab.specs.Moments.{moment}
 use Rattle.core_elab.proofs.Entering.{front_same}
-use Rattle.core_elab.proofs.Chains.{passed, memory}
+use Rattle.core_elab.proofs.Chains.{passed}
 use Rattle.core_elab.proofs.Parted.{as_phrase, plain, app_first, app_second, app_done, typed_first, typed_done, handle_first, handle_second, handle_done, raise_first, raise_done, fn_first, fn_done, record_first, record_done, under_done}
 use Rattle.core_elab.proofs.Fields.{field_first, field_second, field_done, fields_begin, fields_next, fields_fail, fields_end}
 use Rattle.core_elab.proofs.MatchSteps.{rule_first, rule_second, rule_third, rule_done, match_begin, match_next, match_fails, match_ends}

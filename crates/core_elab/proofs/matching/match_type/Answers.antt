@@ -1,6 +1,5 @@
-use Rattle.std.proofs.Common.{subst, sym, None}
+use Rattle.std.proofs.Common.{subst, sym}
 use Rattle.std.specs.Option.{option_map}
-use Rattle.unification.specs.Unification.{depth}
 use Rattle.sml_modules.specs.Graphs.{Graph}
 use Rattle.bare_phrases.specs.Phrases.{Rules}
 use Rattle.type_phrases.specs.Inferred.{progress}
