@@ -1,5 +1,5 @@
 -- Whole expressions: the scope that they begin with, and the table after a diagnostic.
-use Rattle.std.proofs.Common.{◌≡◌, [], sym, ap₂, subst}
+use Rattle.std.proofs.Common.{◌≡◌, [], ap₂, subst}
 use Rattle.std.specs.Prelude.{Result, Err}
 use Rattle.cm_base.specs.declared.fault.Fault.{Fault}
 use Rattle.cm_base.specs.declared.fault.Fault.TheVariants as fault
@@ -15,16 +15,12 @@ use Rattle.name_trails.specs.Trails.{Rows}
 use Rattle.bare_phrases.specs.Phrases.{ExpPhrase}
 use Rattle.static_semantics.specs.Inferring.{Progress, Answer, outermost}
 use Rattle.static_semantics.specs.CoreInference.{infer_exp}
-use Rattle.core_scopes.specs.Scopes.{Bindings, seen, written_of, IsScopeOf}
+use Rattle.core_scopes.specs.Scopes.{Bindings, seen, written_of}
 use Rattle.type_phrases.specs.Inferred.{Inferred, progress}
 use Rattle.pattern_elab.specs.declared.own.OwnVariable.{OwnVariable}
-use Rattle.pattern_elab.specs.Scopes.{own_entry, variable_of, scope_of, IsCoreScope, AreVariables}
+use Rattle.pattern_elab.specs.Scopes.{own_entry, variable_of, scope_of}
 use Rattle.core_elab.specs.Moments.{Moment, moment}
 use Rattle.core_elab.specs.Expressions.{IsExp}
-
-pub core_outermost : (g : Graph) (t : Table) (sc : Bindings OwnVariable) → IsScopeOf g sc → written_of sc ≡ []
-    → IsCoreScope g t sc
-core_outermost g t sc h e = record { there = h; written = subst (AreVariables t) (sym e) tt }
 
 scope_outermost : (g : Graph) (env : EnvId) (sc : Bindings OwnVariable) → seen g own_entry sc ≡ env_at g env
     → written_of sc ≡ [] → scope_of g sc ≡ outermost g.home (env_at g env)

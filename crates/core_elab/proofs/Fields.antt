@@ -2,7 +2,6 @@
 use Rattle.std.proofs.Common.{◌≡◌, ℕ, ◌+◌, ◌<◌, ◌≤◌, List, [], ◌∷◌, ◌++◌, length, map, drop, get_or, refl, sym, ap, ◌∙◌, subst, Some, None}
 use Rattle.std.specs.Prelude.{Result, Ok, Err, IfOk}
 use Rattle.cm_base.specs.declared.fault.Fault.{Fault}
-use Rattle.cm_base.specs.declared.fault.Fault.TheVariants as fault
 use Rattle.sml_trees.specs.declared.name.Name.{Name}
 use Rattle.sml_trees.specs.declared.exp.ExpField.{ExpField, out-ExpField}
 use Rattle.semantic_objects.specs.declared.name.TyId.{TyId}
@@ -27,7 +26,7 @@ use Rattle.type_phrases.proofs.Records.{differ_more}
 use Rattle.core_elab.specs.Moments.{Moment, scope_at, progress_at, IsCoreAt, typed_as, Passes, Elabs}
 use Rattle.core_elab.specs.Expressions.{IsExp, AreExpFields, IsExpField, AreLabelled, fields_at, infer_exp_field}
 use Rattle.core_elab.proofs.Entering.{left_row}
-use Rattle.core_elab.proofs.Chains.{passes_table, passes_then, scope_kept, stops, goes_on, memory, answers_stop}
+use Rattle.core_elab.proofs.Chains.{passes_table, passes_then, scope_kept, stops, goes_on, answers_stop}
 
 made_more : (t : Table) (rows new : Rows TyId) (name : List ℕ) (a : TyId) → new ≡ rows ++ (name, a) ∷ []
     → made_fields t new ≡ with_entry name (type_of t a) (made_fields t rows)
@@ -86,11 +85,6 @@ module _ {m0 : Moment} (x : ExpField) (rows : Rows TyId) where
       as_field x rows rows (goes_on (field_rest (out-ExpField x).label (exp_phrase (out-ExpField x).exp)
       (made_fields m0.table rows) (progress_at m0)) core (labelled m0 (out-ExpField x).label rows (Ok tt) core h)
       (stops (field_end (out-ExpField x).label (made_fields m0.table rows)) k))
-
-  pub field_memory : {m1 : Moment} {a : TyId} (more : Rows TyId)
-      → IsExp m0 (exp_phrase (out-ExpField x).exp) m1 (Ok a)
-      → IsExpField m0 (exp_field_phrase x) rows more m1 (Err fault.NoMemory)
-  field_memory more k = memory k.goes k.left k.core
 
   pub field_done : {m1 : Moment} {a : TyId} (more : Rows TyId) → IsCoreAt m0
       → IsNew m0 (out-ExpField x).label rows (Ok tt) → last_entry rows (out-ExpField x).label.text ≡ None

@@ -1,15 +1,14 @@
 -- Matches: their rules, one after the other.
-use Rattle.std.proofs.Common.{◌≡◌, ℕ, ◌+◌, ◌<◌, ◌≤◌, List, [], ◌∷◌, length, map, drop, get_or, refl, sym, ap, ap₂, ◌∙◌, subst, Option, Some, None}
-use Rattle.std.specs.Prelude.{Result, Ok, Err, IfSome}
+use Rattle.std.proofs.Common.{◌≡◌, ℕ, ◌+◌, ◌<◌, ◌≤◌, List, [], length, map, drop, get_or, refl, sym, ap, ◌∙◌, subst, Option, Some, None}
+use Rattle.std.specs.Prelude.{Result, Ok, Err}
 use Rattle.std.specs.Option.{option_map}
 use Rattle.cm_base.specs.declared.fault.Fault.{Fault}
 use Rattle.sml_trees.specs.declared.name.At.{At}
 use Rattle.sml_trees.specs.declared.exp.Rule.{Rule, out-Rule}
 use Rattle.semantic_objects.specs.declared.name.TyId.{TyId}
-use Rattle.semantic_objects.specs.declared.symbol.Symbol.TheVariants as symbol
-use Rattle.unification.specs.Types.{Ty, State}
-use Rattle.unification.specs.Unification.{unify_in, depth}
-use Rattle.type_nodes.specs.Tables.{Table, Has, state, type_of, types_of}
+use Rattle.unification.specs.Types.{Ty}
+use Rattle.unification.specs.Unification.{depth}
+use Rattle.type_nodes.specs.Tables.{Table, Has, type_of}
 use Rattle.sml_modules.specs.Graphs.{Graph}
 use Rattle.sml_types.proofs.Frames.{drop_past}
 use Rattle.name_trails.specs.Trails.{Rows}
@@ -17,7 +16,7 @@ use Rattle.bare_phrases.specs.Phrases.{PatPhrase, ExpPhrase, Rules}
 use Rattle.bare_phrases.specs.PhraseOf.{pat_phrase, exp_phrase, rule_phrase, rules_of}
 use Rattle.bare_phrases.proofs.Forms.{rule_phrase-kept}
 use Rattle.static_semantics.specs.BasicTypes.{arrow_ty}
-use Rattle.static_semantics.specs.Inferring.{Progress, Scope, Answer, ◌>>=◌, gives, with_types, Bound, under_bound, unify_at}
+use Rattle.static_semantics.specs.Inferring.{Progress, Scope, Answer, ◌>>=◌, gives, Bound, under_bound, unify_at}
 use Rattle.static_semantics.specs.PatternInference.{pat_at, infer_pat}
 use Rattle.static_semantics.specs.CoreInference.{exp_at, infer_exp, infer_rules}
 use Rattle.core_scopes.specs.Scopes.{Bindings}
@@ -25,39 +24,14 @@ use Rattle.type_phrases.specs.Inferred.{Answers, Inferred, KeepsTypes, progress}
 use Rattle.type_phrases.proofs.Keeping.{keeps_all, keeps_later}
 use Rattle.pattern_elab.specs.declared.own.OwnVariable.{OwnVariable}
 use Rattle.pattern_elab.specs.Scopes.{bound_of, IsCoreScope}
-use Rattle.pattern_elab.specs.Steps.{Unified, IsPat}
+use Rattle.pattern_elab.specs.Steps.{IsPat}
 use Rattle.pattern_elab.proofs.Scoping.{core_later}
 use Rattle.core_elab.specs.Rules.{IsRule}
 use Rattle.core_elab.specs.declared.matching.RuleType.{RuleType}
 use Rattle.core_elab.specs.Moments.{Moment, moment, scope_at, progress_at, IsCoreAt, typed_as, Passes, Elabs}
 use Rattle.core_elab.specs.Expressions.{IsUnder, IsMatch, IsRulePat, IsTypedRule, bound_at, sides_in, HasSides, sides_at, HasFirst, as_first, infer_rule, match_on}
 use Rattle.core_elab.proofs.Entering.{left_row}
-use Rattle.core_elab.proofs.Ruling.{unified_gives, unified_fails}
 use Rattle.core_elab.proofs.Chains.{passes_table, passes_then, scope_kept, stops, goes_on, ruled, answers_stop}
-
--- ---- a type that is made that of the first rule
-
-pub first_alone : (g : Graph) (at : At) (t : Table) (a : TyId) → Has t a
-    → IsRule g t t (λ sc. as_first sc at None (type_of t a) (progress t g)) (Ok a)
-first_alone g at t a has = record { infers = λ scope. refl; has = has; ids = keeps_all t }
-
-pub first_joined : (g : Graph) (at : At) (t0 t1 : Table) (a b : TyId)
-    → Unified g at (unify_in depth (type_of t0 a) (type_of t0 b) (state t0)) (Ok tt) (state t1) → KeepsTypes t0 t1
-    → Has t0 b → IsRule g t0 t1 (λ sc. as_first sc at (Some (type_of t0 b)) (type_of t0 a) (progress t0 g)) (Ok b)
-first_joined g at t0 t1 a b h k there = record {
-  infers = λ scope. unified_gives g scope at (type_of t0 a) (type_of t0 b) (type_of t0 b) t0 t1 b h (k.types b there);
-  has = k.ids b there;
-  ids = k;
-}
-
-pub first_fails : (g : Graph) (at : At) (t0 t1 : Table) (a b : TyId) (e : Fault)
-    → Unified g at (unify_in depth (type_of t0 a) (type_of t0 b) (state t0)) (Err e) (state t1) → KeepsTypes t0 t1
-    → IsRule g t0 t1 (λ sc. as_first sc at (Some (type_of t0 b)) (type_of t0 a) (progress t0 g)) (Err e)
-first_fails g at t0 t1 a b e h k = record {
-  infers = λ scope. unified_fails g scope at (type_of t0 a) (type_of t0 b) (type_of t0 b) t0 t1 (state t1) e h;
-  has = tt;
-  ids = k;
-}
 
 -- ---- steps by the first rule
 
@@ -73,16 +47,6 @@ to_later : (a b : Table) (first : Option RuleType) → KeepsTypes a b → HasFir
     ≡ option_map (λ (f : Ty × Ty). f.1) (option_map (sides_in a) first)
 to_later a b None k h = refl
 to_later a b (Some sides) k h = ap (λ (u : Ty). Some u) (k.types sides.to h.1)
-
-pub from_there : (a b : Table) (first : Option RuleType) (x : Option TyId) → KeepsTypes a b → HasFirst a first
-    → x ≡ option_map (λ (sides : RuleType). sides.from) first → IfSome x (Has b)
-from_there a b None x k h e = subst (λ (z : Option TyId). IfSome z (Has b)) (sym e) tt
-from_there a b (Some sides) x k h e = subst (λ (z : Option TyId). IfSome z (Has b)) (sym e) (k.ids sides.from h.0)
-
-pub to_there : (a b : Table) (first : Option RuleType) (x : Option TyId) → KeepsTypes a b → HasFirst a first
-    → x ≡ option_map (λ (sides : RuleType). sides.to) first → IfSome x (Has b)
-to_there a b None x k h e = subst (λ (z : Option TyId). IfSome z (Has b)) (sym e) tt
-to_there a b (Some sides) x k h e = subst (λ (z : Option TyId). IfSome z (Has b)) (sym e) (k.ids sides.to h.1)
 
 -- a pattern, and the variables that it bound
 abbrev read_pat : Rows OwnVariable → Moment → TyId → Ty × Bound × Progress
@@ -440,16 +404,4 @@ match_ends {begun} {now} {new} {all} {i} {first} {r} s h k = record {
   goes = passes_then s.goes (passes_table now new now.scope k.ids);
   left = s.same;
   core = core_later now.graph now.table new now.scope k.ids s.core;
-}
-
--- ---- the type of a match, behind its rules
-
-pub match_typed : (g : Graph) (t new : Table) (sides : RuleType) (a : TyId) → HasSides t sides
-    → type_of new a ≡ Ty.Made symbol.Arrow (types_of t (sides.from ∷ sides.to ∷ [])) → state new ≡ state t
-    → KeepsTypes t new → Has new a
-    → IsRule g t new (λ sc. match_on sc (Some (sides_in t sides)) Rules.EndOfRules (progress t g)) (Ok a)
-match_typed g t new sides a h e s k has = record {
-  infers = λ scope. ap₂ (λ (u : Ty) (z : State). gives (u, with_types z (progress t g))) (sym e) (sym s);
-  has = has;
-  ids = k;
 }

@@ -27,15 +27,15 @@ use Rattle.core_elab.specs.Rules.{IsRule}
 
 -- ---- a unification, and the type of the whole after it
 
-abbrev pub unifies : Graph → Bindings OwnVariable → At → Ty → Ty → Progress → Ty → Answer (Ty × Progress)
+abbrev unifies : Graph → Bindings OwnVariable → At → Ty → Ty → Progress → Ty → Answer (Ty × Progress)
 unifies g scope at a b st u = unify_at depth (scope_of g scope) at a b st >>= λ s. gives (u, s)
 
-pub unified_gives : (g : Graph) (scope : Bindings OwnVariable) (at : At) (a b u : Ty) (t new : Table) (x : TyId)
+unified_gives : (g : Graph) (scope : Bindings OwnVariable) (at : At) (a b u : Ty) (t new : Table) (x : TyId)
     → Unified g at (unify_in depth a b (state t)) (Ok tt) (state new) → type_of new x ≡ u
     → unifies g scope at a b (progress t g) u ≡ gives (type_of new x, progress new g)
 unified_gives g scope at a b u t new x h e = rw (h, e)
 
-pub unified_fails : (g : Graph) (scope : Bindings OwnVariable) (at : At) (a b u : Ty) (t new : Table) (s : State) (e :
+unified_fails : (g : Graph) (scope : Bindings OwnVariable) (at : At) (a b u : Ty) (t new : Table) (s : State) (e :
     Fault)
     → Unified g at (unify_in depth a b (state t)) (Err e) s
     → Inferred (unifies g scope at a b (progress t g) u) (Err e) new g
