@@ -1,0 +1,7 @@
+//! The ends of declarations and of `let`: the sizes of all types of what was made, and type names that don't leave.
+#![tactic(auto)]
+
+mod leaving;
+mod passed;
+
+pub use leaving::within_let;
