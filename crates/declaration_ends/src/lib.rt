@@ -2,6 +2,9 @@
 #![tactic(auto)]
 
 mod leaving;
+mod made;
 mod passed;
+mod sizes;
 
 pub use leaving::within_let;
+pub use made::sized_made;
