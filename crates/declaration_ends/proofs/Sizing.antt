@@ -1,6 +1,6 @@
 -- The sizes of what a declaration made.
 use Rattle.std.proofs.Common.{◌≡◌, ℕ, zero, suc, ◌+◌, ◌<◌, ◌≤◌, List, [], ◌∷◌, ◌++◌, length, map, drop, get_or, refl, sym, ap, ap₂, ◌∙◌, subst, Bool, true, false, ◌||◌, arith, eqb}
-use Rattle.std.specs.Prelude.{Err, ltb}
+use Rattle.std.specs.Prelude.{Err, ltb, max}
 use Rattle.std.specs.List.{list_any}
 use Rattle.std.proofs.lemmas.Bool.{eqb-true, ltb-true, ltb-false}
 use Rattle.std.proofs.lemmas.List.Folds.{list_any-append}
@@ -12,20 +12,25 @@ use Rattle.semantic_objects.specs.declared.entry.TypeStr.{TypeStr}
 use Rattle.semantic_objects.specs.declared.entry.ValueEntry.{ValueEntry}
 use Rattle.semantic_objects.specs.Tables.{Table as Named, with_entry, with_all}
 use Rattle.semantic_objects.specs.Trees.{Tree, Trees}
-use Rattle.semantic_objects.specs.Environments.{Env, env_of}
+use Rattle.semantic_objects.specs.Environments.{Env, Structures, structures_of}
 use Rattle.unification.specs.Types.{Ty, Substitution, State, put, put_all, size, size_all}
 use Rattle.unification.specs.Instances.{fill, fill_all}
-use Rattle.unification.proofs.Walking.{or_left}
+use Rattle.unification.proofs.Walking.{or_left, or_false_left, or_false_right}
 use Rattle.type_nodes.specs.Facts.{capped}
 use Rattle.type_nodes.specs.Tables.{Table, Has, state, type_of, whole}
 use Rattle.type_schemes.specs.Schemes.{HaveAll}
 use Rattle.type_functions.specs.Applied.{with_types}
 use Rattle.sml_modules.specs.Items.{map_rows}
-use Rattle.sml_modules.specs.Graphs.{Graph, structure_rows, type_rows}
+use Rattle.env_parts.specs.declared.facts.Facts.{Facts}
+use Rattle.env_parts.specs.Types.{tree_size, trees_size, holds_free, any_holds_free, facts_of, types_in, types_in_structures, types_in_types, types_in_values}
+use Rattle.env_parts.specs.Types as parts
+use Rattle.sml_modules.specs.declared.id.EnvId.{EnvId}
+use Rattle.sml_modules.specs.declared.parts.NamedEnv.{NamedEnv}
+use Rattle.sml_modules.specs.Graphs.{Graph, env_at, structure_rows, type_rows}
 use Rattle.sml_modules.specs.declared.parts.NamedType.{NamedType}
 use Rattle.sml_modules.proofs.Setting.{all_map}
 use Rattle.static_semantics.specs.BasicTypes.{unit_ty, int_ty}
-use Rattle.static_semantics.specs.Inferring.{Progress, Answer, ◌>>=◌, gives, refuses_where, seen, con_bodies, type_bodies, value_bodies, has_too_large, sized_dec}
+use Rattle.static_semantics.specs.Inferring.{Progress, Answer, ◌>>=◌, gives, refuses_where, seen, con_bodies, type_bodies, value_bodies, bodies, structure_bodies, has_too_large, sized_dec}
 use Rattle.core_scopes.specs.declared.made.Made.{Made}
 use Rattle.core_scopes.specs.declared.made.NamedInScope.{NamedInScope}
 use Rattle.core_scopes.specs.Scopes.{entry_of}
@@ -35,6 +40,7 @@ use Rattle.type_phrases.specs.Inferred.{Answers, Refuses, home_scope}
 use Rattle.type_phrases.proofs.Steps.{refused}
 use Rattle.pattern_elab.specs.declared.own.OwnVariable.{OwnVariable}
 use Rattle.pattern_elab.specs.Scopes.{own_entry}
+use Rattle.declaration_ends.specs.Closed.{IsClosedEnv, AreClosedEnvs}
 use Rattle.declaration_ends.specs.Sizes.{AreAll, is_large_in, any_large, large_value, large_type, flag, any_flag}
 
 -- ---- one tree
@@ -208,33 +214,157 @@ all_types s items types i rows b e h inv k =
     ∙ all_map (λ (x : TypeStr). flag (large_type s x)) (type_rows types) [])
     ∙ types_flagged s (with_all (type_rows types) [])
 
+-- ---- structures
+
+mutual
+  closed_size : (s : Substitution) (x : Tree) → holds_free x ≡ false → size (seen s x) ≡ tree_size x
+  closed_size s (Tree.Bound i) h = refl
+  closed_size s (Tree.Free n) h = absurd (cc)
+  closed_size s (Tree.Made c xs) h =
+      let k : size_all (fill_all (λ i. unit_ty) s xs) ≡ trees_size xs = closed_sizes s xs h in omega (arith, k)
+
+  closed_sizes : (s : Substitution) (xs : Trees) → any_holds_free xs ≡ false
+      → size_all (fill_all (λ i. unit_ty) s xs) ≡ trees_size xs
+  closed_sizes s Trees.Nil h = refl
+  closed_sizes s (Trees.Cons x xs) h = ap₂ (λ m n. m + n)
+      (closed_size s x (or_false_left (holds_free x) (any_holds_free xs) h))
+      (closed_sizes s xs (or_false_right (holds_free x) (any_holds_free xs) h))
+
+larger : (a b : ℕ) → ltb 65536 (max a b) ≡ (ltb 65536 a || ltb 65536 b)
+larger a b = by_tests (ltb 65536 a) (ltb 65536 b) (ltb 65536 (max a b)) refl refl refl
+  where
+    by_tests : (x y z : Bool) → ltb 65536 a ≡ x → ltb 65536 b ≡ y → ltb 65536 (max a b) ≡ z → z ≡ (x || y)
+    by_tests x y true e f g = big x y e f
+      where
+        big : (x y : Bool) → ltb 65536 a ≡ x → ltb 65536 b ≡ y → true ≡ (x || y)
+        big true y e f = refl
+        big false true e f = refl
+        big false false e f =
+            let k : a ≤ 65536 = ltb-false 65536 a e in
+            let l : b ≤ 65536 = ltb-false 65536 b f in
+            let m : 65536 < max a b = ltb-true 65536 (max a b) g in absurd (omega (arith, k, l, m))
+    by_tests true y false e f g =
+        let k : 65536 < a = ltb-true 65536 a e in
+        let m : max a b ≤ 65536 = ltb-false 65536 (max a b) g in absurd (omega (arith, k, m))
+    by_tests false true false e f g =
+        let k : 65536 < b = ltb-true 65536 b f in
+        let m : max a b ≤ 65536 = ltb-false 65536 (max a b) g in absurd (omega (arith, k, m))
+    by_tests false false false e f g = refl
+
+facts_large : (s : Substitution) (xs : List Tree) → (facts_of xs).has_free ≡ false
+    → ltb 65536 (facts_of xs).largest ≡ any_large s xs
+facts_large s [] h = refl
+facts_large s (x ∷ xs) h =
+    let k : holds_free x ≡ false = or_false_left (holds_free x) (facts_of xs).has_free h in
+    larger (parts.capped (tree_size x)) (facts_of xs).largest
+    ∙ ap₂ (λ a b. a || b)
+    (over_limit (parts.capped (tree_size x)) (tree_size x) refl ∙ ap (ltb 65536) (sym (closed_size s x k)))
+    (facts_large s xs (or_false_right (holds_free x) (facts_of xs).has_free h))
+
+same_values : (table : Named ValueEntry) → value_bodies table ≡ types_in_values table
+same_values [] = refl
+same_values (row ∷ table) = ap (λ (xs : List Tree). row.1.scheme.body ∷ xs) (same_values table)
+
+same_types : (table : Named TypeStr) → type_bodies table ≡ types_in_types table
+same_types [] = refl
+same_types (row ∷ table) =
+    ap (λ (xs : List Tree). row.1.function.body ∷ (con_bodies row.1.cons ++ xs)) (same_types table)
+
+mutual
+  same_trees : (env : Env) → bodies env ≡ types_in env
+  same_trees (Env.MakeEnv ss ts vs) = ap₂ (λ (a b : List Tree). a ++ b) (same_structures ss)
+      (ap₂ (λ (a b : List Tree). a ++ b) (same_types ts) (same_values vs))
+
+  same_structures : (ss : Structures) → structure_bodies ss ≡ types_in_structures ss
+  same_structures Structures.Nil = refl
+  same_structures (Structures.Cons name env rest) =
+      ap₂ (λ (a b : List Tree). a ++ b) (same_trees env) (same_structures rest)
+
+pub env_large : (g : Graph) (env : EnvId) (s : Substitution) (f : Facts) → f ≡ facts_of (types_in (env_at g env))
+    → IsClosedEnv g env → ltb 65536 f.largest ≡ any_large s (bodies (env_at g env))
+env_large g env s f e h =
+    ap (λ (x : Facts). ltb 65536 x.largest) e
+    ∙ facts_large s (types_in (env_at g env)) h.closed
+    ∙ ap (any_large s) (sym (same_trees (env_at g env)))
+
+structures_flagged : (s : Substitution) (table : Named Env)
+    → any_flag (map_rows (λ (e : Env). flag (any_large s (bodies e))) table)
+    ≡ any_large s (structure_bodies (structures_of table))
+structures_flagged s [] = refl
+structures_flagged s (row ∷ table) =
+    ap₂ (λ a b. a || b) (flag_is (any_large s (bodies row.1))) (structures_flagged s table)
+    ∙ sym (list_any-append (is_large_in s) (bodies row.1) (structure_bodies (structures_of table)))
+
+abbrev pub structure_flags : Substitution → Graph → List NamedEnv → Named ℕ
+structure_flags s g entries = map_rows (λ (e : Env). flag (any_large s (bodies e))) (structure_rows g entries)
+
+pub closed_next : (g : Graph) (items entries : List NamedEnv) (i : ℕ) (x : NamedEnv) → items ≡ entries
+    → i < length items → x ≡ get_or items i x → AreClosedEnvs g (drop i entries)
+    → IsClosedEnv g x.env × AreClosedEnvs g (drop (i + 1) entries)
+closed_next g items entries i x e h k all =
+    subst (AreClosedEnvs g) (subst (λ ys. drop i ys ≡ x ∷ drop (i + 1) ys) e
+    (drop_next i items x h ∙ ap (λ y. y ∷ drop (i + 1) items) (sym k))) all
+
+pub structure_noted : (s : Substitution) (g : Graph) (items entries : List NamedEnv) (i : ℕ) (x : NamedEnv)
+    (rows new : Named ℕ) (large : Bool) → items ≡ entries → i < length items → x ≡ get_or items i x
+    → large ≡ any_large s (bodies (env_at g x.env)) → new ≡ with_entry x.name (flag large) rows
+    → with_all (structure_flags s g (drop i entries)) rows ≡ with_all (structure_flags s g entries) []
+    → with_all (structure_flags s g (drop (i + 1) entries)) new ≡ with_all (structure_flags s g entries) []
+structure_noted s g items entries i x rows new large e h k l n inv =
+    let is : drop i entries ≡ x ∷ drop (i + 1) entries = subst (λ ys. drop i ys ≡ x ∷ drop (i + 1) ys) e
+    (drop_next i items x h ∙ ap (λ y. y ∷ drop (i + 1) items) (sym k)) in
+    ap (with_all (structure_flags s g (drop (i + 1) entries))) (n ∙ ap (λ b. with_entry x.name (flag b) rows) l)
+    ∙ ap (λ xs. with_all (structure_flags s g xs) rows) (sym is)
+    ∙ inv
+
+pub all_structures : (s : Substitution) (g : Graph) (items entries : List NamedEnv) (i : ℕ) (rows : Named ℕ) (b : Bool)
+    → items ≡ entries → length items ≤ i
+    → with_all (structure_flags s g (drop i entries)) rows ≡ with_all (structure_flags s g entries) []
+    → b ≡ any_flag rows
+    → b ≡ any_large s (structure_bodies (structures_of (with_all (structure_rows g entries) [])))
+all_structures s g items entries i rows b e h inv k =
+    let end : drop i entries ≡ [] = subst (λ ys. drop i ys ≡ []) e (drop_past i items h) in
+    k
+    ∙ ap any_flag (ap (λ xs. with_all (structure_flags s g xs) rows) (sym end) ∙ inv
+    ∙ all_map (λ (x : Env). flag (any_large s (bodies x))) (structure_rows g entries) [])
+    ∙ structures_flagged s (with_all (structure_rows g entries) [])
+
 -- ---- the whole
 
-made_large : (g : Graph) (s : Substitution) (made : Made OwnVariable) → made.structures ≡ []
-    → has_too_large s (env_of_made g own_entry made)
-    ≡ (any_large s (type_bodies (with_all (type_rows made.types) []))
-    || any_large s (value_bodies (with_all (value_rows own_entry made.values) [])))
-made_large g s made e =
-    ap (λ es. has_too_large s (env_of (with_all (structure_rows g es) []) (with_all (type_rows made.types) [])
-    (with_all (value_rows own_entry made.values) []))) e
-    ∙ list_any-append (is_large_in s) (type_bodies (with_all (type_rows made.types) []))
-    (value_bodies (with_all (value_rows own_entry made.values) []))
+abbrev pub structures_of_made : Graph → Made OwnVariable → List Tree
+structures_of_made g made = structure_bodies (structures_of (with_all (structure_rows g made.structures) []))
 
-pub made_sized : (g : Graph) (at : At) (made : Made OwnVariable) (st : Progress) (a b : Bool) → made.structures ≡ []
-    → a ≡ any_large st.types.stands (type_bodies (with_all (type_rows made.types) [])) → a ≡ false
-    → b ≡ any_large st.types.stands (value_bodies (with_all (value_rows own_entry made.values) [])) → b ≡ false
+abbrev pub types_of_made : Made OwnVariable → List Tree
+types_of_made made = type_bodies (with_all (type_rows made.types) [])
+
+abbrev pub values_of_made : Made OwnVariable → List Tree
+values_of_made made = value_bodies (with_all (value_rows own_entry made.values) [])
+
+made_large : (g : Graph) (s : Substitution) (made : Made OwnVariable)
+    → has_too_large s (env_of_made g own_entry made)
+    ≡ (any_large s (structures_of_made g made) || (any_large s (types_of_made made) || any_large s (values_of_made made)))
+made_large g s made =
+    list_any-append (is_large_in s) (structures_of_made g made) (types_of_made made ++ values_of_made made)
+    ∙ ap (λ b. any_large s (structures_of_made g made) || b)
+    (list_any-append (is_large_in s) (types_of_made made) (values_of_made made))
+
+pub made_sized : (g : Graph) (at : At) (made : Made OwnVariable) (st : Progress) (a b c : Bool)
+    → a ≡ any_large st.types.stands (structures_of_made g made) → a ≡ false
+    → b ≡ any_large st.types.stands (types_of_made made) → b ≡ false
+    → c ≡ any_large st.types.stands (values_of_made made) → c ≡ false
     → sized_dec (home_scope g) at (env_of_made g own_entry made, st) ≡ gives (env_of_made g own_entry made, st)
-made_sized g at made st a b e h k l m =
-    ap (λ c. refuses_where c 38 (home_scope g) at >>= λ u. gives (env_of_made g own_entry made, st))
-    (made_large g st.types.stands made e ∙ ap₂ (λ x y. x || y) (sym h ∙ k) (sym l ∙ m))
+made_sized g at made st a b c h i j k l m =
+    ap (λ d. refuses_where d 38 (home_scope g) at >>= λ u. gives (env_of_made g own_entry made, st))
+    (made_large g st.types.stands made
+    ∙ ap₂ (λ x y. x || y) (sym h ∙ i) (ap₂ (λ x y. x || y) (sym j ∙ k) (sym l ∙ m)))
 
 pub made_refused : {R : Type 0} (g : Graph) (at : At) (made : Made OwnVariable) (st : Progress)
-    (read : R → Env × Progress) (e : Fault) → made.structures ≡ []
-    → (any_large st.types.stands (type_bodies (with_all (type_rows made.types) []))
-    || any_large st.types.stands (value_bodies (with_all (value_rows own_entry made.values) []))) ≡ true
+    (read : R → Env × Progress) (e : Fault)
+    → (any_large st.types.stands (structures_of_made g made)
+    || (any_large st.types.stands (types_of_made made) || any_large st.types.stands (values_of_made made))) ≡ true
     → Refuses g 38 at [] e → Answers (sized_dec (home_scope g) at (env_of_made g own_entry made, st)) read (Err e)
-made_refused g at made st read e none h f =
+made_refused g at made st read e h f =
     subst (λ (w : Answer (Env × Progress)). Answers w read (Err e))
     (sym (ap (λ c. refuses_where c 38 (home_scope g) at >>= λ u. gives (env_of_made g own_entry made, st))
-    (made_large g st.types.stands made none ∙ h)))
+    (made_large g st.types.stands made ∙ h)))
     (refused g (home_scope g) 38 at [] read e refl f)

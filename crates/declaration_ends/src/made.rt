@@ -3,13 +3,16 @@
 ghost use Rattle.std.specs.Prelude.{◌≡◌, [], eqb, IfOk, OnOk};
 ghost use Rattle.std.specs.List.{list_any};
 ghost use Rattle.semantic_objects.specs.Tables.{with_entry, with_all};
-ghost use Rattle.sml_modules.specs.Graphs.{type_rows};
+ghost use Rattle.semantic_objects.specs.Environments.{structures_of};
+ghost use Rattle.unification.specs.Types.{Substitution};
+ghost use Rattle.sml_modules.specs.Graphs.{env_at, structure_rows, type_rows};
 ghost use Rattle.type_nodes.specs.Tables.{state};
-ghost use Rattle.static_semantics.specs.Inferring.{type_bodies, value_bodies, sized_dec};
+ghost use Rattle.static_semantics.specs.Inferring.{bodies, structure_bodies, type_bodies, value_bodies, sized_dec};
 ghost use Rattle.core_scopes.specs.Scopes.{entry_of};
 ghost use Rattle.core_scopes.specs.Marks.{env_of_made, value_rows};
 ghost use Rattle.type_phrases.specs.Inferred.{Answers, home_scope, progress};
 ghost use Rattle.pattern_elab.specs.Scopes.{own_entry};
+ghost use Rattle.declaration_ends.specs.Closed.{IsClosedEnv, AreClosedEnvs};
 ghost use Rattle.declaration_ends.specs.Sizes.{any_large, large_type, large_value, flag, any_flag};
 
 use crate::sizes::is_large;
@@ -18,7 +21,7 @@ use core_scopes::{Made, NamedInScope, ValueInScope};
 use env_parts::Rows;
 use pattern_elab::{OwnVariable, refuse};
 use semantic_objects::{TyId, TypeStr};
-use sml_modules::{EnvGraph, NamedType};
+use sml_modules::{EnvGraph, EnvId, NamedEnv, NamedType};
 use sml_trees::At;
 use sml_types::TypeTable;
 use std::alloc::Global;
@@ -144,9 +147,34 @@ fn any_type_large(
     any_noted(alloc, &rows)
 }
 
-/// The end of a declaration that made types and values and no structures: 38 at its place where a type of what it made
-/// has more than 65,536 nodes as it is known now. Of two of one name the later counts. The table is as it was. Each tree
-/// is gone through once, and not above the limit.
+/// Whether a type in an environment without variables of the table is too large. Nothing is gone through.
+fn is_large_env(g: &EnvGraph, env: EnvId) -> bool
+    requires { IsClosedEnv g.now env }
+    ensures { (s : Substitution) → result ≡ any_large s (bodies (env_at g.now env)) }
+{
+    g.facts(env).largest > 65_536
+}
+
+/// Whether a type in the structures is too large that stand under their names at last.
+fn any_structure_large(
+    alloc: Global,
+    g: &EnvGraph,
+    structures: &List<NamedEnv>,
+) -> Result<bool, NoMemory>
+    requires { AreClosedEnvs g.now structures.now }
+    ensures { IfOk result (λ large. (s : Substitution) → large
+        ≡ any_large s (structure_bodies (structures_of (with_all (structure_rows g.now structures.now) [])))) }
+{
+    let mut rows = Rows::new(alloc);
+    for named in structures.as_slice() {
+        note(&mut rows, &named.name, is_large_env(g, named.env))?;
+    }
+    any_noted(alloc, &rows)
+}
+
+/// The end of a declaration: 38 at its place where a type of what it made has more than 65,536 nodes as it is known now.
+/// Of two of one name the later counts. In the structures that it made stands no variable of a table; `facts` of the
+/// graph tells it. The table is as it was. Each tree is gone through once and not above the limit, and no structure is.
 pub fn sized_made(
     alloc: Global,
     g: &EnvGraph,
@@ -154,12 +182,16 @@ pub fn sized_made(
     at: At,
     made: &Made<OwnVariable>,
 ) -> Result<(), Fault>
-    requires { made.now.structures ≡ [] }
+    requires { AreClosedEnvs g.now made.now.structures }
     ensures answer { Answers
         (sized_dec (home_scope g.now) at (env_of_made g.now own_entry made.now, progress t.old g.now))
         (λ (done : Unit {0}). (env_of_made g.now own_entry made.now, progress t.old g.now)) result }
     ensures same { t.new ≡ t.old }
 {
+    let large = any_structure_large(alloc, g, &made.structures)?;
+    if large {
+        return Err(refuse(alloc, g, 38, at));
+    }
     let large = any_type_large(alloc, t, &made.types)?;
     if large {
         return Err(refuse(alloc, g, 38, at));
