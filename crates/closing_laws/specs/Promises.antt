@@ -8,9 +8,10 @@ use Rattle.unification.specs.Unification.{IsSettled}
 use Rattle.unification.specs.Closing.{kept_since}
 use Rattle.bare_phrases.specs.Phrases.{TyPhrase, PatPhrase, ExpPhrase, Rules, DecPhrase}
 use Rattle.static_semantics.specs.Inferring.{Progress, Scope, gives, Bound, under, under_bound, with_written, unify_at}
+use Rattle.static_semantics.specs.Nonexpansive.{is_nonexpansive}
 use Rattle.static_semantics.specs.TypeInference.{infer_ty, as_written}
-use Rattle.static_semantics.specs.PatternInference.{infer_pat}
-use Rattle.static_semantics.specs.CoreInference.{Group, RecPats, own_variables, rec_bound, rec_groups, infer_binds, infer_rec_pats, infer_rec_exps, infer_exp, infer_match, infer_dec}
+use Rattle.static_semantics.specs.PatternInference.{pat_at, infer_pat}
+use Rattle.static_semantics.specs.CoreInference.{Group, RecPats, added, own_variables, rec_bound, rec_groups, infer_binds, infer_rec_pats, infer_rec_exps, infer_exp, infer_match, infer_dec}
 use Rattle.static_semantics.specs.RuleConditions.{are_distinct, groups_bound}
 use Rattle.static_semantics.specs.ByAge.{val_by_age}
 use Rattle.static_semantics.specs.Holding.{Given, AllRows}
@@ -111,3 +112,37 @@ pub record GoesBySteps (depth : ℕ) (sc : Scope) (tyvars : List Name) (rules re
 abbrev pub ValuesGoBySteps : Type 0
 ValuesGoBySteps = (depth : ℕ) (sc : Scope) (tyvars : List Name) (rules recs : Rules) (at : At) (st : Progress)
     → GoesBySteps depth sc tyvars rules recs at st
+
+-- ---- one binding after another
+
+-- plain bindings go one by one: pattern, expression, and the one with the other; so do the expressions of `rec`
+-- bindings behind their patterns
+pub record GoesByBindings (depth : ℕ) (sc : Scope) (pat : PatPhrase) (exp : ExpPhrase) (rest : Rules) : Type 0 where
+  pub pat_fails : (bound : Bound) (groups : List Group) (st : Progress) (d : Diag)
+      → infer_pat depth sc pat bound st ≡ Some (Err d)
+      → infer_binds depth sc (Rules.Rule pat exp rest) bound groups st ≡ Some (Err d)
+  pub exp_fails : (bound : Bound) (groups : List Group) (st : Progress) (p : Ty × Bound × Progress) (d : Diag)
+      → infer_pat depth sc pat bound st ≡ gives p → infer_exp depth sc exp p.2 ≡ Some (Err d)
+      → infer_binds depth sc (Rules.Rule pat exp rest) bound groups st ≡ Some (Err d)
+  pub both_fail : (bound : Bound) (groups : List Group) (st : Progress) (p : Ty × Bound × Progress) (e : Ty × Progress)
+      (d : Diag) → infer_pat depth sc pat bound st ≡ gives p → infer_exp depth sc exp p.2 ≡ gives e
+      → unify_at depth sc (pat_at pat) p.0 e.0 e.1 ≡ Some (Err d)
+      → infer_binds depth sc (Rules.Rule pat exp rest) bound groups st ≡ Some (Err d)
+  pub goes_on : (bound : Bound) (groups : List Group) (st : Progress) (p : Ty × Bound × Progress) (e : Ty × Progress)
+      (u : Progress) → infer_pat depth sc pat bound st ≡ gives p → infer_exp depth sc exp p.2 ≡ gives e
+      → unify_at depth sc (pat_at pat) p.0 e.0 e.1 ≡ gives u
+      → infer_binds depth sc (Rules.Rule pat exp rest) bound groups st
+      ≡ infer_binds depth sc rest p.1 (groups ++ (is_nonexpansive sc.env exp, added bound p.1) ∷ []) u
+  pub rec_fails : (row : Ty × Bound) (rows : RecPats) (st : Progress) (d : Diag)
+      → infer_exp depth sc exp st ≡ Some (Err d)
+      → infer_rec_exps depth sc (Rules.Rule pat exp rest) (row ∷ rows) st ≡ Some (Err d)
+  pub rec_both_fail : (row : Ty × Bound) (rows : RecPats) (st : Progress) (e : Ty × Progress) (d : Diag)
+      → infer_exp depth sc exp st ≡ gives e → unify_at depth sc (pat_at pat) row.0 e.0 e.1 ≡ Some (Err d)
+      → infer_rec_exps depth sc (Rules.Rule pat exp rest) (row ∷ rows) st ≡ Some (Err d)
+  pub rec_goes_on : (row : Ty × Bound) (rows : RecPats) (st : Progress) (e : Ty × Progress) (u : Progress)
+      → infer_exp depth sc exp st ≡ gives e → unify_at depth sc (pat_at pat) row.0 e.0 e.1 ≡ gives u
+      → infer_rec_exps depth sc (Rules.Rule pat exp rest) (row ∷ rows) st ≡ infer_rec_exps depth sc rest rows u
+
+abbrev pub BindingsGoOneByOne : Type 0
+BindingsGoOneByOne = (depth : ℕ) (sc : Scope) (pat : PatPhrase) (exp : ExpPhrase) (rest : Rules)
+    → GoesByBindings depth sc pat exp rest

@@ -1,6 +1,7 @@
 //! The laws, so that crates above have them from a call.
 
 ghost use Rattle.closing_laws.specs.Promises.{StaysOfState, BindsNamesOnce, EndsByVariables, ValuesGoBySteps};
+ghost use Rattle.closing_laws.specs.Promises.{BindingsGoOneByOne};
 
 /// Everything that is in scope stays of the state, so that each `val` may be closed by age.
 #[tactic(auto, using(crate::proofs::Promised::stays_of_state))]
@@ -24,4 +25,10 @@ pub fn values_end_by_variables()
 #[tactic(auto, using(crate::proofs::ValSteps::values_go_by_steps))]
 pub fn values_go_by_steps()
     ensures { ValuesGoBySteps }
+{}
+
+/// The bindings of a `val` go one by one.
+#[tactic(auto, using(crate::proofs::ValSteps::bindings_go_one_by_one))]
+pub fn bindings_go_one_by_one()
+    ensures { BindingsGoOneByOne }
 {}

@@ -5,6 +5,6 @@
 mod laws;
 
 pub use laws::{
-    states_hold_their_scopes, values_end_by_variables, values_go_by_steps,
+    bindings_go_one_by_one, states_hold_their_scopes, values_end_by_variables, values_go_by_steps,
     variables_have_names_of_their_own,
 };

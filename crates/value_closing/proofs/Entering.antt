@@ -6,7 +6,8 @@ use Rattle.std.specs.Cmp.Lexicographic.{nat_list_eq_equiv, same_text as same_byt
 use Rattle.cm_base.specs.declared.fault.Fault.{Fault}
 use Rattle.sml_trees.specs.declared.name.Name.{Name}
 use Rattle.semantic_objects.specs.declared.name.TyId.{TyId}
-use Rattle.semantic_objects.specs.Environments.{Env}
+use Rattle.semantic_objects.specs.declared.entry.ValueEntry.{ValueEntry}
+use Rattle.semantic_objects.specs.Environments.{Env, modified_by}
 use Rattle.semantic_objects.specs.Symbols.{same_text}
 use Rattle.semantic_objects.proofs.Same.{text_is, text_same}
 use Rattle.unification.specs.Types.{Ty, State}
@@ -30,6 +31,7 @@ use Rattle.type_phrases.proofs.Steps.{failed}
 use Rattle.type_bindings.specs.Listing.{AreMade}
 use Rattle.pattern_elab.specs.declared.own.OwnVariable.{OwnVariable}
 use Rattle.pattern_elab.specs.Scopes.{own_entry, variable_of, scope_of, AreVariables}
+use Rattle.value_closing.specs.Under.{IsUnder}
 use Rattle.value_closing.specs.OwnVariables.{id_rows, AddsImplicit, EntersOwn}
 
 -- ---- whether a variable is in scope
@@ -187,6 +189,21 @@ entered g own rows old new e b =
             (both_variables t (id_rows own) (written_of old) (own_variables_are t own h) k.written);
       };
     }
+
+-- ---- what a declaration makes
+
+pub entered_made : (g : Graph) (env : Env) (old new : Bindings OwnVariable) (made : (OwnVariable → ValueEntry) → Env)
+    → made own_entry ≡ env
+    → Becomes g old new (λ read. modified_by (seen g read old) (made read)) (written_of old) → IsUnder g env old new
+entered_made g env old new made e b = record {
+  seen = ap₂ (λ (z : Env) (w : Rows TyId). record { env = z; written = map_rows variable_of w; home = g.home })
+      (b.seen own_entry ∙ ap (modified_by (seen g own_entry old)) e) b.written;
+  front = b.front;
+  there = λ t k. record {
+    there = b.there k.there;
+    written = subst (AreVariables t) (sym b.written) k.written;
+  };
+}
 
 -- ---- all together
 

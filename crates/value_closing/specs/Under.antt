@@ -1,0 +1,16 @@
+-- Scopes that what a declaration makes was entered into. The Definition of Standard ML (Revised), sections 4.2 and 4.3.
+use Rattle.std.specs.Prelude.{◌≡◌}
+use Rattle.semantic_objects.specs.Environments.{Env}
+use Rattle.type_nodes.specs.Tables.{Table}
+use Rattle.sml_modules.specs.Graphs.{Graph}
+use Rattle.static_semantics.specs.Inferring.{under}
+use Rattle.core_scopes.specs.Scopes.{Bindings}
+use Rattle.core_scopes.specs.Marks.{IsFrontOf}
+use Rattle.pattern_elab.specs.declared.own.OwnVariable.{OwnVariable}
+use Rattle.pattern_elab.specs.Scopes.{scope_of, IsCoreScope}
+
+-- what is in scope is what was, under what was made; marks of the scope before stay good
+pub record IsUnder (g : Graph) (made : Env) (old new : Bindings OwnVariable) : Type 0 where
+  pub seen : scope_of g new ≡ under made (scope_of g old)
+  pub front : IsFrontOf old new
+  pub there : (t : Table) → IsCoreScope g t old → IsCoreScope g t new
