@@ -1,0 +1,6 @@
+pub mod Adding
+pub mod Ending
+pub mod Groups
+pub mod Making
+pub mod MemberSteps
+pub mod Whole

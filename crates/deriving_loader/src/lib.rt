@@ -1,0 +1,10 @@
+//! The loader of projects whose members may be of tools' classes: their sources are derived as the project is loaded.
+#![tactic(auto)]
+
+mod descent;
+mod fault;
+mod members;
+mod project;
+
+pub use fault::LoadingFault;
+pub use project::load;
