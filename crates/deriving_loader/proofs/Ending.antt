@@ -392,3 +392,8 @@ steps_as r old new one two same loads = record {
   steps = λ origin work here.
       subst (λ step. StepsTo origin step r (world_in new)) (same origin work here) (loads.steps origin work here);
 }
+
+-- the same answer, said of what it became
+pub value_is : {A : Type 0} (one two : A) (old new : Scene) (step : Origin → Work → Outcome A) → two ≡ one
+    → Loads (Ok one) old new step → Loads (Ok two) old new step
+value_is {A} one two old new step same loads = subst (λ (value : A). Loads (Ok value) old new step) (sym same) loads

@@ -105,7 +105,7 @@ module _ (defs : List Def) (anchors : Bindings) (root : List ℕ) where
           (after_name (Err (of_plain e)) (scene_of holds before tools) (scene_of after now tools)
           (stops_with (of_plain e) (scene_of holds before tools) (scene_of after now tools) reading then_described
           (reads holds after before now tools description_from same (Err e) cause told)
-          (λ origin d work. described_adds (in_setting defs anchors origin) (enter_in defs anchors 513 origin)
+          (λ origin d work. described_adds (in_setting defs anchors origin) (enter_in defs anchors 513 name d p origin)
           (levels_add (in_setting defs anchors origin) 513) name d p work)))
 
       module _ (d : Description) (later : before ≤ now) (found : Told holds (λ files. description_from files ≡ Ok d)) where

@@ -1,11 +1,10 @@
-use Rattle.std.proofs.Common.{◌≡◌, ◌∙◌, Ok, Err, sym, subst}
-use Rattle.std.specs.FinMap.{get}
-use Rattle.path_anchors.specs.Names.{folder_path_of}
+use Rattle.std.proofs.Common.{Ok, sym, subst}
 use Rattle.project_checks.specs.Whole.{Descends, IsWhole}
 use Rattle.project_checks.specs.declared.progress.Progress.{Progress}
 use Rattle.project_checks.proofs.Sounding.{whole_from}
-use Rattle.project_loading.specs.Projects.{described_by}
-use Rattle.deriving_loader.specs.Answers.{answer}
+use Rattle.tool_loading.specs.Projects.{reached_from}
+use Rattle.deriving_loader.specs.Loading.{setting_at}
+use Rattle.deriving_loader.proofs.Ending.{value_is}
 use Rattle.deriving_loader.proofs.Whole.{described_so, description_stops, members_stop, name_stops, place_stops}
 use Rattle.deriving_loader.proofs.project.load_root.Goals as goal
 
@@ -38,7 +37,9 @@ returns-in_err-load_described-clause-loads g c =
 
 pub returns-clause-loads : goal.returns-clause-loads
 returns-clause-loads g c =
-    subst (λ (p : Progress). _) (sym c.into_progress.ensures)
+    value_is c.load_described.new.loader.progress c.into_progress.result _ _
+    (λ origin work. reached_from (setting_at origin c.args.context.now.defs.now c.args.context.now.anchors.now)
+    c.args.root.now work) c.into_progress.ensures
     (described_so c.args.context.now.defs.now c.args.context.now.anchors.now c.args.root.now c.in_ok-name.name
     c.in_ok-at.at c.new-loader.result.progress c.in_ok-name.ensures c.in_ok-at.ensures c.new-loader.ensures.nothing
     _ _ _ _ _ c.in_ok-description.ensures.same c.in_ok-description.description
