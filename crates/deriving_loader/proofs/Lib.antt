@@ -1,6 +1,7 @@
 pub mod Adding
 pub mod Ending
 pub mod Groups
+pub mod Headline
 pub mod Making
 pub mod MemberSteps
 pub mod Whole

@@ -45,6 +45,14 @@ left_at items i item lt is = drop-cons items i item lt ∙ ap (λ (m : ℕ). m �
 pub record LeadsBack (now before : Scene) (rest whole : Origin → Work → Outcome Progress) : Type 0 where
   pub back : (r : Result Progress LoadingFault) (new : Scene) → Loads r now new rest → Loads r before new whole
 
+-- the classes and rules of a box
+module _ {A : Type 0} (class_of rule_of : A → List ℕ) (ran_of faults_of : A → ℕ) where
+  pub fused : (tools : List A) → rules_in (states_by class_of rule_of ran_of faults_of tools)
+      ≡ map (λ (tool : A). (class_of tool, rule_of tool)) tools
+  fused [] = refl
+  fused (tool ∷ tools) =
+      ap (λ (rules : List (List ℕ × List ℕ)). (class_of tool, rule_of tool) ∷ rules) (fused tools)
+
 module _ (defs : List Def) (anchors : Bindings) (levels holder : ℕ) (name : List ℕ) where
   abbrev enter_at : Origin → Entering
   enter_at origin = entered_within (in_setting defs anchors origin) levels
@@ -161,12 +169,6 @@ module _ (defs : List Def) (anchors : Bindings) (levels holder : ℕ) (name : Li
     making tool origin work = with_tool_member (in_setting defs anchors origin) holder name member tool p work
 
     module _ {A : Type 0} (class_of rule_of : A → List ℕ) (ran_of faults_of : A → ℕ) (tools : List A) where
-      fused : (tools : List A) → rules_in (states_by class_of rule_of ran_of faults_of tools)
-          ≡ map (λ (tool : A). (class_of tool, rule_of tool)) tools
-      fused [] = refl
-      fused (tool ∷ tools) =
-          ap (λ (rules : List (List ℕ × List ℕ)). (class_of tool, rule_of tool) ∷ rules) (fused tools)
-
       module _ (r : Result Progress LoadingFault) (old new : Scene)
           (box : old.tools ≡ states_by class_of rule_of ran_of faults_of tools) where
         rules_same : (origin : Origin) → map (λ (tool : A). (class_of tool, rule_of tool)) tools ≡ rules_in origin.tools
@@ -178,7 +180,7 @@ module _ (defs : List Def) (anchors : Bindings) (levels holder : ℕ) (name : Li
             → rules_of class_of rule_of tools ≡ rules_at origin
         rules_here origin work here =
             let same : rules_in old.tools ≡ rules_in origin.tools = here.rules in
-            rules_same origin (sym (fused tools) ∙ ap rules_in (sym box) ∙ same)
+            rules_same origin (sym (fused class_of rule_of ran_of faults_of tools) ∙ ap rules_in (sym box) ∙ same)
 
         not_skipped : (found : Option (List ℕ × List ℕ)) → is_skipped anchors member ≡ false
             → tool_of (rules_of class_of rule_of tools) member ≡ found
