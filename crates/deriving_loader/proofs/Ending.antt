@@ -1,5 +1,5 @@
 -- Steps of loading in a row: what the whole of them answers and leaves.
-use Rattle.std.proofs.Common.{◌≡◌, ◌∙◌, ap, sym, subst, refl, inl, inr, ℕ, zero, suc, ◌+◌, ◌≤◌, List, [], ◌∷◌, ◌++◌, append_assoc, Option, Some, Result, Ok, Err, arith}
+use Rattle.std.proofs.Common.{◌≡◌, ◌∙◌, ap, sym, subst, refl, inl, ℕ, zero, suc, ◌+◌, ◌≤◌, List, [], ◌∷◌, ◌++◌, append_assoc, Option, Some, Result, Ok, Err, arith}
 use Rattle.std.specs.Prelude.{IsErrAnd, slice_get}
 use Rattle.cm_base.specs.Causes.{HasCause, Rose, one_more}
 use Rattle.cm_base.specs.Files.{Files, Told}
@@ -17,7 +17,7 @@ use Rattle.group_loader.specs.Answers.{Loads as Reads}
 use Rattle.group_loader.specs.declared.fault.LoadFault.{LoadFault}
 use Rattle.group_loader.specs.declared.fault.LoadFault.TheVariants as plain
 use Rattle.project_checks.specs.declared.progress.Progress.{Progress}
-use Rattle.deriving_loader.specs.Answers.{answer, as_member, as_plain, as_refused, of_plain, of_refusal}
+use Rattle.deriving_loader.specs.Answers.{answer, as_member, as_plain, as_refused}
 use Rattle.deriving_loader.specs.Loading.{Failed, Loads, Refuses, Scene, StepsTo, Tends, scene_of, world_in}
 use Rattle.deriving_loader.specs.declared.fault.LoadingFault.{LoadingFault}
 use Rattle.deriving_loader.specs.declared.fault.LoadingFault.TheVariants as fault

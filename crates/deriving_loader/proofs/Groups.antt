@@ -122,69 +122,69 @@ module _ (defs : List Def) (anchors : Bindings) where
     module _ (items : List ℕ) (number : ℕ) (group : Group) (members : List MemberEntry) (started : Progress)
         (chosen : chosen_items defs [] d.member_lines ≡ Ok items) (number_is : number ≡ length p.groups)
         (group_is : group ≡ begun name d) (members_are : members ≡ d.members) (starts : started ≡ with_begun group p)
-        where
-      -- what the members are loaded as
-      abbrev pub loading : Origin → Work → Outcome Progress
-      loading origin work =
-          with_members (in_setting origin) (enter_in origin) number name
-          (filter_map (λ item. slice_get members item) items) started work
+      where
+        -- what the members are loaded as
+        abbrev pub loading : Origin → Work → Outcome Progress
+        loading origin work =
+            with_members (in_setting origin) (enter_in origin) number name
+            (filter_map (λ item. slice_get members item) items) started work
 
-      abbrev listed : Origin → Work → Outcome Progress
-      listed origin work =
-          with_members (in_setting origin) (enter_in origin) (length p.groups) name (chosen_members d items)
-          (with_begun (begun name d) p) work
+        abbrev listed : Origin → Work → Outcome Progress
+        listed origin work =
+            with_members (in_setting origin) (enter_in origin) (length p.groups) name (chosen_members d items)
+            (with_begun (begun name d) p) work
 
-      abbrev then_ended : Origin → Progress → Work → Outcome Progress
-      then_ended origin more work = outcome work (Ok (with_finished (length p.groups) more))
+        abbrev then_ended : Origin → Progress → Work → Outcome Progress
+        then_ended origin more work = outcome work (Ok (with_finished (length p.groups) more))
 
-      loading_is : (origin : Origin) (work : Work) → loading origin work ≡ listed origin work
-      loading_is origin work =
-          ap (λ (n : ℕ). with_members (in_setting origin) (enter_in origin) n name
-          (filter_map (λ item. slice_get members item) items) started work) number_is
-          ∙ ap (λ (ms : List MemberEntry). with_members (in_setting origin) (enter_in origin) (length p.groups) name
-          (filter_map (λ item. slice_get ms item) items) started work) members_are
-          ∙ ap (λ (q : Progress). with_members (in_setting origin) (enter_in origin) (length p.groups) name
-          (chosen_members d items) q work) (starts ∙ ap (λ (g : Group). with_begun g p) group_is)
+        loading_is : (origin : Origin) (work : Work) → loading origin work ≡ listed origin work
+        loading_is origin work =
+            ap (λ (n : ℕ). with_members (in_setting origin) (enter_in origin) n name
+            (filter_map (λ item. slice_get members item) items) started work) number_is
+            ∙ ap (λ (ms : List MemberEntry). with_members (in_setting origin) (enter_in origin) (length p.groups) name
+            (filter_map (λ item. slice_get ms item) items) started work) members_are
+            ∙ ap (λ (q : Progress). with_members (in_setting origin) (enter_in origin) (length p.groups) name
+            (chosen_members d items) q work) (starts ∙ ap (λ (g : Group). with_begun g p) group_is)
 
-      after_choice : (r : Result Progress LoadingFault) (old new : Scene) → Loads r old new (λ origin. then_chosen origin items)
-          → Loads r old new describing
-      after_choice r old new rest =
-          goes items r old old new (λ origin work. outcome work (chosen_items defs [] d.member_lines)) then_chosen
-          (gives_at items old (chosen_items defs [] d.member_lines) chosen) rest
+        after_choice : (r : Result Progress LoadingFault) (old new : Scene) → Loads r old new (λ origin. then_chosen origin items)
+            → Loads r old new describing
+        after_choice r old new rest =
+            goes items r old old new (λ origin work. outcome work (chosen_items defs [] d.member_lines)) then_chosen
+            (gives_at items old (chosen_items defs [] d.member_lines) chosen) rest
 
-      pub members_stop : (r : Result (Unit {0}) LoadingFault) (e : LoadingFault) (now : Progress) (old new : Scene)
-          → IsErrAnd r (λ y. y ≡ e) → Loads {A = Progress} (Err e) old new loading
-          → Loads (answer r now) old new describing
-      members_stop r e now old new is stopped =
-          answered r e now old new describing is
-          (after_choice (Err e) old new
-          (stops_with e old new listed then_ended
-          (steps_as {A = Progress} (Err e) old new loading listed (λ origin work here. loading_is origin work) stopped)
-          (λ origin more work. adds_none work)))
+        pub members_stop : (r : Result (Unit {0}) LoadingFault) (e : LoadingFault) (now : Progress) (old new : Scene)
+            → IsErrAnd r (λ y. y ≡ e) → Loads {A = Progress} (Err e) old new loading
+            → Loads (answer r now) old new describing
+        members_stop r e now old new is stopped =
+            answered r e now old new describing is
+            (after_choice (Err e) old new
+            (stops_with e old new listed then_ended
+            (steps_as {A = Progress} (Err e) old new loading listed (λ origin work here. loading_is origin work) stopped)
+            (λ origin more work. adds_none work)))
 
-      -- all are loaded, and the rest ends so
-      members_then : (mid : Progress) (r : Result Progress LoadingFault) (old new : Scene) → Loads (Ok mid) old new loading
-          → Loads r new new (λ origin. then_ended origin mid) → Loads r old new describing
-      members_then mid r old new loaded rest =
-          after_choice r old new
-          (goes mid r old new new listed then_ended
-          (steps_as (Ok mid) old new loading listed (λ origin work here. loading_is origin work) loaded) rest)
+        -- all are loaded, and the rest ends so
+        members_then : (mid : Progress) (r : Result Progress LoadingFault) (old new : Scene) → Loads (Ok mid) old new loading
+            → Loads r new new (λ origin. then_ended origin mid) → Loads r old new describing
+        members_then mid r old new loaded rest =
+            after_choice r old new
+            (goes mid r old new new listed then_ended
+            (steps_as (Ok mid) old new loading listed (λ origin work here. loading_is origin work) loaded) rest)
 
-      pub end_stops : (r : Result (Unit {0}) LoadingFault) (mid now : Progress) (old new : Scene)
-          → IsErrAnd r (λ y. y ≡ fault.NoMemory) → Loads (Ok mid) old new loading
-          → Loads (answer r now) old new describing
-      end_stops r mid now old new is loaded =
-          answered r fault.NoMemory now old new describing is
-          (members_then mid (Err fault.NoMemory) old new loaded
-          (wants new (λ origin. then_ended origin mid) (λ origin work. adds_none work)))
+        pub end_stops : (r : Result (Unit {0}) LoadingFault) (mid now : Progress) (old new : Scene)
+            → IsErrAnd r (λ y. y ≡ fault.NoMemory) → Loads (Ok mid) old new loading
+            → Loads (answer r now) old new describing
+        end_stops r mid now old new is loaded =
+            answered r fault.NoMemory now old new describing is
+            (members_then mid (Err fault.NoMemory) old new loaded
+            (wants new (λ origin. then_ended origin mid) (λ origin work. adds_none work)))
 
-      pub members_done : (mid now : Progress) (old new : Scene) → Loads (Ok mid) old new loading
-          → now ≡ with_finished number mid → Loads (Ok now) old new describing
-      members_done mid now old new loaded ends =
-          let same : ◌≡◌ {A = Result Progress Diag} (Ok (with_finished (length p.groups) mid)) (Ok now) =
-          ap Ok (ap (λ (n : ℕ). with_finished n mid) (sym number_is) ∙ sym ends) in
-          members_then mid (Ok now) old new loaded
-          (gives_at now new (Ok (with_finished (length p.groups) mid)) same)
+        pub members_done : (mid now : Progress) (old new : Scene) → Loads (Ok mid) old new loading
+            → now ≡ with_finished number mid → Loads (Ok now) old new describing
+        members_done mid now old new loaded ends =
+            let same : ◌≡◌ {A = Result Progress Diag} (Ok (with_finished (length p.groups) mid)) (Ok now) =
+            ap Ok (ap (λ (n : ℕ). with_finished n mid) (sym number_is) ∙ sym ends) in
+            members_then mid (Ok now) old new loaded
+            (gives_at now new (Ok (with_finished (length p.groups) mid)) same)
 
   -- ---- a group that is a member
 

@@ -1,10 +1,10 @@
 -- What a whole loading says of the files at entry and of the tools as they were.
 use Rattle.std.proofs.Common.{◌≡◌, ◌∙◌, ◌⊎◌, ap, sym, subst, refl, inl, inr, ℕ, List, [], ◌∷◌, ◌++◌, map, Bool, true, false, cond, Option, Some, Result, Ok, Err}
 use Rattle.std.specs.Prelude.{filter, not}
-use Rattle.cm_base.specs.Files.{Files, told}
+use Rattle.cm_base.specs.Files.{Files}
 use Rattle.cm_base.specs.Keeping.{Keeps, Touches}
 use Rattle.cm_base.specs.declared.record.Def.{Def}
-use Rattle.cm_base.proofs.KeepingLemmas.{keeps_same, keeps_then, keeps_touches, keeps_wider, touches_written}
+use Rattle.cm_base.proofs.KeepingLemmas.{keeps_same, keeps_then, keeps_touches, touches_written}
 use Rattle.bin_formats.specs.Format.{record_file}
 use Rattle.bin_store.specs.Paths.{tool_path}
 use Rattle.cm_description.specs.declared.loaded.Project.{Project}
@@ -13,10 +13,10 @@ use Rattle.tool_deriving.specs.Deriving.{ToolState, ToolUse, after_use, record_o
 use Rattle.tool_deriving.specs.Toolboxes.{is_built_in, rules_of}
 use Rattle.member_deriving.specs.Laws.{HasTrueRecords}
 use Rattle.member_deriving.specs.Uses.{Outcome, Work, after_uses, outcome, work_of}
-use Rattle.box_deriving.specs.Boxes.{CutOff, InStep, Origin, Reached, World, rules_in, world_of}
-use Rattle.tool_loading.specs.Projects.{finished_loading, loaded_over, project_of, reached_by, store_means, tool_uses}
+use Rattle.box_deriving.specs.Boxes.{CutOff, InStep, Origin, Reached, World, world_of}
+use Rattle.tool_loading.specs.Projects.{loaded_over, project_of, tool_uses}
 use Rattle.tool_loading.proofs.Stores.{over_true}
-use Rattle.deriving_loader.specs.Loading.{Loads, Scene, StepsTo, origin_of, rules_at, scene_of, states_by, world_in}
+use Rattle.deriving_loader.specs.Loading.{Loads, StepsTo, origin_of, rules_at, scene_of, states_by}
 use Rattle.deriving_loader.specs.declared.fault.LoadingFault.{LoadingFault}
 use Rattle.deriving_loader.specs.declared.fault.LoadingFault.TheVariants as fault
 use Rattle.deriving_loader.proofs.MemberSteps.{fused}

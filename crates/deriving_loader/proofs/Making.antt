@@ -1,5 +1,5 @@
 -- The steps of loading a member of a tool's class.
-use Rattle.std.proofs.Common.{◌≡◌, ◌∙◌, ap, sym, subst, refl, ℕ, ◌+◌, ◌≤◌, List, length, take, Option, Some, None, Bool, true, false, Result, Ok, Err, if◌then◌else◌}
+use Rattle.std.proofs.Common.{◌≡◌, ◌∙◌, ap, sym, refl, ℕ, ◌+◌, ◌≤◌, List, length, take, Option, Some, None, Bool, true, false, Result, Ok, Err, if◌then◌else◌}
 use Rattle.std.specs.Prelude.{IsErrAnd, nat_lt}
 use Rattle.std.specs.FinMap.{get}
 use Rattle.cm_base.specs.Calls.{Gives}
@@ -29,7 +29,7 @@ use Rattle.member_deriving.specs.Sources.{Texts, source_by, texts_over_stores, u
 use Rattle.member_deriving.specs.Uses.{Outcome, Work, outcome, ◌>>◌}
 use Rattle.box_deriving.specs.Boxes.{Origin}
 use Rattle.tool_loading.specs.Projects.{tool_member_name, tool_of, tool_of_class, with_derived, with_tool_member, with_use_of, without_options}
-use Rattle.deriving_loader.specs.Answers.{answer, as_refused, of_plain, of_refusal}
+use Rattle.deriving_loader.specs.Answers.{answer, of_plain, of_refusal}
 use Rattle.deriving_loader.specs.Loading.{Loads, Scene, scene_of}
 use Rattle.deriving_loader.specs.Makers.{IsMaker}
 use Rattle.deriving_loader.specs.declared.fault.LoadingFault.{LoadingFault}
@@ -149,27 +149,27 @@ module _ (defs : List Def) (anchors : Bindings) (holder : ℕ) (holder_name : Li
             (stops_with e (scene_of after now tools) new sourcing then_added stopped (λ origin source work. adds_none work)))
 
         module _ (source : List ℕ) (new : Scene) (derived : Loads (Ok source) (scene_of after now tools) new sourcing)
-            where
-          after_source : (r : Result Progress LoadingFault)
-              → Loads r new new (λ origin work. outcome work (with_source holder name without_options source p))
-              → Loads r (scene_of holds before tools) new making
-          after_source r loads =
-              after_input r new
-              (goes source r (scene_of after now tools) new new sourcing then_added derived loads)
+          where
+            after_source : (r : Result Progress LoadingFault)
+                → Loads r new new (λ origin work. outcome work (with_source holder name without_options source p))
+                → Loads r (scene_of holds before tools) new making
+            after_source r loads =
+                after_input r new
+                (goes source r (scene_of after now tools) new new sourcing then_added derived loads)
 
-          pub added_stops : (r : Result (Unit {0}) LoadingFault) (e : Fault) (end : Progress)
-              → IsErrAnd r (λ y. y ≡ of_refusal e)
-              → Gives {A = Progress} (Err e) (with_source holder name without_options source p)
-              → Loads (answer r end) (scene_of holds before tools) new making
-          added_stops r e end is gives =
-              answered r (of_refusal e) end (scene_of holds before tools) new making is
-              (after_source (Err (of_refusal e))
-              (computes {A = Progress} (Err e) new (with_source holder name without_options source p) gives))
+            pub added_stops : (r : Result (Unit {0}) LoadingFault) (e : Fault) (end : Progress)
+                → IsErrAnd r (λ y. y ≡ of_refusal e)
+                → Gives {A = Progress} (Err e) (with_source holder name without_options source p)
+                → Loads (answer r end) (scene_of holds before tools) new making
+            added_stops r e end is gives =
+                answered r (of_refusal e) end (scene_of holds before tools) new making is
+                (after_source (Err (of_refusal e))
+                (computes {A = Progress} (Err e) new (with_source holder name without_options source p) gives))
 
-          pub made : (end : Progress) → with_source holder name without_options source p ≡ Ok end
-              → Loads (Ok end) (scene_of holds before tools) new making
-          made end is =
-              after_source (Ok end) (gives_at end new (with_source holder name without_options source p) is)
+            pub made : (end : Progress) → with_source holder name without_options source p ≡ Ok end
+                → Loads (Ok end) (scene_of holds before tools) new making
+            made end is =
+                after_source (Ok end) (gives_at end new (with_source holder name without_options source p) is)
 
 -- the rule of the tool that makes a member
 pub rule_is : {A : Type 0} (class_of rule_of : A → List ℕ) (tools : List A) (member : MemberEntry) (place : ℕ)

@@ -5,7 +5,6 @@ use Rattle.std.specs.List.{filter_map, cons_option}
 use Rattle.std.proofs.lemmas.List.{drop_all}
 use Rattle.cm_base.specs.Calls.{Gives}
 use Rattle.cm_base.specs.Causes.{HasCause}
-use Rattle.cm_base.specs.Diags.{◌>>=◌}
 use Rattle.cm_base.specs.Files.{Files, Told}
 use Rattle.cm_base.specs.declared.diag.Diag.{Diag}
 use Rattle.cm_base.specs.declared.fault.Fault.{Fault}
@@ -25,13 +24,13 @@ use Rattle.group_loader.specs.declared.fault.LoadFault.TheVariants as plain
 use Rattle.tool_deriving.specs.Deriving.{ToolState}
 use Rattle.tool_deriving.specs.Toolboxes.{ToolRules, is_built_in, rules_of}
 use Rattle.member_deriving.specs.Uses.{Outcome, Work, outcome, ◌>>◌}
-use Rattle.box_deriving.specs.Boxes.{InStep, Origin, rules_in, world_of}
+use Rattle.box_deriving.specs.Boxes.{InStep, Origin, rules_in}
 use Rattle.tool_loading.specs.Projects.{Entering, entered_within, tool_of, with_classed, with_member, with_member_of, with_members, with_plain_member, with_tool_member}
 use Rattle.deriving_loader.specs.Answers.{answer, of_plain, of_refusal}
 use Rattle.deriving_loader.specs.Loading.{Loads, Scene, rules_at, scene_of, states_by, world_in}
 use Rattle.deriving_loader.specs.declared.fault.LoadingFault.{LoadingFault}
 use Rattle.deriving_loader.specs.declared.fault.LoadingFault.TheVariants as fault
-use Rattle.deriving_loader.proofs.Adding.{adds_none, classed_adds, levels_add, member_adds, members_add}
+use Rattle.deriving_loader.proofs.Adding.{classed_adds, levels_add, member_adds, members_add}
 use Rattle.deriving_loader.proofs.Ending.{answered, computes, gives_at, goes, reads, steps_as, stops_with, wants}
 use Rattle.deriving_loader.proofs.Groups.{in_setting, meeting}
 
@@ -147,7 +146,7 @@ module _ (defs : List Def) (anchors : Bindings) (levels holder : ℕ) (name : Li
     unless_skipped skipped origin work =
         if skipped then outcome work (Ok p)
         else with_member_of (in_setting defs anchors origin) (enter_at origin) holder name member
-            (tool_of (rules_at origin) member) p work
+        (tool_of (rules_at origin) member) p work
 
     pub skip_stops : (r : Result (Unit {0}) LoadingFault) (now : Progress) (scene : Scene)
         → IsErrAnd r (λ y. y ≡ fault.NoMemory) → Loads (answer r now) scene scene membering

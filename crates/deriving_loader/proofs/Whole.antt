@@ -1,5 +1,5 @@
 -- The steps of loading a whole project.
-use Rattle.std.proofs.Common.{◌≡◌, ◌∙◌, ap, sym, subst, refl, ℕ, ◌≤◌, List, Bool, Option, Some, Result, Ok, Err}
+use Rattle.std.proofs.Common.{◌≡◌, ◌∙◌, ap, refl, ℕ, ◌≤◌, List, Bool, Option, Result, Ok, Err}
 use Rattle.std.specs.Prelude.{IsErrAnd}
 use Rattle.std.specs.FinMap.{get}
 use Rattle.cm_base.specs.Calls.{Gives}
@@ -11,13 +11,12 @@ use Rattle.cm_base.specs.declared.diag.Place.{Place}
 use Rattle.cm_base.specs.declared.fault.Fault.{Fault}
 use Rattle.cm_base.specs.declared.record.Def.{Def}
 use Rattle.path_anchors.specs.Names.{Bindings, folder_path_of}
-use Rattle.path_anchors.specs.Pathconfig.{config_file}
 use Rattle.cm_description.specs.declared.description.Description.{Description}
 use Rattle.cm_description.specs.declared.loaded.Project.{Project}
 use Rattle.project_checks.specs.Checks.{checked}
 use Rattle.project_checks.specs.Loaded.{nothing}
 use Rattle.project_checks.specs.declared.progress.Progress.{Progress}
-use Rattle.project_loading.specs.Projects.{anchors_of, bound_by, command_place, described_by, root_name}
+use Rattle.project_loading.specs.Projects.{anchors_of, command_place, described_by, root_name}
 use Rattle.group_loader.specs.Answers.{Loads as Reads}
 use Rattle.group_loader.specs.declared.fault.LoadFault.{LoadFault}
 use Rattle.group_loader.specs.declared.fault.LoadFault.TheVariants as plain
@@ -25,7 +24,7 @@ use Rattle.tool_deriving.specs.Deriving.{ToolState}
 use Rattle.member_deriving.specs.Uses.{Outcome, Work, goes_on, outcome, ◌>>◌}
 use Rattle.box_deriving.specs.Boxes.{Origin}
 use Rattle.tool_loading.specs.Projects.{Entering, entered, entered_within, finished_loading, reached_by, reached_from, store_means, with_described, with_root}
-use Rattle.deriving_loader.specs.Answers.{as_refused, of_plain, of_refusal}
+use Rattle.deriving_loader.specs.Answers.{of_plain, of_refusal}
 use Rattle.deriving_loader.specs.Loading.{Loads, Scene, rules_at, scene_of, setting_at}
 use Rattle.deriving_loader.specs.declared.fault.LoadingFault.{LoadingFault}
 use Rattle.deriving_loader.specs.declared.fault.LoadingFault.TheVariants as fault
@@ -178,36 +177,36 @@ module _ (defs : List Def) (root : List ℕ) (freezing : Bool) where
         (λ name after. root_adds (in_setting defs anchors origin) name after)))
 
     module _ (anchors : Bindings) (later : before ≤ now) (bound : Told holds (λ files. anchors_of files ≡ Ok anchors))
-        where
-      anchored : (r : Result Progress LoadingFault) (new : Scene)
-          → Loads r (scene_of after now tools) new (reaching defs anchors root)
-          → Loads r (scene_of holds before tools) new reached_all
-      anchored r new loads =
-          goes anchors r (scene_of holds before tools) (scene_of after now tools) new anchoring then_reached
-          (reads holds after before now tools (λ files. anchors_of files) same (Ok anchors)
-          (record { later = later; rose = λ failed. absurd (cc) }) bound)
-          loads
+      where
+        anchored : (r : Result Progress LoadingFault) (new : Scene)
+            → Loads r (scene_of after now tools) new (reaching defs anchors root)
+            → Loads r (scene_of holds before tools) new reached_all
+        anchored r new loads =
+            goes anchors r (scene_of holds before tools) (scene_of after now tools) new anchoring then_reached
+            (reads holds after before now tools (λ files. anchors_of files) same (Ok anchors)
+            (record { later = later; rose = λ failed. absurd (cc) }) bound)
+            loads
 
-      pub groups_stop : (r : Result Project LoadingFault) (e : LoadingFault) (new : Scene) → IsErrAnd r (λ y. y ≡ e)
-          → Loads {A = Progress} (Err e) (scene_of after now tools) new (reaching defs anchors root)
-          → Loads r (scene_of holds before tools) new projecting
-      groups_stop r e new is stopped =
-          reached_stops r e (scene_of holds before tools) new is (anchored (Err e) new stopped)
-
-      module _ (p : Progress) (new : Scene)
-          (loaded : Loads (Ok p) (scene_of after now tools) new (reaching defs anchors root)) where
-        after_groups : (r : Result Project LoadingFault) → Loads r new new (λ origin work. outcome work (checked freezing p))
+        pub groups_stop : (r : Result Project LoadingFault) (e : LoadingFault) (new : Scene) → IsErrAnd r (λ y. y ≡ e)
+            → Loads {A = Progress} (Err e) (scene_of after now tools) new (reaching defs anchors root)
             → Loads r (scene_of holds before tools) new projecting
-        after_groups r loads =
-            after_all r (scene_of holds before tools) new
-            (goes p r (scene_of holds before tools) new new reached_all then_checked (anchored (Ok p) new loaded) loads)
+        groups_stop r e new is stopped =
+            reached_stops r e (scene_of holds before tools) new is (anchored (Err e) new stopped)
 
-        pub checks_stop : (r : Result Project LoadingFault) (e : Fault) → IsErrAnd r (λ y. y ≡ of_refusal e)
-            → Gives {A = Project} (Err e) (checked freezing p) → Loads r (scene_of holds before tools) new projecting
-        checks_stop r e is gives =
-            as_passed r (of_refusal e) (scene_of holds before tools) new projecting is
-            (after_groups (Err (of_refusal e)) (computes {A = Project} (Err e) new (checked freezing p) gives))
+        module _ (p : Progress) (new : Scene)
+            (loaded : Loads (Ok p) (scene_of after now tools) new (reaching defs anchors root)) where
+          after_groups : (r : Result Project LoadingFault) → Loads r new new (λ origin work. outcome work (checked freezing p))
+              → Loads r (scene_of holds before tools) new projecting
+          after_groups r loads =
+              after_all r (scene_of holds before tools) new
+              (goes p r (scene_of holds before tools) new new reached_all then_checked (anchored (Ok p) new loaded) loads)
 
-        pub project_done : (project : Project) → checked freezing p ≡ Ok project
-            → Loads (Ok project) (scene_of holds before tools) new projecting
-        project_done project is = after_groups (Ok project) (gives_at project new (checked freezing p) is)
+          pub checks_stop : (r : Result Project LoadingFault) (e : Fault) → IsErrAnd r (λ y. y ≡ of_refusal e)
+              → Gives {A = Project} (Err e) (checked freezing p) → Loads r (scene_of holds before tools) new projecting
+          checks_stop r e is gives =
+              as_passed r (of_refusal e) (scene_of holds before tools) new projecting is
+              (after_groups (Err (of_refusal e)) (computes {A = Project} (Err e) new (checked freezing p) gives))
+
+          pub project_done : (project : Project) → checked freezing p ≡ Ok project
+              → Loads (Ok project) (scene_of holds before tools) new projecting
+          project_done project is = after_groups (Ok project) (gives_at project new (checked freezing p) is)

@@ -89,7 +89,9 @@ pub(crate) fn load_described<F: Folder, T: Tool>(
     let Opening { group, members } = begun(context.alloc, name.copy()?, description);
     loader.begin(group)?;
     let holder = Holder { number, name };
-    load_members(folder, tools, context, levels, &holder, &members, &chosen, loader)?;
+    load_members(
+        folder, tools, context, levels, &holder, &members, &chosen, loader,
+    )?;
     Ok(loader.finish(number)?)
 }
 
@@ -179,7 +181,16 @@ fn load_plain<F: Folder, T: Tool>(
     let at = &member.at;
     let group = holder.number;
     match found.class {
-        Class::Cm => load_group(folder, tools, context, levels, group, at, &found.name, loader),
+        Class::Cm => load_group(
+            folder,
+            tools,
+            context,
+            levels,
+            group,
+            at,
+            &found.name,
+            loader,
+        ),
         Class::Sml => Ok(load_source(folder, context, group, at, found, loader)?),
     }
 }

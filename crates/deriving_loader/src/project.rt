@@ -44,7 +44,15 @@ fn load_root<F: Folder, T: Tool>(
     let at = command_place(context.alloc)?;
     let mut loader = Loader::new(context.alloc);
     let description = read_group(folder, context, &at, &name, &loader.progress)?;
-    load_described(folder, tools, context, LEVELS, &name, description, &mut loader)?;
+    load_described(
+        folder,
+        tools,
+        context,
+        LEVELS,
+        &name,
+        description,
+        &mut loader,
+    )?;
     Ok(loader.into_progress())
 }
 

@@ -10,7 +10,7 @@ use Rattle.deriving_loader.specs.Answers.{answer, of_plain}
 use Rattle.deriving_loader.specs.Loading.{scene_of, states_by}
 use Rattle.deriving_loader.proofs.Ending.{reads}
 use Rattle.deriving_loader.proofs.Groups.{chosen_stops, end_stops, group_done, group_stops, join_stops, known_done, known_stops, level_goes, level_none, level_stops, members_done, members_stop, open_stops, start_stops}
-use Rattle.deriving_loader.proofs.MemberSteps.{found_group, found_stops, is_made, is_plain, member_loaded, member_passed, member_stops, members_done as list_done, leads_as, skip_stops, skipped, source_done, source_stops}
+use Rattle.deriving_loader.proofs.MemberSteps.{found_stops, is_made, is_plain, member_loaded, member_passed, member_stops, members_done as list_done, leads_as, skip_stops, source_stops}
 use Rattle.deriving_loader.proofs.descent.+descent.Goals.{load_members-in-Some+in_ok-load_member, load_members-in_default}
 use Rattle.deriving_loader.proofs.descent.+descent.Goals as goal
 

@@ -1,4 +1,4 @@
-use Rattle.std.proofs.Common.{◌≡◌, ◌+◌, ◌*◌, drop}
+use Rattle.std.proofs.Common.{◌+◌, ◌*◌, drop}
 use Rattle.group_loader.specs.Loaders.{GoesOn}
 use Rattle.deriving_loader.specs.Loading.{scene_of, states_by}
 use Rattle.deriving_loader.proofs.MemberSteps.{LeadsBack, all_of}

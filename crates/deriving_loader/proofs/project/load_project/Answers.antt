@@ -1,4 +1,3 @@
-use Rattle.std.proofs.Common.{Ok, Err}
 use Rattle.group_loader.proofs.Promises.{is_within, has_sources}
 use Rattle.deriving_loader.proofs.Whole.{anchors_stop, checks_stop, groups_stop, project_done}
 use Rattle.deriving_loader.proofs.project.load_project.Goals as goal
