@@ -200,14 +200,6 @@ as_passed (Ok value) e old new step is loads = absurd is
 as_passed {B} (Err y) e old new step is loads =
     subst (λ (y : LoadingFault). Loads {A = B} (Err y) old new step) (sym is) loads
 
-pub stops : {A B : Type 0} (r : Result B LoadingFault) (e : LoadingFault) (old new : Scene)
-    (step : Origin → Work → Outcome A) (next : Origin → A → Work → Outcome B) → IsErrAnd r (λ y. y ≡ e)
-    → Loads {A = A} (Err e) old new step → ((origin : Origin) → AddsNext (next origin))
-    → Loads r old new (λ origin work. step origin work >> next origin)
-stops r e old new step next is stopped adds =
-    as_passed r e old new (λ origin work. step origin work >> next origin) is
-    (stops_with e old new step next stopped adds)
-
 pub goes : {A B : Type 0} (a : A) (r : Result B LoadingFault) (old mid new : Scene) (step : Origin → Work → Outcome A)
     (next : Origin → A → Work → Outcome B) → Loads (Ok a) old mid step → Loads r mid new (λ origin. next origin a)
     → Loads r old new (λ origin work. step origin work >> next origin)
@@ -235,11 +227,6 @@ wants scene step adds = record {
     cut = cut_here origin work (step origin work).work (world_in scene) here (adds origin work);
   };
 }
-
-pub memory_stops : {A : Type 0} (r : Result A LoadingFault) (scene : Scene) (step : Origin → Work → Outcome A)
-    → IsErrAnd r (λ y. y ≡ fault.NoMemory)
-    → ((origin : Origin) (work : Work) → Adds work.uses (step origin work).work) → Loads r scene scene step
-memory_stops r scene step is adds = as_passed r fault.NoMemory scene scene step is (wants scene step adds)
 
 refuses_at : {A : Type 0} (diag : Diag) (scene : Scene) (m : Result A Diag) → m ≡ Err diag
     → Loads {A = A} (Err (fault.Diag diag)) scene scene (λ origin work. outcome work m)

@@ -1,4 +1,5 @@
 pub mod Adding
+pub mod Counting
 pub mod Ending
 pub mod Groups
 pub mod Headline

@@ -3,6 +3,7 @@
 
 mod descent;
 mod fault;
+pub mod laws;
 mod members;
 mod project;
 
