@@ -99,12 +99,14 @@ module _ (setting : Setting) where
           (λ found after. with_classed setting enter holder member.at found found.class p after)
           (λ found after. classed_adds holder member.at found found.class p after)
 
-      of_adds : (holder : ℕ) (holder_name : List ℕ) (member : MemberEntry) (tool : Option (List ℕ × List ℕ)) (p : Progress)
+      of_adds : (holder : ℕ) (holder_name : List ℕ) (member : MemberEntry) (tool : Option (List ℕ × List ℕ))
+          (p : Progress)
           (work : Work) → Adds work.uses (with_member_of setting enter holder holder_name member tool p work).work
       of_adds holder holder_name member None p work = plain_adds holder holder_name member p work
       of_adds holder holder_name member (Some tool) p work = tool_adds holder holder_name member tool p work
 
-      skipped_adds : (skipped : Bool) (holder : ℕ) (holder_name : List ℕ) (member : MemberEntry) (p : Progress) (work : Work)
+      skipped_adds : (skipped : Bool) (holder : ℕ) (holder_name : List ℕ) (member : MemberEntry) (p : Progress)
+          (work : Work)
           → Adds work.uses (if skipped then outcome work (Ok p)
           else with_member_of setting enter holder holder_name member (tool_of setting.rules member) p work).work
       skipped_adds true holder holder_name member p work = adds_none work
@@ -129,7 +131,8 @@ module _ (setting : Setting) where
           → Adds work.uses (with_chosen setting enter name d p items work).work
       chosen_add name d p items work =
           goes_adds work.uses
-          (with_members setting enter (length p.groups) name (chosen_members d items) (with_begun (begun name d) p) work)
+          (with_members setting enter (length p.groups) name (chosen_members d items)
+          (with_begun (begun name d) p) work)
           (λ more after. outcome after (Ok (with_finished (length p.groups) more)))
           (members_add (length p.groups) name (chosen_members d items) (with_begun (begun name d) p) work)
           (λ more after. adds_none after)
@@ -152,7 +155,8 @@ module _ (setting : Setting) where
       → Adds work.uses (entered_within setting levels at name p work).work
   unfolding entered_within
   levels_add zero at name p work = adds_none work
-  levels_add (suc levels) at name p work = entered_adds (entered_within setting levels) (levels_add levels) at name p work
+  levels_add (suc levels) at name p work =
+      entered_adds (entered_within setting levels) (levels_add levels) at name p work
 
   all_add : (at : Place) (name : List ℕ) (p : Progress) (work : Work)
       → Adds work.uses (entered setting at name p work).work

@@ -5,7 +5,7 @@ use Rattle.std.specs.Cmp.Lexicographic.{pointwise, same_text}
 use Rattle.std.proofs.lemmas.List.Elements.{All-cons, All-head, All-tail}
 use Rattle.cm_base.specs.Causes.{one_more}
 use Rattle.tool_deriving.specs.Deriving.{ToolUse}
-use Rattle.tool_deriving.specs.Toolboxes.{IsPlaceOf, NoneHas}
+use Rattle.tool_deriving.specs.Toolboxes.{NoneHas}
 use Rattle.member_deriving.specs.Uses.{ran_more}
 use Rattle.box_deriving.specs.Boxes.{Counts, after_runs, one_run}
 use Rattle.deriving_loader.specs.Laws.{ToolsRunByClass, uses_of_class}
@@ -43,10 +43,12 @@ module _ (class job : List ℕ) where
   run_there [] at ran here = absurd (cc (here.there))
   run_there (tool ∷ counts) zero ran here =
       let is : tool ≡ (class, ran) = cc (here.there) in
-      subst (λ (t : List ℕ × ℕ). Stands class (one_run job (t ∷ counts)) zero (counted (pointwise nat_eq class job) ran))
+      subst (λ (t : List ℕ × ℕ). Stands class (one_run job (t ∷ counts)) zero
+      (counted (pointwise nat_eq class job) ran))
       (sym is) (by_test (pointwise nat_eq class job))
     where
-      by_test : (b : Bool) → Stands class (if b then (class, one_more ran) ∷ counts else (class, ran) ∷ one_run job counts) zero
+      by_test : (b : Bool) → Stands class
+          (if b then (class, one_more ran) ∷ counts else (class, ran) ∷ one_run job counts) zero
           (counted b ran)
       by_test true = record { there = refl; first = here.first }
       by_test false = record { there = refl; first = here.first }

@@ -189,7 +189,8 @@ stops_with {A} {B} e old new step next stopped adds = record {
   folder = cause_as old.faults new.faults stopped.folder (same_fault {A = B} {B = A} e fault.Folder);
   tools = tends_as old.tools new.tools stopped.tools (same_fault {A = B} {B = A} e fault.Tool);
   steps = λ origin work here.
-      step_stops origin (step origin work) (next origin) e (world_in new) (stopped.steps origin work here) (adds origin);
+      step_stops origin (step origin work) (next origin) e (world_in new) (stopped.steps origin work here)
+      (adds origin);
 }
 
 -- the result of a call that passes a fault on
@@ -273,16 +274,25 @@ module _ {A : Type 0} (old new : Option Files) (before after : ℕ) (tools : Lis
 
   pub reads : (r : Result A LoadFault) → HasCause before after (r ≡ Err plain.Folder)
       → Told old (λ files. Reads r (m files))
-      → Loads (as_plain r) (scene_of old before tools) (scene_of new after tools) (λ origin work. outcome work (m work.files))
+      → Loads (as_plain r) (scene_of old before tools) (scene_of new after tools)
+      (λ origin work. outcome work (m work.files))
   reads (Ok value) cause told = record {
     folder = cause_as before after cause (λ failed. absurd (cc));
     tools = tends_rests tools (λ failed. absurd (cc));
-    steps = λ origin work here. record { gives = told work.files here.holds; leads = read_here origin work here; cut = tt };
+    steps = λ origin work here. record {
+      gives = told work.files here.holds;
+      leads = read_here origin work here;
+      cut = tt;
+    };
   }
   reads (Err (plain.Diag diag)) cause told = record {
     folder = cause_as before after cause (λ failed. absurd (cc));
     tools = tends_rests tools (λ failed. absurd (cc));
-    steps = λ origin work here. record { gives = told work.files here.holds; leads = read_here origin work here; cut = tt };
+    steps = λ origin work here. record {
+      gives = told work.files here.holds;
+      leads = read_here origin work here;
+      cut = tt;
+    };
   }
   reads (Err plain.Folder) cause told = record {
     folder = cause_as before after cause (λ failed. refl);
@@ -327,7 +337,8 @@ module _ (old new : Option Files) (before after : ℕ) (tools now : List ToolSta
     cause = λ blamed. failed_so (tends.blamed (so blamed));
   }
 
-  pub derives : (r : Result (List ℕ) MemberFault) → HasCause before after (r ≡ Err member.Folder) → box.Tends r tools now
+  pub derives : (r : Result (List ℕ) MemberFault) → HasCause before after (r ≡ Err member.Folder)
+      → box.Tends r tools now
       → ((origin : Origin) (work : Work) → InStep origin work (world_of old tools)
       → StepsOn origin work (step work) r (world_of new now))
       → Loads (as_member r) (scene_of old before tools) (scene_of new after now) (λ origin. step)

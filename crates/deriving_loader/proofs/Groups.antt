@@ -63,7 +63,8 @@ module _ (defs : List Def) (anchors : Bindings) where
       then_below origin d work =
           with_described (in_setting origin) (entered_within (in_setting origin) below) name d p work
 
-      level_is : (origin : Origin) (work : Work) → (described_in origin work >> then_below origin) ≡ entering origin work
+      level_is : (origin : Origin) (work : Work) → (described_in origin work >> then_below origin)
+          ≡ entering origin work
       level_is origin work =
           one_level (in_setting origin) below at name p work
           ∙ ap (λ (n : ℕ). entered_within (in_setting origin) n at name p work) (sym (level ∙ add-one below))
@@ -73,7 +74,8 @@ module _ (defs : List Def) (anchors : Bindings) where
           → Loads (answer r now) old new entering
       level_stops r e now old new is stopped =
           answered r e now old new entering is
-          (steps_as {A = Progress} (Err e) old new (λ origin work. described_in origin work >> then_below origin) entering
+          (steps_as {A = Progress} (Err e) old new
+          (λ origin work. described_in origin work >> then_below origin) entering
           (λ origin work here. level_is origin work)
           (stops_with e old new described_in then_below stopped
           (λ origin d work. described_adds (in_setting origin) (entered_within (in_setting origin) below)
@@ -117,7 +119,8 @@ module _ (defs : List Def) (anchors : Bindings) where
     start_stops r now scene is =
         answered r fault.NoMemory now scene scene describing is
         (wants scene describing
-        (λ origin work. described_adds (in_setting origin) (enter_in origin) (levels_add (in_setting origin) levels) name d p work))
+        (λ origin work. described_adds (in_setting origin) (enter_in origin)
+        (levels_add (in_setting origin) levels) name d p work))
 
     module _ (items : List ℕ) (number : ℕ) (group : Group) (members : List MemberEntry) (started : Progress)
         (chosen : chosen_items defs [] d.member_lines ≡ Ok items) (number_is : number ≡ length p.groups)
@@ -146,7 +149,8 @@ module _ (defs : List Def) (anchors : Bindings) where
             ∙ ap (λ (q : Progress). with_members (in_setting origin) (enter_in origin) (length p.groups) name
             (chosen_members d items) q work) (starts ∙ ap (λ (g : Group). with_begun g p) group_is)
 
-        after_choice : (r : Result Progress LoadingFault) (old new : Scene) → Loads r old new (λ origin. then_chosen origin items)
+        after_choice : (r : Result Progress LoadingFault) (old new : Scene)
+            → Loads r old new (λ origin. then_chosen origin items)
             → Loads r old new describing
         after_choice r old new rest =
             goes items r old old new (λ origin work. outcome work (chosen_items defs [] d.member_lines)) then_chosen
@@ -159,11 +163,13 @@ module _ (defs : List Def) (anchors : Bindings) where
             answered r e now old new describing is
             (after_choice (Err e) old new
             (stops_with e old new listed then_ended
-            (steps_as {A = Progress} (Err e) old new loading listed (λ origin work here. loading_is origin work) stopped)
+            (steps_as {A = Progress} (Err e) old new loading listed
+            (λ origin work here. loading_is origin work) stopped)
             (λ origin more work. adds_none work)))
 
         -- all are loaded, and the rest ends so
-        members_then : (mid : Progress) (r : Result Progress LoadingFault) (old new : Scene) → Loads (Ok mid) old new loading
+        members_then : (mid : Progress) (r : Result Progress LoadingFault) (old new : Scene)
+            → Loads (Ok mid) old new loading
             → Loads r new new (λ origin. then_ended origin mid) → Loads r old new describing
         members_then mid r old new loaded rest =
             after_choice r old new
@@ -232,7 +238,8 @@ module _ (defs : List Def) (anchors : Bindings) where
       abbrev known : Result Progress Diag
       known = with_known holder number name (is_finished p number) p
 
-      pub open_stops : (e : LoadingFault) (scene : Scene) → is_finished p number ≡ false → Refuses e (whole_file 10 name)
+      pub open_stops : (e : LoadingFault) (scene : Scene) → is_finished p number ≡ false
+          → Refuses e (whole_file 10 name)
           → Loads {A = Progress} (Err e) scene scene (meeting found)
       open_stops e scene goes_on refused =
           meeting_is (Err e) scene scene found (Some number) there
@@ -250,7 +257,8 @@ module _ (defs : List Def) (anchors : Bindings) where
       pub known_done : (now : Progress) (scene : Scene) → is_finished p number ≡ true
           → now ≡ with_membership holder number p → Loads (Ok now) scene scene (meeting found)
       known_done now scene done joined =
-          let same : ◌≡◌ {A = Result Progress Diag} (Ok (with_membership holder number p)) (Ok now) = ap Ok (sym joined) in
+          let same : ◌≡◌ {A = Result Progress Diag} (Ok (with_membership holder number p)) (Ok now) =
+          ap Ok (sym joined) in
           meeting_is (Ok now) scene scene found (Some number) there
           (gives_at now scene known
           (ap (λ (done : Bool). with_known holder number name done p) done ∙ same))

@@ -38,13 +38,15 @@ module _ {A : Type 0} (class_of rule_of : A → List ℕ) (ran_of faults_of : A 
       ap (λ (both : List (List ℕ × List ℕ)). filter (λ (tool : List ℕ × List ℕ). not (is_built_in tool.0)) both)
       (fused class_of rule_of ran_of faults_of tools)
 
-  pub over_store : (r : Result Project LoadingFault) (holds after : Option Files) (before now : ℕ) (left : List ToolState)
+  pub over_store : (r : Result Project LoadingFault) (holds after : Option Files) (before now : ℕ)
+      (left : List ToolState)
       → Loads r (scene_of holds before states) (scene_of after now left) (projecting defs root freezing)
       → holds ≡ Some files
       → StepsTo (origin_of files states) (loaded_over files (rules_of class_of rule_of tools) defs root freezing) r
       (world_of after left)
   over_store r holds after before now left loads is =
-      subst (λ (rules : List (List ℕ × List ℕ)). StepsTo (origin_of files states) (loaded_over files rules defs root freezing)
+      subst (λ (rules : List (List ℕ × List ℕ)). StepsTo (origin_of files states)
+      (loaded_over files rules defs root freezing)
       r (world_of after left)) begun_rules
       (loads.steps (origin_of files states) (work_of files []) (begins files holds states is))
 
@@ -99,7 +101,8 @@ module _ (origin : Origin) (now : World) where
   rest_keeps front (job ∷ rest) (inr way) = by_left way.leaves
     where
       by_left : (now.holds ≡ Some (after_uses origin.files front))
-          ⊎ Touches (Some (after_uses origin.files front)) now.holds (tool_path job.unit) (record_file (record_of_use job))
+          ⊎ Touches (Some (after_uses origin.files front)) now.holds (tool_path job.unit)
+          (record_file (record_of_use job))
           → Keeps (Some (after_uses origin.files front)) now.holds (paths_of (job ∷ rest))
       by_left (inl same) = keeps_same (Some (after_uses origin.files front)) now.holds (paths_of (job ∷ rest)) same
       by_left (inr touched) =

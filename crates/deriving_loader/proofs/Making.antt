@@ -93,7 +93,8 @@ module _ (defs : List Def) (anchors : Bindings) (holder : ℕ) (holder_name : Li
     use_front : (origin : Origin) (bytes : List ℕ) (work : Work)
         → then_used origin (take (SOURCE + 1) bytes) work ≡ then_used origin bytes work
     use_front origin bytes work =
-        ap (λ (step : Outcome (List ℕ)). step >> λ source after. outcome after (with_source holder name without_options source p))
+        ap (λ (step : Outcome (List ℕ)). step >> λ source after. outcome after
+        (with_source holder name without_options source p))
         (source_front texts_over_stores class rule name bytes work)
 
     front_is : (origin : Origin) (work : Work) (file : Option (List ℕ))
@@ -146,7 +147,8 @@ module _ (defs : List Def) (anchors : Bindings) (holder : ℕ) (holder_name : Li
         source_stops r e end new is stopped =
             answered r e end (scene_of holds before tools) new making is
             (after_input (Err e) new
-            (stops_with e (scene_of after now tools) new sourcing then_added stopped (λ origin source work. adds_none work)))
+            (stops_with e (scene_of after now tools) new sourcing then_added stopped
+            (λ origin source work. adds_none work)))
 
         module _ (source : List ℕ) (new : Scene) (derived : Loads (Ok source) (scene_of after now tools) new sourcing)
           where

@@ -121,7 +121,8 @@ module _ (defs : List Def) (anchors : Bindings) (levels holder : ℕ) (name : Li
               (filter_map (λ item. slice_get members item) (drop (i + 1) items)) more work)))
 
     -- none is left
-    pub members_done : (items : List ℕ) (i : ℕ) (p : Progress) (now before : Scene) (whole : Origin → Work → Outcome Progress)
+    pub members_done : (items : List ℕ) (i : ℕ) (p : Progress) (now before : Scene)
+        (whole : Origin → Work → Outcome Progress)
         → length items ≤ i → LeadsBack now before (all_of (drop i items) p) whole → Loads (Ok p) before now whole
     members_done items i p now before whole le so =
         so.back (Ok p) now
@@ -129,8 +130,10 @@ module _ (defs : List Def) (anchors : Bindings) (levels holder : ℕ) (name : Li
         (gives_at p now (Ok p) refl))
 
     -- the same loading, said of what it became
-    pub leads_as : (items : List ℕ) (now after before : Scene) (p q : Progress) (whole : Origin → Work → Outcome Progress)
-        → after ≡ now → q ≡ p → LeadsBack now before (all_of items p) whole → LeadsBack after before (all_of items q) whole
+    pub leads_as : (items : List ℕ) (now after before : Scene) (p q : Progress)
+        (whole : Origin → Work → Outcome Progress)
+        → after ≡ now → q ≡ p → LeadsBack now before (all_of items p) whole → LeadsBack after before
+        (all_of items q) whole
     leads_as items now after before p q whole same is so =
         subst (λ (scene : Scene). LeadsBack scene before (all_of items q) whole) (sym same)
         (subst (λ (q : Progress). LeadsBack now before (all_of items q) whole) (sym is) so)
@@ -173,7 +176,8 @@ module _ (defs : List Def) (anchors : Bindings) (levels holder : ℕ) (name : Li
         rules_same : (origin : Origin) → map (λ (tool : A). (class_of tool, rule_of tool)) tools ≡ rules_in origin.tools
             → rules_of class_of rule_of tools ≡ rules_at origin
         rules_same origin same =
-            ap (λ (both : List (List ℕ × List ℕ)). filter (λ (tool : List ℕ × List ℕ). not (is_built_in tool.0)) both) same
+            ap (λ (both : List (List ℕ × List ℕ)). filter
+            (λ (tool : List ℕ × List ℕ). not (is_built_in tool.0)) both) same
 
         rules_here : (origin : Origin) (work : Work) → InStep origin work (world_in old)
             → rules_of class_of rule_of tools ≡ rules_at origin
@@ -187,8 +191,9 @@ module _ (defs : List Def) (anchors : Bindings) (levels holder : ℕ) (name : Li
             → with_member_of (in_setting defs anchors origin) (enter_at origin) holder name member found p work
             ≡ membering origin work
         not_skipped found skipped is origin work here =
-            ap (λ (o : Option (List ℕ × List ℕ)). with_member_of (in_setting defs anchors origin) (enter_at origin) holder
-            name member o p work) (sym is ∙ ap (λ (rules : ToolRules). tool_of rules member) (rules_here origin work here))
+            ap (λ (o : Option (List ℕ × List ℕ)). with_member_of (in_setting defs anchors origin)
+            (enter_at origin) holder name member o p work)
+            (sym is ∙ ap (λ (rules : ToolRules). tool_of rules member) (rules_here origin work here))
             ∙ ap (λ (b : Bool). unless_skipped b origin work) (sym skipped)
 
         pub is_plain : is_skipped anchors member ≡ false → tool_of (rules_of class_of rule_of tools) member ≡ None
@@ -222,7 +227,8 @@ module _ (defs : List Def) (anchors : Bindings) (levels holder : ℕ) (name : Li
 
     module _ (found : Found) (is : found_of anchors name member ≡ Ok found) where
       classed : (class : Class) (r : Result Progress LoadingFault) (old new : Scene) → found.class ≡ class
-          → Loads r old new (λ origin work. with_classed (in_setting defs anchors origin) (enter_at origin) holder member.at
+          → Loads r old new
+          (λ origin work. with_classed (in_setting defs anchors origin) (enter_at origin) holder member.at
           found class p work)
           → Loads r old new plainly
       classed class r old new same loads =

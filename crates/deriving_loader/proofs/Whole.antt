@@ -80,7 +80,8 @@ module _ (defs : List Def) (anchors : Bindings) (root : List ℕ) where
     root_is origin work =
         ap (λ (at : Place). outcome work (described_by at name p (get work.files (folder_path_of anchors name)))
         >> then_described origin) at_is
-        ∙ ap (λ (p : Progress). outcome work (described_by command_place name p (get work.files (folder_path_of anchors name)))
+        ∙ ap (λ (p : Progress). outcome work
+        (described_by command_place name p (get work.files (folder_path_of anchors name)))
         >> λ d after. describing defs anchors 513 name d p origin after) p_is
         ∙ ap (λ (enter : Entering). outcome work
         (described_by command_place name nothing (get work.files (folder_path_of anchors name)))
@@ -91,7 +92,8 @@ module _ (defs : List Def) (anchors : Bindings) (root : List ℕ) where
         → Loads r old new (λ origin work. reading origin work >> then_described origin) → Loads r old new reaching
     after_name r old new loads =
         goes name r old old new naming then_named (gives_at name old (root_name anchors root) named)
-        (steps_as r old new (λ origin work. reading origin work >> then_described origin) (λ origin. then_named origin name)
+        (steps_as r old new (λ origin work. reading origin work >> then_described origin)
+        (λ origin. then_named origin name)
         (λ origin work here. root_is origin work) loads)
 
     module _ (holds after : Option Files) (before now : ℕ) (tools : List ToolState) (same : after ≡ holds) where
@@ -107,7 +109,8 @@ module _ (defs : List Def) (anchors : Bindings) (root : List ℕ) where
           (λ origin d work. described_adds (in_setting defs anchors origin) (enter_in defs anchors 513 name d p origin)
           (levels_add (in_setting defs anchors origin) 513) name d p work)))
 
-      module _ (d : Description) (later : before ≤ now) (found : Told holds (λ files. description_from files ≡ Ok d)) where
+      module _ (d : Description) (later : before ≤ now)
+          (found : Told holds (λ files. description_from files ≡ Ok d)) where
         pub described_so : (r : Result Progress LoadingFault) (new : Scene)
             → Loads r (scene_of after now tools) new (describing defs anchors 513 name d p)
             → Loads r (scene_of holds before tools) new reaching
@@ -195,11 +198,13 @@ module _ (defs : List Def) (root : List ℕ) (freezing : Bool) where
 
         module _ (p : Progress) (new : Scene)
             (loaded : Loads (Ok p) (scene_of after now tools) new (reaching defs anchors root)) where
-          after_groups : (r : Result Project LoadingFault) → Loads r new new (λ origin work. outcome work (checked freezing p))
+          after_groups : (r : Result Project LoadingFault) → Loads r new new
+              (λ origin work. outcome work (checked freezing p))
               → Loads r (scene_of holds before tools) new projecting
           after_groups r loads =
               after_all r (scene_of holds before tools) new
-              (goes p r (scene_of holds before tools) new new reached_all then_checked (anchored (Ok p) new loaded) loads)
+              (goes p r (scene_of holds before tools) new new reached_all then_checked
+              (anchored (Ok p) new loaded) loads)
 
           pub checks_stop : (r : Result Project LoadingFault) (e : Fault) → IsErrAnd r (λ y. y ≡ of_refusal e)
               → Gives {A = Project} (Err e) (checked freezing p) → Loads r (scene_of holds before tools) new projecting

@@ -156,7 +156,8 @@ pub(crate) fn load_made<F: Folder, T: Tool>(
     requires ready { IsReady loader.old }
     requires going { IsOpen loader.old.progress holder.now.number }
     requires maker { IsMaker T.class T.rule tools.old member.now maker.now.place maker.now.class.now }
-    ensures loads { (rule : List ℕ) → tool_of (rules_of T.class T.rule tools.old) member.now ≡ Some (maker.now.class.now, rule)
+    ensures loads { (rule : List ℕ)
+        → tool_of (rules_of T.class T.rule tools.old) member.now ≡ Some (maker.now.class.now, rule)
         → Loads (answer result loader.new.progress)
         (scene_of (F.holds folder.old) (F.faults folder.old) (states_by T.class T.rule T.ran T.faults tools.old))
         (scene_of (F.holds folder.new) (F.faults folder.new) (states_by T.class T.rule T.ran T.faults tools.new))

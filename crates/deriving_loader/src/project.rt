@@ -85,9 +85,9 @@ fn load_project<F: Folder, T: Tool>(
 }
 
 /// The project that ROOT leads to: its groups and libraries, and the sources in them, under the definitions of a
-/// command; or its first refusal. `freezing` asks whether it can be frozen, too. The source of a member of a tool's class
-/// is derived in its turn. The folder then has a record for each use that ran its tool, and nothing else was written;
-/// after a fault it has those of the first uses, up to the one that was under way.
+/// command; or its first refusal. `freezing` asks whether it can be frozen, too. The source of a member of a tool's
+/// class is derived in its turn. The folder then has a record for each use that ran its tool, and nothing else was
+/// written; after a fault it has those of the first uses, up to the one that was under way.
 pub fn load<F: Folder, T: Tool>(
     alloc: Global,
     folder: &mut F,

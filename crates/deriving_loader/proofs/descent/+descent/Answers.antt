@@ -137,21 +137,24 @@ pub load_group-returns-in_err-enter-clause-loads : goal.load_group-returns-in_er
 load_group-returns-in_err-enter-clause-loads g t c =
     group_stops c.args.context.now.defs.now c.args.context.now.anchors.now c.args.levels c.args.holder c.args.at.now
     c.args.name.now c.args.loader.now.progress (number_of c.args.loader.now.progress c.args.name.now)
-    (sym c.number_of.ensures ∙ c.in_default.is) c.from_residual.result c.in_err-enter.field-0.0 c.enter.new.loader.progress _ _
+    (sym c.number_of.ensures ∙ c.in_default.is)
+    c.from_residual.result c.in_err-enter.field-0.0 c.enter.new.loader.progress _ _
     c.from_residual.ensures.1 c.in_err-enter.ensures.loads
 
 pub load_group-returns-in_err-join-clause-loads : goal.load_group-returns-in_err-join-clause-loads
 load_group-returns-in_err-join-clause-loads g t c =
     join_stops c.args.context.now.defs.now c.args.context.now.anchors.now c.args.levels c.args.holder c.args.at.now
     c.args.name.now c.args.loader.now.progress (number_of c.args.loader.now.progress c.args.name.now)
-    (sym c.number_of.ensures ∙ c.in_default.is) c.from_residual-in_err-join.result c.enter.new.loader.progress c.join.new.self.progress _ _
+    (sym c.number_of.ensures ∙ c.in_default.is)
+    c.from_residual-in_err-join.result c.enter.new.loader.progress c.join.new.self.progress _ _
     c.from_residual-in_err-join.ensures.1 c.in_ok-enter.ensures.loads
 
 pub load_group-returns-in_default-clause-loads : goal.load_group-returns-in_default-clause-loads
 load_group-returns-in_default-clause-loads g t c =
     group_done c.args.context.now.defs.now c.args.context.now.anchors.now c.args.levels c.args.holder c.args.at.now
     c.args.name.now c.args.loader.now.progress (number_of c.args.loader.now.progress c.args.name.now)
-    (sym c.number_of.ensures ∙ c.in_default.is) c.next_number-member.result c.enter.new.loader.progress c.join.new.self.progress _ _
+    (sym c.number_of.ensures ∙ c.in_default.is)
+    c.next_number-member.result c.enter.new.loader.progress c.join.new.self.progress _ _
     c.next_number-member.ensures c.in_ok-enter.ensures.loads c.in_ok-join.ensures.joined
 
 pub load_group-returns-in_default-clause-goes : goal.load_group-returns-in_default-clause-goes
@@ -165,7 +168,8 @@ pub load_group-returns-then-not-is_finished-clause-loads : goal.load_group-retur
 load_group-returns-then-not-is_finished-clause-loads g t c =
     open_stops c.args.context.now.defs.now c.args.context.now.anchors.now c.args.levels c.args.holder c.args.at.now
     c.args.name.now c.args.loader.now.progress (number_of c.args.loader.now.progress c.args.name.now) c.in-Some.number
-    (sym c.number_of.ensures ∙ c.in-Some.is) c.refuse.result _ (sym c.is_finished.ensures ∙ c.if-not-is_finished.true) c.refuse.ensures
+    (sym c.number_of.ensures ∙ c.in-Some.is) c.refuse.result _
+    (sym c.is_finished.ensures ∙ c.if-not-is_finished.true) c.refuse.ensures
 
 pub load_group-returns-in_err-join-2-clause-loads : goal.load_group-returns-in_err-join-2-clause-loads
 load_group-returns-in_err-join-2-clause-loads g t c =
@@ -248,7 +252,8 @@ load_members-loop-number-preserved g t c =
                 (states_by g.T.Tool.class g.T.Tool.rule g.T.Tool.ran g.T.Tool.faults tools)) w.folder-is w.tools-is)
                 (ap (λ loader. loader.progress) w.loader-is)
                 (member_loaded c.args.context.now.defs.now c.args.context.now.anchors.now c.args.levels
-                c.args.holder.now.number c.args.holder.now.name.now c.args.members.now items i (get_or slice i 0) p lt here
+                c.args.holder.now.number c.args.holder.now.name.now c.args.members.now items i
+                (get_or slice i 0) p lt here
                 _ _ _ before.back w.in-Some.member.now (sym w.in-Some.ensures.item) w.load_member.new.loader.progress _
                 step.loads);
           }
@@ -262,7 +267,8 @@ load_members-loop-number-preserved g t c =
                 (states_by g.T.Tool.class g.T.Tool.rule g.T.Tool.ran g.T.Tool.faults tools)) w.folder-is w.tools-is)
                 (ap (λ loader. loader.progress) w.loader-is)
                 (member_passed c.args.context.now.defs.now c.args.context.now.anchors.now c.args.levels
-                c.args.holder.now.number c.args.holder.now.name.now c.args.members.now items i (get_or slice i 0) p lt here
+                c.args.holder.now.number c.args.holder.now.name.now c.args.members.now items i
+                (get_or slice i 0) p lt here
                 _ _ _ before.back (sym w.in_default.ensures.item));
           }
     ]

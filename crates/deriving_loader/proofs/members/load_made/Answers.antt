@@ -35,7 +35,8 @@ returns-in_err-source-clause-loads g c = λ rule named.
     c.from_residual-in_err-source.result (of_member c.in_err-source.field-0.0) c.args.loader.now.progress _
     c.from_residual-in_err-source.ensures.1
     (derives _ _ _ _ _ _
-    (λ work. source_by texts_over_stores (tool_use c.args.maker.now.class.now rule c.in_ok-name.name c.in_ok-input.input) work)
+    (λ work. source_by texts_over_stores
+    (tool_use c.args.maker.now.class.now rule c.in_ok-name.name c.in_ok-input.input) work)
     (Err c.in_err-source.field-0.0) c.in_err-source.ensures.folder c.in_err-source.ensures.tends
     (λ origin work here. c.in_err-source.ensures.steps origin work rule
     (rule_is g.T.Tool.class g.T.Tool.rule c.args.tools.now c.args.member.now c.args.maker.now.place
@@ -52,7 +53,8 @@ returns-in_err-add_source-clause-loads g c = λ rule named.
     c.in_ok-name.name c.in_ok-name.ensures _ _ _ _ _ c.in_ok-input.ensures.same c.in_ok-input.input
     c.in_ok-input.ensures.cause.later c.in_ok-input.ensures.gives c.in_ok-source.source _
     (derives _ _ _ _ _ _
-    (λ work. source_by texts_over_stores (tool_use c.args.maker.now.class.now rule c.in_ok-name.name c.in_ok-input.input) work)
+    (λ work. source_by texts_over_stores
+    (tool_use c.args.maker.now.class.now rule c.in_ok-name.name c.in_ok-input.input) work)
     (Ok c.in_ok-source.source) c.in_ok-source.ensures.folder c.in_ok-source.ensures.tends
     (λ origin work here. c.in_ok-source.ensures.steps origin work rule
     (rule_is g.T.Tool.class g.T.Tool.rule c.args.tools.now c.args.member.now c.args.maker.now.place
@@ -67,7 +69,8 @@ returns-clause-loads g c = λ rule named.
     c.in_ok-name.name c.in_ok-name.ensures _ _ _ _ _ c.in_ok-input.ensures.same c.in_ok-input.input
     c.in_ok-input.ensures.cause.later c.in_ok-input.ensures.gives c.in_ok-source.source _
     (derives _ _ _ _ _ _
-    (λ work. source_by texts_over_stores (tool_use c.args.maker.now.class.now rule c.in_ok-name.name c.in_ok-input.input) work)
+    (λ work. source_by texts_over_stores
+    (tool_use c.args.maker.now.class.now rule c.in_ok-name.name c.in_ok-input.input) work)
     (Ok c.in_ok-source.source) c.in_ok-source.ensures.folder c.in_ok-source.ensures.tends
     (λ origin work here. c.in_ok-source.ensures.steps origin work rule
     (rule_is g.T.Tool.class g.T.Tool.rule c.args.tools.now c.args.member.now c.args.maker.now.place
