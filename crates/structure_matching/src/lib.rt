@@ -1,0 +1,7 @@
+//! Environments that match signatures. The Definition of Standard ML (Revised), sections 5.2, 5.5 and 5.6.
+#![tactic(auto)]
+
+mod admitting;
+mod parts;
+mod flexible;
+mod refusals;
