@@ -2,3 +2,5 @@ pub mod Listing
 pub mod Marking
 pub mod Naming
 pub mod Finding
+pub mod Opening
+pub mod RealisingSteps

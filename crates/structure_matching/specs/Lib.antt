@@ -1,3 +1,4 @@
 pub mod Found
 pub mod Refusals
 pub mod Admitting
+pub mod Searching

@@ -4,4 +4,6 @@
 mod admitting;
 mod parts;
 mod flexible;
+mod realising;
 mod refusals;
+mod search;

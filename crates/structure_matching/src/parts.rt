@@ -2,12 +2,13 @@
 
 ghost use Rattle.std.specs.Prelude.{◌≡◌, IfOk, Some};
 ghost use Rattle.sml_modules.specs.Items.{Item, at};
+ghost use Rattle.sml_modules.specs.Graphs.{HasEnv};
 ghost use Rattle.structure_matching.specs.Found.{specified_rows, AreFound, IsComponentAt};
 
 use cm_base::{List, NoMemory, Text};
 use env_parts::Rows;
 use semantic_objects::{TypeStr, ValueEntry};
-use sml_modules::{EnvGraph, Node};
+use sml_modules::{EnvGraph, EnvId, Node};
 use std::alloc::Global;
 
 /// A row of one of a signature's tables, and the place of what stands under its name, if anything does.
@@ -85,5 +86,28 @@ pub(crate) fn value_at(g: &EnvGraph, place: usize) -> Result<&ValueEntry, NoMemo
             _ => Err(NoMemory),
         },
         None => Err(NoMemory),
+    }
+}
+
+/// An environment that is specified, and the environment that is matched with it.
+#[derive(Clone, Copy)]
+pub(crate) struct EnvPair {
+    pub(crate) specified: EnvId,
+    pub(crate) found: EnvId,
+}
+
+/// The environments at two places. Anything else there is refused as want of memory is.
+pub(crate) fn env_pair(g: &EnvGraph, specified: usize, found: usize) -> Result<EnvPair, NoMemory>
+    ensures places { IfOk result (λ pair. pair
+        ≡ record { specified = record { place = specified }; found = record { place = found } }) }
+    ensures specified { IfOk result (λ pair. HasEnv g.now pair.specified) }
+    ensures found { IfOk result (λ pair. HasEnv g.now pair.found) }
+{
+    let specified = EnvId { place: specified };
+    let found = EnvId { place: found };
+    if g.has_env(specified) && g.has_env(found) {
+        Ok(EnvPair { specified, found })
+    } else {
+        Err(NoMemory)
     }
 }
