@@ -4,3 +4,5 @@ pub mod Naming
 pub mod Finding
 pub mod Opening
 pub mod RealisingSteps
+pub mod Leading
+pub mod RealisingEnvs
