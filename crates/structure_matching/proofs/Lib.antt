@@ -6,3 +6,4 @@ pub mod Opening
 pub mod RealisingSteps
 pub mod Leading
 pub mod RealisingEnvs
+pub mod RealisingAll

@@ -2,6 +2,7 @@
 use Rattle.std.proofs.Common.{◌≡◌, ℕ, refl, sym, ap, ap₂, ◌∙◌, subst, List, [], ◌∷◌, ◌++◌, map, Option, Some, None, Bool, true, false, ◌&&◌, ◌||◌, not, cond}
 use Rattle.std.proofs.lemmas.List.{map-append}
 use Rattle.std.specs.Option.{is_none, is_some}
+use Rattle.std.specs.List.{list_any}
 use Rattle.semantic_objects.specs.declared.name.TyName.{TyName}
 use Rattle.semantic_objects.specs.declared.entry.TypeFn.{TypeFn}
 use Rattle.semantic_objects.specs.Symbols.{same_name}
@@ -51,3 +52,26 @@ open_by name bound list names o p b c e f g h i j =
     twice : (b : Bool) → not (not b) ≡ b
     twice true = refl
     twice false = refl
+
+-- nothing realises a name that has no place
+pub left_by : (name : TyName) (list : List Replace) (names : List TyName) (o : Option ℕ) (b : Bool)
+    → names ≡ map (λ (r : Replace). r.name) list → o ≡ place_among name names → is_some o ≡ not b
+    → b ≡ is_none (of_rows (rows_of list) name)
+left_by name list names o b e f g =
+    sym (twice b) ∙ ap not (sym g ∙ listed_by name names o f ∙ ap (is_listed name) e) ∙ sym (row_listed name list)
+  where
+    twice : (b : Bool) → not (not b) ≡ b
+    twice true = refl
+    twice false = refl
+
+pub any_next : {A : Type 0} (f : A → Bool) (all rest more : List A) (x : A) (b : Bool) → rest ≡ x ∷ more → b ≡ f x
+    → list_any f rest ≡ list_any f all → (b || list_any f more) ≡ list_any f all
+any_next f all rest more x b at e h = ap (λ z. z || list_any f more) e ∙ sym (ap (list_any f) at) ∙ h
+
+pub any_found : (b c d : Bool) → b ≡ true → (b || c) ≡ d → true ≡ d
+any_found true c d h e = e
+any_found false c d h e = absurd (cc)
+
+pub any_later : (b c d : Bool) → b ≡ false → (b || c) ≡ d → c ≡ d
+any_later true c d h e = absurd (cc)
+any_later false c d h e = e

@@ -4,6 +4,7 @@ use Rattle.std.specs.Option.{option_map}
 use Rattle.cm_base.specs.declared.diag.Place.{Place}
 use Rattle.cm_base.specs.declared.fault.Fault.{Fault}
 use Rattle.sml_trees.specs.declared.name.At.{At}
+use Rattle.semantic_objects.specs.declared.name.TyName.{TyName}
 use Rattle.semantic_objects.specs.declared.entry.TypeStr.{TypeStr}
 use Rattle.semantic_objects.specs.Tables.{Table}
 use Rattle.semantic_objects.specs.Environments.{Env, structures, types}
@@ -86,3 +87,10 @@ Realises place old new result Finds items = (inner : Scope) (s : State) (root : 
     → Finds s root
     → Answers (realising_all inner (at_of place) s root old.bound.names items (rows_of old.rows))
     (λ u. rows_of new.rows) result
+
+-- a walk that begins, for names that a signature binds
+pub record Begins (names : List TyName) (begun : Search) : Type 0 where
+  pub path : begun.path ≡ []
+  pub bound : begun.bound.names ≡ names
+  pub rows : rows_of begun.rows ≡ []
+  pub search : IsSearch begun

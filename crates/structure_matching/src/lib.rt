@@ -4,6 +4,9 @@
 mod admitting;
 mod parts;
 mod flexible;
+mod realisation_search;
 mod realising;
 mod refusals;
 mod search;
+
+pub use realisation_search::find_realisation;
