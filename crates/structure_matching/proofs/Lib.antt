@@ -7,3 +7,4 @@ pub mod RealisingSteps
 pub mod Leading
 pub mod RealisingEnvs
 pub mod RealisingAll
+pub mod Covering

@@ -225,7 +225,7 @@ type_alone inner place s root bound path rows item str o e f =
 -- ---- types without variables of a table
 
 mutual
-  put_same : (s : Substitution) (t : Tree) → holds_free t ≡ false → put_tree s t ≡ t
+  pub put_same : (s : Substitution) (t : Tree) → holds_free t ≡ false → put_tree s t ≡ t
   put_same s (Tree.Bound i) h = refl
   put_same s (Tree.Free n) h = absurd (cc)
   put_same s (Tree.Made c ts) h = ap (Tree.Made c) (put_all_same s ts h)

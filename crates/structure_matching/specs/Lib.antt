@@ -2,3 +2,4 @@ pub mod Found
 pub mod Refusals
 pub mod Admitting
 pub mod Searching
+pub mod Values

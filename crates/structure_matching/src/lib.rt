@@ -8,5 +8,6 @@ mod realisation_search;
 mod realising;
 mod refusals;
 mod search;
+mod values;
 
 pub use realisation_search::find_realisation;
