@@ -8,3 +8,5 @@ pub mod Leading
 pub mod RealisingEnvs
 pub mod RealisingAll
 pub mod Covering
+pub mod Apart
+pub mod Rigid

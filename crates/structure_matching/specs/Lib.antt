@@ -3,3 +3,4 @@ pub mod Refusals
 pub mod Admitting
 pub mod Searching
 pub mod Values
+pub mod Comparing

@@ -2,6 +2,7 @@
 #![tactic(auto)]
 
 mod admitting;
+mod comparing;
 mod parts;
 mod flexible;
 mod realisation_search;
