@@ -79,7 +79,7 @@ below count first t x h i b = either_way (ltb i count) (λ k. ltb-true i count k
 -- ---- types without other variables than these
 
 mutual
-  put_filled : (s b : Substitution) (x : Tree) → holds_free x ≡ false → ((i : ℕ) → put s (b i) ≡ b i)
+  pub put_filled : (s b : Substitution) (x : Tree) → holds_free x ≡ false → ((i : ℕ) → put s (b i) ≡ b i)
       → put s (fill b Ty.Var x) ≡ fill b Ty.Var x
   put_filled s b (Tree.Bound i) h k = k i
   put_filled s b (Tree.Free n) h k = absurd (cc)

@@ -10,3 +10,5 @@ pub mod RealisingAll
 pub mod Covering
 pub mod Apart
 pub mod Rigid
+pub mod Reclosing
+pub mod Constructing

@@ -2,8 +2,10 @@
 #![tactic(auto)]
 
 mod admitting;
+mod canonical;
 mod comparing;
 mod parts;
+mod constructors;
 mod flexible;
 mod realisation_search;
 mod realising;
