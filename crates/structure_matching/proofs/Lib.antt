@@ -12,3 +12,5 @@ pub mod Apart
 pub mod Rigid
 pub mod Reclosing
 pub mod Constructing
+pub mod EnrichingSteps
+pub mod EnrichingEnvs

@@ -4,3 +4,4 @@ pub mod Admitting
 pub mod Searching
 pub mod Values
 pub mod Comparing
+pub mod Enriching

@@ -6,6 +6,7 @@ mod canonical;
 mod comparing;
 mod parts;
 mod constructors;
+mod enriching;
 mod flexible;
 mod realisation_search;
 mod realising;
