@@ -8,7 +8,7 @@ use Rattle.semantic_objects.specs.Trees.{Tree, Trees, TypeScheme}
 use Rattle.unification.specs.Closing.{plug, plug_all, canonical_scheme}
 use Rattle.unification.specs.Generality.{same_tree}
 use Rattle.unification.proofs.Walking.{or_false_left, or_false_right}
-use Rattle.env_parts.specs.Types.{holds_free, any_holds_free, facts_of, con_types, type_types}
+use Rattle.env_parts.specs.Types.{holds_free, any_holds_free, facts_of, con_types}
 use Rattle.module_semantics.specs.Matching.{same_con, has_cons, fits_type}
 
 mutual
@@ -52,9 +52,10 @@ pub rest_closed : (cons : List ConEntry) (con : ConEntry) (more : List ConEntry)
     → (holds_free con.scheme.body ≡ false) × ((facts_of (con_types more)).has_free ≡ false)
 rest_closed cons con more h e =
     let k : (facts_of (con_types (con ∷ more))).has_free ≡ false =
-    sym (ap (λ cs. (facts_of (con_types cs)).has_free) e) ∙ h in
-    (or_false_left (holds_free con.scheme.body) (facts_of (con_types more)).has_free k,
-    or_false_right (holds_free con.scheme.body) (facts_of (con_types more)).has_free k)
+    sym (ap (λ cs. (facts_of (con_types cs)).has_free) e) ∙ h in (
+      or_false_left (holds_free con.scheme.body) (facts_of (con_types more)).has_free k,
+      or_false_right (holds_free con.scheme.body) (facts_of (con_types more)).has_free k,
+    )
 
 pub same_next : (left right this that these those : List ConEntry) (x y : ConEntry) (b : Bool)
     → SameTo left right this that → this ≡ x ∷ these → that ≡ y ∷ those → b ≡ same_con x y

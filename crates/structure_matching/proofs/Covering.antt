@@ -1,12 +1,12 @@
 -- Variables of a table that stand in a type, and schemes as they are known.
-use Rattle.std.proofs.Common.{◌≡◌, ℕ, ◌<◌, refl, sym, ap, ap₂, ◌∙◌, subst, List, [], ◌∷◌, ◌++◌, get_or, Bool, true, false, ◌||◌, eqb, cond, suc, zero}
+use Rattle.std.proofs.Common.{◌≡◌, ℕ, ◌<◌, refl, sym, ap, ap₂, ◌∙◌, subst, List, [], ◌∷◌, ◌++◌, get_or, Bool, true, false, ◌||◌, suc, zero}
 use Rattle.std.specs.Prelude.{◌↔◌, IsTrue}
 use Rattle.std.proofs.lemmas.Bool.{eqb-true, eq-eqb}
 use Rattle.semantic_objects.specs.declared.node.TypeNode.{TypeNode}
 use Rattle.semantic_objects.specs.declared.node.TypeNode.TheVariants as node
 use Rattle.semantic_objects.specs.Trees.{Tree, Trees, TypeScheme, trees_of, frees, frees_any}
 use Rattle.semantic_objects.specs.Nodes.{nowhere, node_tree, trees_at, unfolded, unfolded_after, root}
-use Rattle.unification.specs.Types.{Ty, Types, State, Substitution, occurs, occurs_any}
+use Rattle.unification.specs.Types.{Ty, Types, State, occurs, occurs_any}
 use Rattle.unification.specs.Instances.{IsMoreGeneral}
 use Rattle.unification.specs.Closing.{closed_over, closed_over_all, put_tree, put_trees}
 use Rattle.unification.specs.Generality.{IsOf, covers}

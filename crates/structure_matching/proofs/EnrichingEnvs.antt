@@ -1,5 +1,5 @@
 -- The walk over what is specified, through structures.
-use Rattle.std.proofs.Common.{◌≡◌, ℕ, refl, sym, ap, ap₂, ◌∙◌, subst, List, [], ◌∷◌, ◌++◌, Option, Some, None}
+use Rattle.std.proofs.Common.{◌≡◌, ℕ, refl, sym, ap, ◌∙◌, subst, List, [], ◌∷◌, ◌++◌, Some}
 use Rattle.std.specs.Prelude.{Result, Ok, Err}
 use Rattle.std.specs.Option.{option_map}
 use Rattle.cm_base.specs.declared.diag.Place.{Place}
@@ -15,7 +15,6 @@ use Rattle.static_semantics.specs.Holding.{AllItems}
 use Rattle.static_semantics.specs.EnvironmentsPut.{put_env}
 use Rattle.module_semantics.specs.Matching.{Item, present, items_under, type_items, value_items, enriching_all}
 use Rattle.core_scopes.specs.Paths.{led_on}
-use Rattle.type_phrases.specs.Inferred.{Answers}
 use Rattle.structure_matching.specs.declared.parts.Component.{Component}
 use Rattle.structure_matching.specs.declared.parts.EnvPair.{EnvPair}
 use Rattle.structure_matching.specs.Found.{specified_rows, AreFound}

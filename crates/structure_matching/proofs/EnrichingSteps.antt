@@ -1,25 +1,22 @@
 -- The walk over what is specified, item by item.
-use Rattle.std.proofs.Common.{◌≡◌, ℕ, refl, sym, ap, ap₂, ◌∙◌, subst, List, [], ◌∷◌, ◌++◌, Option, Some, None, Bool, true, false, ◌&&◌, not, cond, eqb}
+use Rattle.std.proofs.Common.{◌≡◌, ℕ, refl, sym, ap, ap₂, ◌∙◌, subst, List, [], ◌∷◌, ◌++◌, Option, Some, None, Bool, true, false, not, eqb}
 use Rattle.std.proofs.lemmas.Bool.{eq-eqb, ne_eqb}
-use Rattle.std.specs.Prelude.{Result, Ok, Err}
+use Rattle.std.specs.Prelude.{Ok, Err}
 use Rattle.std.specs.Option.{option_map}
 use Rattle.std.specs.List.{join_with_byte}
-use Rattle.cm_base.specs.declared.diag.Diag.{Diag}
 use Rattle.cm_base.specs.declared.diag.Place.{Place}
 use Rattle.cm_base.specs.declared.fault.Fault.{Fault}
 use Rattle.cm_base.specs.declared.fault.Fault.TheVariants as fault
 use Rattle.semantic_objects.specs.declared.entry.TypeStr.{TypeStr}
 use Rattle.semantic_objects.specs.declared.entry.ValueEntry.{ValueEntry}
-use Rattle.semantic_objects.specs.Environments.{Env, structures, types, values}
+use Rattle.semantic_objects.specs.Environments.{Env, types}
 use Rattle.unification.specs.Types.{State}
 use Rattle.env_parts.specs.declared.facts.Facts.{Facts}
-use Rattle.env_parts.specs.Types.{holds_free, facts_of, type_types}
-use Rattle.unification.proofs.Walking.{or_false_left}
+use Rattle.env_parts.specs.Types.{facts_of, type_types}
 use Rattle.sml_modules.specs.Items.{Item as Node, at, as_type, as_value, item_facts}
 use Rattle.static_semantics.specs.Inferring.{Scope, Answer, ◌>>=◌, gives, diag_at, refuses_where, found_at}
 use Rattle.static_semantics.specs.Holding.{AllItems}
 use Rattle.module_semantics.specs.Matching.{Item, present, misfits_where, fits_type, fits_value, enriching_item, enriching_all}
-use Rattle.type_phrases.specs.Inferred.{Answers}
 use Rattle.structure_matching.specs.declared.parts.Component.{Component}
 use Rattle.structure_matching.specs.Searching.{at_of, known_type, of_components, FindsType, type_of_component}
 use Rattle.structure_matching.specs.Enriching.{known_value, FindsValue, value_of_component, Enriches}

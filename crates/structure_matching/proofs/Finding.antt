@@ -17,12 +17,13 @@ pub component_more : (specified table : Table ℕ) (names : List (List ℕ)) (pl
     → specified_rows made ≡ take i specified → AreFound table made → IsComponentAt table names places i c
     → new ≡ made ++ c ∷ []
     → (specified_rows new ≡ take (i + 1) specified) × AreFound table new
-component_more specified table names places made new c i e f rows found at is =
-    (row_at specified i c.name (ap (λ z. slice_get z i) (sym e) ∙ at.name)
-        (λ p place row. (let same : p ≡ c.specified =
-        some_is p c.specified (sym place ∙ ap (λ z. slice_get z i) (sym f) ∙ at.specified) in
-        ap specified_rows is
-        ∙ map-append (λ (d : Component). (d.name, d.specified)) made (c ∷ [])
-        ∙ ap₂ (λ xs q. xs ++ (c.name, q) ∷ []) rows (sym same)
-        ∙ sym (taken_more specified i (c.name, p) row))),
-    subst (AreFound table) (sym is) (found_more table made c found at.found))
+component_more specified table names places made new c i e f rows found at is = (
+  row_at specified i c.name (ap (λ z. slice_get z i) (sym e) ∙ at.name)
+      (λ p place row. (let same : p ≡ c.specified =
+      some_is p c.specified (sym place ∙ ap (λ z. slice_get z i) (sym f) ∙ at.specified) in
+      ap specified_rows is
+      ∙ map-append (λ (d : Component). (d.name, d.specified)) made (c ∷ [])
+      ∙ ap₂ (λ xs q. xs ++ (c.name, q) ∷ []) rows (sym same)
+      ∙ sym (taken_more specified i (c.name, p) row))),
+  subst (AreFound table) (sym is) (found_more table made c found at.found),
+)

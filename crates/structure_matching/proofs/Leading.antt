@@ -1,8 +1,6 @@
 -- What is found behind a path in an environment as it is known, and what an environment of a graph has.
-use Rattle.std.proofs.Common.{◌≡◌, ℕ, refl, sym, ap, ap₂, ◌∙◌, subst, List, [], ◌∷◌, ◌++◌, map, Option, Some, None}
+use Rattle.std.proofs.Common.{◌≡◌, ℕ, refl, sym, ap, ◌∙◌, List, [], ◌∷◌, ◌++◌, Option, Some, None}
 use Rattle.std.specs.Option.{option_map}
-use Rattle.semantic_objects.specs.declared.entry.TypeStr.{TypeStr}
-use Rattle.semantic_objects.specs.declared.entry.ValueEntry.{ValueEntry}
 use Rattle.semantic_objects.specs.Tables.{Table, entry}
 use Rattle.semantic_objects.specs.Environments.{Env, Structures, structures, types, values, table_of, structures_of}
 use Rattle.unification.specs.Types.{Substitution, State}
@@ -13,7 +11,7 @@ use Rattle.sml_modules.proofs.Setting.{entry_map}
 use Rattle.sml_modules.proofs.Looking.{structures_are, types_are, values_are}
 use Rattle.static_semantics.specs.Inferring.{found_in_structure, found_at}
 use Rattle.static_semantics.specs.Holding.{AllItems}
-use Rattle.static_semantics.specs.EnvironmentsPut.{put_type, put_value, put_env, put_structures, each_entry}
+use Rattle.static_semantics.specs.EnvironmentsPut.{put_type, put_value, put_env, put_structures}
 use Rattle.module_semantics.specs.Matching.{Item, items_under, structure_items, type_items, value_items}
 use Rattle.core_scopes.specs.Paths.{led_on}
 use Rattle.core_scopes.proofs.Pathing.{found_first}
@@ -96,9 +94,10 @@ found_all : {A : Type 0} (table : Env → Table A) (items : List Node) (read : N
     → table known ≡ map_rows put (table env) → table env ≡ map_rows (λ p. read (at items p)) rows → AreFound rows cs
     → AllItems (IsFound table (λ p. put (read (at items p))) root path) cs
 found_all table items read put path root known env rows [] led e f h = tt
-found_all table items read put path root known env rows (c ∷ cs) led e f h =
-    (found_one table items read put path root known env rows c led e f h.0,
-    found_all table items read put path root known env rows cs led e f h.1)
+found_all table items read put path root known env rows (c ∷ cs) led e f h = (
+  found_one table items read put path root known env rows c led e f h.0,
+  found_all table items read put path root known env rows cs led e f h.1,
+)
 
 pub structures_found : (items : List Node) (path : List (List ℕ)) (s : State) (root env : Env) (tables : EnvTables)
     (cs : List Component) → ReadsEnv items env tables → AreFound tables.structures cs

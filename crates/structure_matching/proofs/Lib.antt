@@ -14,3 +14,4 @@ pub mod Reclosing
 pub mod Constructing
 pub mod EnrichingSteps
 pub mod EnrichingEnvs
+pub mod Concluding

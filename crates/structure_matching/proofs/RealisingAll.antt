@@ -1,8 +1,7 @@
 -- The walk for a realisation from the root of a signature.
-use Rattle.std.proofs.Common.{◌≡◌, ℕ, refl, sym, ap, ◌∙◌, subst, List, [], Option, Some, Bool, true, false}
+use Rattle.std.proofs.Common.{◌≡◌, refl, sym, ap, ◌∙◌, subst, List, [], Some, Bool, true, false}
 use Rattle.std.specs.Prelude.{Result, Ok, Err}
 use Rattle.std.specs.List.{list_any}
-use Rattle.cm_base.specs.declared.diag.Diag.{Diag}
 use Rattle.cm_base.specs.declared.diag.Place.{Place}
 use Rattle.cm_base.specs.declared.fault.Fault.{Fault}
 use Rattle.cm_base.specs.declared.fault.Fault.TheVariants as fault

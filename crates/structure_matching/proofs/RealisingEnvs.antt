@@ -1,5 +1,5 @@
 -- The walk for a realisation through structures.
-use Rattle.std.proofs.Common.{◌≡◌, ℕ, refl, sym, ap, ◌∙◌, subst, List, [], ◌∷◌, ◌++◌, Option, Some, None}
+use Rattle.std.proofs.Common.{◌≡◌, ℕ, refl, sym, ap, ◌∙◌, subst, List, [], ◌∷◌, ◌++◌, Some, None}
 use Rattle.std.specs.Prelude.{Result, Ok, Err}
 use Rattle.std.specs.Option.{option_map}
 use Rattle.std.specs.List.{join_with_byte}
@@ -12,21 +12,20 @@ use Rattle.semantic_objects.specs.Tables.{Table}
 use Rattle.semantic_objects.specs.Environments.{Env, structures}
 use Rattle.unification.specs.Types.{State}
 use Rattle.env_parts.specs.declared.tables.EnvTables.{EnvTables}
-use Rattle.sml_modules.specs.declared.id.EnvId.{EnvId}
 use Rattle.sml_modules.specs.Items.{Item as Node, at, as_type, as_value, as_env, map_rows}
 use Rattle.sml_modules.specs.Adding.{ReadsEnv}
 use Rattle.type_walks.specs.Replaced.{rows_of}
 use Rattle.static_semantics.specs.Inferring.{Scope, Answer, ◌>>=◌, gives, diag_at, found_at}
 use Rattle.static_semantics.specs.Holding.{AllItems}
 use Rattle.static_semantics.specs.EnvironmentsPut.{put_env}
-use Rattle.module_semantics.specs.Matching.{Item, Rows, present, items_under, type_items, value_items, realising_item, realising_all}
+use Rattle.module_semantics.specs.Matching.{Item, Rows, present, items_under, type_items, value_items, realising_all}
 use Rattle.core_scopes.specs.Paths.{led_on}
 use Rattle.type_phrases.specs.Inferred.{Answers}
 use Rattle.structure_matching.specs.declared.parts.Component.{Component}
 use Rattle.structure_matching.specs.declared.parts.EnvPair.{EnvPair}
 use Rattle.structure_matching.specs.declared.search.Search.{Search}
 use Rattle.structure_matching.specs.Found.{specified_rows, AreFound}
-use Rattle.structure_matching.specs.Searching.{at_of, IsSearch, Continues, Enters, Leaves, Realises, FindsStructure, FindsType, known_env, structure_of_component, type_of_component, of_components}
+use Rattle.structure_matching.specs.Searching.{at_of, Continues, Enters, Leaves, Realises, FindsStructure, FindsType, known_env, structure_of_component, type_of_component, of_components}
 use Rattle.structure_matching.proofs.Leading.{led_to, structures_found, types_found, env_items, env_structures}
 use Rattle.structure_matching.proofs.RealisingSteps.{realising_all-append, goes_on, stops, same_answer}
 

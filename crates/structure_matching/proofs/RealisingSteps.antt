@@ -1,19 +1,16 @@
 -- The walk for a realisation, item by item.
-use Rattle.std.proofs.Common.{◌≡◌, ℕ, refl, sym, ap, ap₂, ◌∙◌, subst, List, [], ◌∷◌, ◌++◌, map, Option, Some, None, Bool, true, false, ◌&&◌, not, cond, eqb, append_assoc}
-use Rattle.std.specs.Prelude.{Result, Ok, Err, OnOk}
-use Rattle.std.specs.Option.{option_map}
-use Rattle.std.specs.List.{join_with_byte}
+use Rattle.std.proofs.Common.{◌≡◌, ℕ, refl, sym, ap, ap₂, ◌∙◌, subst, List, [], ◌∷◌, ◌++◌, map, Option, Some, None, Bool, true, false, ◌&&◌, not, eqb}
+use Rattle.std.specs.Prelude.{Result, Ok, Err}
 use Rattle.cm_base.specs.declared.diag.Diag.{Diag}
 use Rattle.cm_base.specs.declared.diag.Place.{Place}
 use Rattle.cm_base.specs.declared.fault.Fault.{Fault}
 use Rattle.cm_base.specs.declared.fault.Fault.TheVariants as fault
 use Rattle.semantic_objects.specs.declared.name.TyName.{TyName}
-use Rattle.semantic_objects.specs.declared.entry.TypeFn.{TypeFn}
 use Rattle.semantic_objects.specs.declared.entry.TypeStr.{TypeStr}
-use Rattle.semantic_objects.specs.Environments.{Env, structures, types}
+use Rattle.semantic_objects.specs.Environments.{Env, types}
 use Rattle.unification.specs.Types.{State}
 use Rattle.realisation.specs.Realised.{function_admits}
-use Rattle.sml_modules.specs.Items.{Item as Node, at, as_type, as_env}
+use Rattle.sml_modules.specs.Items.{Item as Node, at, as_type}
 use Rattle.type_walks.specs.Replaced.{rows_of}
 use Rattle.static_semantics.specs.Inferring.{Scope, Answer, ◌>>=◌, gives, diag_at, refuses_where, found_at}
 use Rattle.static_semantics.specs.Holding.{AllItems}

@@ -1,17 +1,17 @@
 -- An instance of a scheme, closed over all its variables, is the scheme in its one form.
-use Rattle.std.proofs.Common.{◌≡◌, ℕ, zero, suc, ◌+◌, ◌<◌, ◌≤◌, refl, sym, ap, ap₂, ◌∙◌, subst, List, [], ◌∷◌, ◌++◌, map, Bool, true, false, ◌||◌, eqb, cond, arith}
+use Rattle.std.proofs.Common.{◌≡◌, ℕ, zero, suc, ◌+◌, ◌<◌, ◌≤◌, refl, sym, ap, ap₂, ◌∙◌, List, [], ◌∷◌, ◌++◌, map, Bool, true, false, ◌||◌, eqb, cond, arith}
 use Rattle.std.proofs.lemmas.Bool.{eq-eqb, ne_eqb, eqb-true, eqb-false}
 use Rattle.std.proofs.lemmas.List.{map-append}
 use Rattle.semantic_objects.specs.declared.name.TyId.{TyId}
 use Rattle.semantic_objects.specs.Trees.{Tree, Trees, TypeScheme, binds, binds_any}
-use Rattle.unification.specs.Types.{Ty, Types, State, Substitution, Marks, put}
+use Rattle.unification.specs.Types.{Ty, State, Substitution, put}
 use Rattle.unification.specs.Instances.{fill, fill_all, mark_of, instance, with_variable, with_variables}
-use Rattle.unification.specs.Closing.{is_among, place_of, noticed, found_in, found_in_all, closed_over, closed_over_all, bound_in, bound_in_all, plug, plug_all, scheme_over, canonical_scheme}
+use Rattle.unification.specs.Closing.{is_among, place_of, found_in, found_in_all, closed_over, closed_over_all, bound_in, bound_in_all, plug, plug_all, scheme_over, canonical_scheme}
 use Rattle.unification.specs.Fitting.{IsFit}
 use Rattle.unification.proofs.Walking.{either_way, or_left, or_right, or_either, or_false_left, or_false_right}
 use Rattle.unification.proofs.Canonical.{among_once}
 use Rattle.env_parts.specs.Types.{holds_free, any_holds_free}
-use Rattle.type_nodes.specs.Tables.{Table, type_of, state, whole}
+use Rattle.type_nodes.specs.Tables.{Table, type_of, state}
 use Rattle.type_schemes.specs.Schemes.{closed_scheme}
 use Rattle.structure_matching.proofs.Apart.{put_filled}
 

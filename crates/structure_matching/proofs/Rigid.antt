@@ -1,5 +1,5 @@
 -- Rigid variables that are made one after the other, and types that are made of them.
-use Rattle.std.proofs.Common.{◌≡◌, ℕ, zero, suc, ◌+◌, ◌<◌, ◌≤◌, refl, sym, ap, ap₂, ◌∙◌, subst, List, [], ◌∷◌, ◌++◌, length, map, Bool, true, false, eqb, cond, arith, take, length-append}
+use Rattle.std.proofs.Common.{◌≡◌, ℕ, zero, suc, ◌+◌, ◌<◌, sym, ap, ap₂, ◌∙◌, subst, List, [], ◌∷◌, ◌++◌, length, map, Bool, true, false, eqb, cond, arith, take, length-append}
 use Rattle.std.proofs.Math.Seq.{take-length}
 use Rattle.std.proofs.lemmas.Bool.{eqb-false, eqb-true, eq-eqb, ne_eqb}
 use Rattle.std.proofs.lemmas.List.{map-append}
@@ -19,7 +19,7 @@ use Rattle.sml_types.specs.Unifying.{Grown}
 use Rattle.env_parts.specs.Types.{holds_free}
 use Rattle.static_semantics.specs.DatatypeInference.{counted}
 use Rattle.type_phrases.specs.Inferred.{KeepsTypes}
-use Rattle.type_phrases.proofs.Keeping.{front_itself, front_later, keeps_all, keeps_later, keeps_extended, all_nothing, all_later, all_more, types_later}
+use Rattle.type_phrases.proofs.Keeping.{keeps_extended, all_nothing, all_later, all_more, types_later}
 use Rattle.structure_matching.specs.Comparing.{AreRigid}
 use Rattle.structure_matching.proofs.Apart.{AreTwo}
 

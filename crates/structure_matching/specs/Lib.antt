@@ -5,3 +5,4 @@ pub mod Searching
 pub mod Values
 pub mod Comparing
 pub mod Enriching
+pub mod Matches

@@ -173,13 +173,7 @@ fn enrich_structure(
     ensures path { OnOk result (path.new ≡ path.old) }
 {
     let Some(found) = component.found else {
-        return Err(long_refusal(
-            g.alloc(),
-            36,
-            at,
-            path.as_slice(),
-            &component.name,
-        ));
+        return Err(long_refusal(g.alloc(), 36, at, path.as_slice(), &component.name));
     };
     if levels == 0 {
         return Err(Fault::NoMemory);

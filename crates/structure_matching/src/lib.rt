@@ -4,14 +4,16 @@
 mod admitting;
 mod canonical;
 mod comparing;
-mod parts;
 mod constructors;
 mod enriching;
 mod flexible;
+mod matching;
+mod parts;
 mod realisation_search;
 mod realising;
 mod refusals;
 mod search;
 mod values;
 
+pub use matching::{Matched, match_signature, matches};
 pub use realisation_search::find_realisation;

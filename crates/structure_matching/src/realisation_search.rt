@@ -24,7 +24,7 @@ use std::alloc::Global;
 use type_walks::NameTable;
 
 /// How deep structures may nest in each other. Deeper ones are refused as want of memory is.
-const LEVELS: usize = 1024;
+pub(crate) const LEVELS: usize = 1024;
 
 /// Names in a table.
 fn named(alloc: Global, names: &[TyName]) -> Result<NameTable, NoMemory>
@@ -78,7 +78,7 @@ pub fn find_realisation(
     requires sig { HasSigParts g.now sig.now }
     ensures { (inner : Scope) (s : State) → inner.home ≡ at.now.file
         → Answers (realisation_of inner (at_of at.now) s (put_env s.stands (env_at g.now env)) (signature_of g.now sig.now))
-            (λ by. rows_of by.list) result }
+        (λ by. rows_of by.list) result }
 {
     let alloc = g.alloc();
     let mut search = begin(alloc, sig.bound.as_slice())?;

@@ -49,7 +49,7 @@ fn realise_name(
     ensures answers { (inner : Scope) (s : State) (root : Env) (path : List (List ℕ)) → inner.home ≡ at.now.file
         → found_at types path root ≡ Some (known_type g.now.items s place)
         → Answers (realising inner (at_of at.now) s root path (rows_of search.old.rows) (Some name.now))
-            (λ u. rows_of search.new.rows) result }
+        (λ u. rows_of search.new.rows) result }
     ensures continues { OnOk result (Continues search.old search.new) }
 {
     let alloc = g.alloc();
@@ -85,13 +85,7 @@ fn realise_type(
     match search.flexible(&specified.function)? {
         None => Ok(()),
         Some(name) => match component.found {
-            None => Err(long_refusal(
-                g.alloc(),
-                36,
-                at,
-                search.path.as_slice(),
-                &component.name,
-            )),
+            None => Err(long_refusal(g.alloc(), 36, at, search.path.as_slice(), &component.name)),
             Some(place) => realise_name(g, at, search, name, place),
         },
     }
@@ -132,13 +126,7 @@ fn realise_structure(
     ensures continues { OnOk result (Continues search.old search.new) }
 {
     let Some(found) = component.found else {
-        return Err(long_refusal(
-            g.alloc(),
-            36,
-            at,
-            search.path.as_slice(),
-            &component.name,
-        ));
+        return Err(long_refusal(g.alloc(), 36, at, search.path.as_slice(), &component.name));
     };
     if levels == 0 {
         return Err(Fault::NoMemory);

@@ -53,7 +53,13 @@ fn showing(alloc: Global, number: u8, at: &Place, text: Text) -> Result<Diag, No
 }
 
 /// A diagnostic that shows a long name: that of a part of the signature, from its root.
-fn long_diag(alloc: Global, number: u8, at: &Place, path: &[Text], name: &Text) -> Result<Diag, NoMemory>
+fn long_diag(
+    alloc: Global,
+    number: u8,
+    at: &Place,
+    path: &[Text],
+    name: &Text,
+) -> Result<Diag, NoMemory>
     ensures { IfOk result (λ diag. diag
         ≡ record { number = number; at = at.now; names = join_with_byte 46 (path.now ++ name.now ∷ []) ∷ [] }) }
 {
@@ -62,7 +68,13 @@ fn long_diag(alloc: Global, number: u8, at: &Place, path: &[Text], name: &Text) 
 }
 
 /// The refusal by that diagnostic.
-pub(crate) fn long_refusal(alloc: Global, number: u8, at: &Place, path: &[Text], name: &Text) -> Fault
+pub(crate) fn long_refusal(
+    alloc: Global,
+    number: u8,
+    at: &Place,
+    path: &[Text],
+    name: &Text,
+) -> Fault
     ensures { Refuses at.now number (join_with_byte 46 (path.now ++ name.now ∷ []) ∷ []) result }
 {
     match long_diag(alloc, number, at, path, name) {

@@ -1,7 +1,6 @@
-use Rattle.std.proofs.Common.{length, subst, sym}
-use Rattle.semantic_objects.specs.Trees.{Tree}
+use Rattle.std.proofs.Common.{length}
 use Rattle.type_nodes.specs.Tables.{state, type_of}
-use Rattle.structure_matching.proofs.Apart.{AreTwo, made_one, made_apart}
+use Rattle.structure_matching.proofs.Apart.{made_one, made_apart}
 use Rattle.structure_matching.proofs.Rigid.{are_two}
 use Rattle.structure_matching.proofs.comparing.compare.Goals as goal
 

@@ -1,4 +1,4 @@
-use Rattle.std.proofs.Common.{◌++◌, ◌∷◌, []}
+use Rattle.std.proofs.Common.{◌∷◌, []}
 use Rattle.std.specs.List.{join_with_byte}
 use Rattle.type_nodes.specs.Tables.{state}
 use Rattle.module_semantics.specs.Matching.{enriching_all}

@@ -31,6 +31,6 @@ loop-place-preserved c =
           (variable_next nodes (drop i places) (drop (i + 1) places) (get_or places i 0) c.loop-place.number
           c.in-Some.node.now c.is_variable.result (are_variables nodes places 0) c.requires
           (drop_at places i 0 c.loop-place-test.true) (slice_get_read nodes (length nodes) (get_or places i 0) c.in-Some.node.now refl
-    c.in-Some.ensures.lookup.3.0 c.in-Some.ensures.lookup.1)
+          c.in-Some.ensures.lookup.3.0 c.in-Some.ensures.lookup.1)
           (λ made. c.is_variable.ensures made) c.loop-place.invariant.rest);
     }

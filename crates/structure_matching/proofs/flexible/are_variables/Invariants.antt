@@ -9,6 +9,6 @@ abbrev pub invariant-loop-place : goal.invariant-loop-place
 invariant-loop-place l = record {
   number : l.number ≡ l.place-index;
   rest : same_trees (trees_of (trees_at (unfolded l.nodes) (drop l.place-index l.places)))
-    (variables_from (length (drop l.place-index l.places)) l.number)
-    ≡ same_trees (trees_of (trees_at (unfolded l.nodes) l.places)) (variables_from (length l.places) 0);
+      (variables_from (length (drop l.place-index l.places)) l.number)
+      ≡ same_trees (trees_of (trees_at (unfolded l.nodes) l.places)) (variables_from (length l.places) 0);
 }

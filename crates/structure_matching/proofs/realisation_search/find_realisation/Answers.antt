@@ -9,8 +9,7 @@ use Rattle.module_semantics.specs.Matching.{realisation_of}
 use Rattle.type_phrases.specs.Inferred.{Answers}
 use Rattle.type_phrases.proofs.PartsRead.{passed_on}
 use Rattle.structure_matching.specs.Searching.{at_of}
-use Rattle.structure_matching.proofs.RealisingSteps.{refused}
-use Rattle.structure_matching.proofs.RealisingAll.{search_fails, search_left, search_ends}
+use Rattle.structure_matching.proofs.RealisingAll.{search_fails}
 use Rattle.structure_matching.proofs.realisation_search.find_realisation.Goals as goal
 
 pub returns-in_err-realise_env : goal.returns-in_err-realise_env

@@ -1,4 +1,4 @@
-use Rattle.std.proofs.Common.{subst, sym, ap, ◌∙◌}
+use Rattle.std.proofs.Common.{subst, ◌∙◌}
 use Rattle.unification.specs.Generality.{IsOf}
 use Rattle.type_nodes.specs.Tables.{state}
 use Rattle.type_walks.proofs.Imaging.{if_ok}
