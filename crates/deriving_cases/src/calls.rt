@@ -24,7 +24,8 @@ pub struct DerivingCalls {
 /// A section of these cases that is no change of the folder and no look at it.
 #[derive(Clone, Copy)]
 enum Step {
-    /// `tool CLASS [GIVEN]`: puts a tool into the box; the line below is how often the one ran that it takes the place of.
+    /// `tool CLASS [GIVEN]`: puts a tool into the box; the line below is `[new]`, or how often the one ran that comes
+    /// back.
     Tool,
     /// `define NAME NUMBER`: a definition of `-D`.
     Define,

@@ -1,5 +1,5 @@
-//! Cases of loading with tools: a folder's files and a box of tools go in; the project or its first refusal, the records
-//! and the runs come out.
+//! Cases of loading with tools: a folder's files and a box of tools go in; the project or its first refusal, the
+//! records and the runs come out.
 #![tactic(auto)]
 
 mod calls;
