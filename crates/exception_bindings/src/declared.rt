@@ -7,15 +7,36 @@ ghost use Rattle.bare_phrases.specs.PhraseOf.{ex_phrase};
 ghost use Rattle.static_semantics.specs.DatatypeInference.{exceptions_of};
 ghost use Rattle.core_scopes.specs.Scopes.{written_rows};
 ghost use Rattle.type_phrases.specs.Inferred.{Answers, HaveRows};
-ghost use Rattle.exception_bindings.specs.Exceptions.{declared_in, Declares};
+ghost use Rattle.exception_bindings.specs.Exceptions.{declared_in, env_of_values, Declares};
 
 use crate::bindings::exception_values;
 use cm_base::{Fault, List};
 use core_scopes::InScope;
 use pattern_elab::CoreScope;
-use sml_modules::{EnvGraph, EnvId};
+use sml_modules::{EnvGraph, EnvId, NamedValue};
 use sml_trees::ExBind;
 use sml_types::TypeTable;
+use std::alloc::Global;
+
+/// What an `exception` declaration in an environment binds.
+fn declared_values(
+    alloc: Global,
+    g: &EnvGraph,
+    t: &mut TypeTable,
+    env: EnvId,
+    vars: &List<InScope>,
+    binds: &List<ExBind>,
+) -> Result<List<NamedValue>, Fault>
+    requires env { HasEnv g.now env }
+    requires vars { HaveRows t.old (written_rows vars.now) }
+    ensures infers { Answers (exceptions_of (declared_in g.now t.old env vars.now) (map ex_phrase binds.now))
+        env_of_values result }
+    ensures same { t.new ≡ t.old }
+{
+    let mut scope = CoreScope::new(alloc, env);
+    scope.bind_written(vars)?;
+    exception_values(alloc, g, t, &scope, binds.as_slice())
+}
 
 /// The environment of an `exception` declaration in an environment, where these written type variables are in scope; of
 /// two of one name the first counts. It answers 30, 34, 35 and 40 as `elab_exceptions` does. The table is as it was, and
@@ -38,9 +59,7 @@ pub fn exceptions(
     ensures refused { OnErr result (g.new ≡ g.old) }
 {
     let alloc = g.alloc();
-    let mut scope = CoreScope::new(alloc, env);
-    scope.bind_written(vars)?;
-    let values = exception_values(alloc, g, t, &scope, binds.as_slice())?;
+    let values = declared_values(alloc, g, t, env, vars, binds)?;
     let structures = List::new(alloc);
     let types = List::new(alloc);
     let made = g.make_env(&structures, types, values)?;
