@@ -1,5 +1,5 @@
 -- Both walks, one after the other.
-use Rattle.std.proofs.Common.{◌≡◌, ℕ, refl, sym, ap, ◌∙◌, subst, List, [], Some}
+use Rattle.std.proofs.Common.{◌≡◌, ℕ, refl, ap, ◌∙◌, subst, List, [], Some}
 use Rattle.std.specs.Prelude.{Result, Err}
 use Rattle.cm_base.specs.declared.diag.Place.{Place}
 use Rattle.cm_base.specs.declared.fault.Fault.{Fault}
@@ -8,7 +8,6 @@ use Rattle.semantic_objects.specs.Environments.{Env, Signature}
 use Rattle.unification.specs.Types.{State}
 use Rattle.realisation.specs.Realised.{of_rows, realised}
 use Rattle.type_walks.specs.declared.replacing.Realisation.{Realisation}
-use Rattle.type_walks.specs.Replaced.{put_by, rows_of}
 use Rattle.sml_modules.specs.declared.id.EnvId.{EnvId}
 use Rattle.sml_modules.specs.Graphs.{Graph, env_at, HasEnv, GivesEnv}
 use Rattle.static_semantics.specs.Inferring.{Scope, ◌>>=◌, gives}
@@ -19,7 +18,6 @@ use Rattle.type_phrases.specs.Inferred.{Answers}
 use Rattle.structure_matching.specs.declared.matching.Matched.{Matched}
 use Rattle.structure_matching.specs.Searching.{at_of}
 use Rattle.structure_matching.specs.Enriching.{Enriches}
-use Rattle.structure_matching.specs.Matches.{StaysGraph}
 
 -- the first walk fails
 pub no_rows : {R : Type 0} (inner : Scope) (place : Place) (s : State) (env : Env) (sig : Signature) (f : Fault)
@@ -43,15 +41,6 @@ no_match inner place s env sig rows (fault.Diag d) read h k =
     ∙ ap (λ m. m >>= λ u. gives rows) k
 no_match inner place s env sig rows fault.NoMemory read h k = tt
 
-pub a_match : (inner : Scope) (place : Place) (s : State) (env : Env) (sig : Signature) (rows : Rows)
-    → realisation_of inner (at_of place) s env sig ≡ gives rows
-    → enriching_all inner (at_of place) s env (items_under [] (realised (of_rows rows) sig.env)) ≡ gives tt
-    → matching inner (at_of place) s env sig ≡ gives rows
-a_match inner place s env sig rows h k =
-    ap (λ m. m >>= λ rows. enriching_all inner (at_of place) s env (items_under [] (realised (of_rows rows) sig.env))
-    >>= λ u. gives rows) h
-    ∙ ap (λ m. m >>= λ u. gives rows) k
-
 -- what the second walk answers, from the root, in a graph with the realised environment
 pub from_root : (place : Place) (s : State) (r : Result (Unit {0}) Fault) (g h : Graph) (env made : EnvId)
     (path : List (List ℕ)) (specified : Env) → HasEnv g env → GivesEnv g h specified made → path ≡ []
@@ -70,33 +59,7 @@ from_root place s r g h env made path specified has k e w inner home =
     (items_under p (env_at h made))) e w)) in
     here inner (put_env s.stands (env_at g env)) home refl
 
-pub given_stays : (g h : Graph) (specified : Env) (made : EnvId) → GivesEnv g h specified made → StaysGraph g h
-given_stays g h specified made k = record { keeps = k.keeps; home = k.home; made = k.made }
-
-pub itself_stays : (g : Graph) → StaysGraph g g
-itself_stays g = record {
-  keeps = record {
-    has_env = λ id k. k;
-    env = λ id k. refl;
-    has_signature = λ id k. k;
-    signature = λ id k. refl;
-    has_functor = λ id k. k;
-    functor = λ id k. refl;
-    has_top = λ id k. k;
-    top = λ id k. refl;
-  };
-  home = refl;
-  made = refl;
-}
-
 -- ---- the environment that is matched
-
-pub matched_by : (inner : Scope) (place : Place) (s : State) (env : Env) (sig : Signature) (made : Matched) (g h : Graph)
-    → matching inner (at_of place) s env sig ≡ gives (rows_of made.by.list)
-    → GivesEnv g h (realised (put_by made.by.list) sig.env) made.env
-    → matched inner (at_of place) s env sig ≡ gives (env_at h made.env)
-matched_by inner place s env sig made g h e k =
-    ap (λ m. m >>= λ rows. gives (realised (of_rows rows) sig.env)) e ∙ ap gives (sym k.stands)
 
 pub not_matched : (inner : Scope) (place : Place) (s : State) (env : Env) (sig : Signature) (f : Fault)
     (read : Matched → Rows) (other : EnvId → Env)

@@ -5,7 +5,7 @@ use Rattle.std.proofs.lemmas.Bool.{eqb-true, eq-eqb}
 use Rattle.semantic_objects.specs.declared.node.TypeNode.{TypeNode}
 use Rattle.semantic_objects.specs.declared.node.TypeNode.TheVariants as node
 use Rattle.semantic_objects.specs.Trees.{Tree, Trees, TypeScheme, trees_of, frees, frees_any}
-use Rattle.semantic_objects.specs.Nodes.{nowhere, node_tree, trees_at, unfolded, unfolded_after, root}
+use Rattle.semantic_objects.specs.Nodes.{nowhere, node_tree, trees_at, unfolded, unfolded_after}
 use Rattle.unification.specs.Types.{Ty, Types, State, occurs, occurs_any}
 use Rattle.unification.specs.Instances.{IsMoreGeneral}
 use Rattle.unification.specs.Closing.{closed_over, closed_over_all, put_tree, put_trees}
@@ -48,9 +48,6 @@ pub record OfTo (s : State) (nodes rest : List TypeNode) : Type 0 where
   pub each : AllItems (IsOf s) trees
   pub whole : unfolded_after trees rest ≡ unfolded nodes
 
-pub of_none : (s : State) (nodes : List TypeNode) → OfTo s nodes nodes
-of_none s nodes = record { trees = []; each = tt; whole = refl }
-
 pub of_one : (s : State) (nodes rest more : List TypeNode) (x : TypeNode) (is : Bool) → OfTo s nodes rest
     → rest ≡ x ∷ more → IsNodeOf s x is → is ≡ true → OfTo s nodes more
 of_one s nodes rest more x is r at h e = record {
@@ -58,11 +55,6 @@ of_one s nodes rest more x is r at h e = record {
   each = all_more s r.trees (node_tree r.trees x) r.each (node_of s r.trees x is r.each h e);
   whole = sym (ap (unfolded_after r.trees) at) ∙ r.whole;
 }
-
-pub of_all : (s : State) (nodes rest : List TypeNode) → OfTo s nodes rest → rest ≡ [] → IsOf s (root nodes)
-of_all s nodes rest r e =
-    let same : r.trees ≡ unfolded nodes = sym (ap (unfolded_after r.trees) e) ∙ r.whole in
-    at_of s (unfolded nodes) _ (subst (AllItems (IsOf s)) same r.each)
 
 -- ---- types without variables of a table
 

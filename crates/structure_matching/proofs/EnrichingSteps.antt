@@ -1,6 +1,6 @@
 -- The walk over what is specified, item by item.
 use Rattle.std.proofs.Common.{◌≡◌, ℕ, refl, sym, ap, ap₂, ◌∙◌, subst, List, [], ◌∷◌, ◌++◌, Option, Some, None, Bool, true, false, not, eqb}
-use Rattle.std.proofs.lemmas.Bool.{eq-eqb, ne_eqb}
+use Rattle.std.proofs.lemmas.Bool.{eq-eqb}
 use Rattle.std.specs.Prelude.{Ok, Err}
 use Rattle.std.specs.Option.{option_map}
 use Rattle.std.specs.List.{join_with_byte}
@@ -8,18 +8,16 @@ use Rattle.cm_base.specs.declared.diag.Place.{Place}
 use Rattle.cm_base.specs.declared.fault.Fault.{Fault}
 use Rattle.cm_base.specs.declared.fault.Fault.TheVariants as fault
 use Rattle.semantic_objects.specs.declared.entry.TypeStr.{TypeStr}
-use Rattle.semantic_objects.specs.declared.entry.ValueEntry.{ValueEntry}
 use Rattle.semantic_objects.specs.Environments.{Env, types}
 use Rattle.unification.specs.Types.{State}
 use Rattle.env_parts.specs.declared.facts.Facts.{Facts}
-use Rattle.env_parts.specs.Types.{facts_of, type_types}
-use Rattle.sml_modules.specs.Items.{Item as Node, at, as_type, as_value, item_facts}
+use Rattle.sml_modules.specs.Items.{Item as Node, at, as_type, item_facts}
 use Rattle.static_semantics.specs.Inferring.{Scope, Answer, ◌>>=◌, gives, diag_at, refuses_where, found_at}
 use Rattle.static_semantics.specs.Holding.{AllItems}
-use Rattle.module_semantics.specs.Matching.{Item, present, misfits_where, fits_type, fits_value, enriching_item, enriching_all}
+use Rattle.module_semantics.specs.Matching.{Item, present, misfits_where, fits_type, enriching_item, enriching_all}
 use Rattle.structure_matching.specs.declared.parts.Component.{Component}
 use Rattle.structure_matching.specs.Searching.{at_of, known_type, of_components, FindsType, type_of_component}
-use Rattle.structure_matching.specs.Enriching.{known_value, FindsValue, value_of_component, Enriches}
+use Rattle.structure_matching.specs.Enriching.{Enriches}
 use Rattle.structure_matching.proofs.RealisingSteps.{goes_on, stops, type_known}
 
 -- ---- items one after the other
@@ -61,10 +59,6 @@ pub record EnrichedTo (place : Place) (s : State) (Finds : Env → Component →
       → enriching_all inner (at_of place) s root (of_components items_of all)
       ≡ enriching_all inner (at_of place) s root (of_components items_of rest)
 
-pub enriched_none : (place : Place) (s : State) (Finds : Env → Component → Type 0) (items_of : Component → List Item)
-    (all : List Component) → EnrichedTo place s Finds items_of all all
-enriched_none place s Finds items_of all = record { finds = λ root f. f; whole = λ inner root e f. refl }
-
 after : (place : Place) (s : State) (Finds : Env → Component → Type 0) (items_of : Component → List Item)
     (all rest more : List Component) (c : Component) → EnrichedTo place s Finds items_of all rest → rest ≡ c ∷ more
     → (root : Env) → AllItems (Finds root) all → Finds root c × AllItems (Finds root) more
@@ -104,13 +98,6 @@ enriched_stop place s Finds items_of all rest more c (fault.Diag d) r at h inner
     (h inner root home (after place s Finds items_of all rest more c r at root f).0)
 enriched_stop place s Finds items_of all rest more c fault.NoMemory r at h inner root home f = tt
 
-pub enriched_all : (place : Place) (s : State) (Finds : Env → Component → Type 0) (items_of : Component → List Item)
-    (all rest : List Component) → EnrichedTo place s Finds items_of all rest → rest ≡ []
-    → Enriches place s (Ok tt) (λ root. AllItems (Finds root) all) (of_components items_of all)
-enriched_all place s Finds items_of all rest r at inner root home f =
-    r.whole inner root home f
-    ∙ ap (λ cs. enriching_all inner (at_of place) s root (of_components items_of cs)) at
-
 -- ---- a type
 
 -- one that is found is this one
@@ -138,22 +125,6 @@ known_found : (items : List Node) (path : List (List ℕ)) (s : State) (root : E
 known_found items path s root c p found facts e f g h k =
     k ∙ ap (option_map (known_type items s)) e ∙ ap Some (type_known items s p found facts f g h)
 
-pub facts_closed : (items : List Node) (p : ℕ) (str : TypeStr) (facts : Facts) → at items p ≡ Node.TypeItem str
-    → facts ≡ item_facts (at items p) → facts.has_free ≡ false → (facts_of (type_types str)).has_free ≡ false
-facts_closed items p str facts e f h = sym (ap (λ (z : Facts). z.has_free) (f ∙ ap item_facts e)) ∙ h
-
-pub type_arity : (inner : Scope) (place : Place) (s : State) (root : Env) (items : List Node) (path : List (List ℕ))
-    (c : Component) (p : ℕ) (want found : TypeStr) (facts : Facts) → at items c.specified ≡ Node.TypeItem want
-    → c.found ≡ Some p → at items p ≡ Node.TypeItem found → facts ≡ item_facts (at items p) → facts.has_free ≡ false
-    → (found.function.arity ≡ want.function.arity → ⊥) → FindsType items path s root c
-    → enriching_all inner (at_of place) s root (type_of_component items path c)
-    ≡ Some (Err (diag_at 35 inner (at_of place) []))
-type_arity inner place s root items path c p want found facts e f g h k d finds =
-    type_found inner place s root (path_of path c) (at items c.specified) want found (Some found) true
-    (not (fits_type want found)) e refl
-    (sym (ap not (ne_eqb want.function.arity found.function.arity (λ z. d (sym z))))) refl
-    (known_found items path s root c p found facts f g h k finds)
-
 pub type_misfit : (inner : Scope) (place : Place) (s : State) (root : Env) (items : List Node) (path : List (List ℕ))
     (c : Component) (p : ℕ) (want found : TypeStr) (facts : Facts) (b : Bool)
     → at items c.specified ≡ Node.TypeItem want
@@ -180,37 +151,3 @@ type_fits inner place s root items path c p want found facts b e f g h k a i j f
     (sym (ap not (sym i ∙ j))) (known_found items path s root c p found facts f g h k finds)
 
 -- ---- a value
-
-value_found : (inner : Scope) (place : Place) (s : State) (root : Env) (items : List Node) (path : List (List ℕ))
-    (c : Component) (p : ℕ) (want found : ValueEntry) (b : Bool) → at items c.specified ≡ Node.ValueItem want
-    → c.found ≡ Some p → at items p ≡ Node.ValueItem found
-    → b ≡ fits_value s want (known_value (Node.ValueItem found ∷ []) s 0) → FindsValue items path s root c
-    → enriching_all inner (at_of place) s root (value_of_component items path c)
-    ≡ misfits_where (not b) inner (at_of place) (path_of path c)
-value_found inner place s root items path c p want found b e f g h finds =
-    last_item inner place s root (enriching_item inner (at_of place) s root
-    (Item.ValueItem (path_of path c) (as_value (at items c.specified))))
-    ∙ ap₂ (λ (x : Node) (z : Option ValueEntry). present inner (at_of place) (path_of path c) z
-    >>= λ y. misfits_where (not (fits_value s (as_value x) y)) inner (at_of place) (path_of path c)) e
-    (finds ∙ ap (option_map (known_value items s)) f
-    ∙ ap (λ x. Some (known_value (x ∷ []) s 0)) g)
-    ∙ ap (λ z. misfits_where (not z) inner (at_of place) (path_of path c)) (sym h)
-
-pub value_misfit : (inner : Scope) (place : Place) (s : State) (root : Env) (items : List Node) (path : List (List ℕ))
-    (c : Component) (p : ℕ) (want found : ValueEntry) (b : Bool) → at items c.specified ≡ Node.ValueItem want
-    → c.found ≡ Some p → at items p ≡ Node.ValueItem found
-    → b ≡ fits_value s want (known_value (Node.ValueItem found ∷ []) s 0) → b ≡ false → FindsValue items path s root c
-    → enriching_all inner (at_of place) s root (value_of_component items path c)
-    ≡ Some (Err (diag_at 37 inner (at_of place) (join_with_byte 46 (path_of path c) ∷ [])))
-value_misfit inner place s root items path c p want found b e f g h i finds =
-    value_found inner place s root items path c p want found b e f g h finds
-    ∙ ap (λ z. misfits_where (not z) inner (at_of place) (path_of path c)) i
-
-pub value_fits : (inner : Scope) (place : Place) (s : State) (root : Env) (items : List Node) (path : List (List ℕ))
-    (c : Component) (p : ℕ) (want found : ValueEntry) (b : Bool) → at items c.specified ≡ Node.ValueItem want
-    → c.found ≡ Some p → at items p ≡ Node.ValueItem found
-    → b ≡ fits_value s want (known_value (Node.ValueItem found ∷ []) s 0) → b ≡ true → FindsValue items path s root c
-    → enriching_all inner (at_of place) s root (value_of_component items path c) ≡ gives tt
-value_fits inner place s root items path c p want found b e f g h i finds =
-    value_found inner place s root items path c p want found b e f g h finds
-    ∙ ap (λ z. misfits_where (not z) inner (at_of place) (path_of path c)) i

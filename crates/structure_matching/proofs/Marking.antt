@@ -1,13 +1,12 @@
 -- Which types of nodes admit equality, from what is known of earlier nodes.
-use Rattle.std.proofs.Common.{◌≡◌, ℕ, suc, ◌-◌, ◌+◌, ◌<◌, refl, sym, ap, ap₂, ◌∙◌, List, [], ◌∷◌, ◌++◌, length, map, get_or, Bool, true, false, ◌&&◌, Some, slice_get, arith}
-use Rattle.std.proofs.lemmas.List.{map-append}
+use Rattle.std.proofs.Common.{◌≡◌, ℕ, suc, ◌-◌, ◌+◌, ◌<◌, refl, sym, ap, ◌∙◌, List, [], ◌∷◌, ◌++◌, length, map, get_or, Bool, true, false, ◌&&◌, Some, slice_get, arith}
 use Rattle.semantic_objects.specs.declared.node.TypeNode.{TypeNode}
 use Rattle.semantic_objects.specs.Trees.{Tree}
-use Rattle.semantic_objects.specs.Nodes.{nowhere, node_tree, unfolded, unfolded_after, root}
+use Rattle.semantic_objects.specs.Nodes.{nowhere, unfolded, unfolded_after, root}
 use Rattle.semantic_objects.proofs.Unfolding.{trees_of_nodes}
 use Rattle.env_parts.proofs.Facting.{get_or_map}
 use Rattle.unification.specs.Types.{Marks}
-use Rattle.structure_matching.specs.Admitting.{admits, Knows, parts_admit, NodeAdmits}
+use Rattle.structure_matching.specs.Admitting.{admits, Knows, parts_admit}
 use Rattle.structure_matching.proofs.Listing.{got_map, last_got}
 
 mark_at : (trees : List Tree) (marked : List Bool) (p : ℕ) (m : Bool) → Knows trees marked → slice_get marked p ≡ Some m
@@ -34,29 +33,11 @@ pub ends : (m b c : Bool) → m ≡ false → (m && b) ≡ c → false ≡ c
 ends true b c h e = absurd (cc)
 ends false b c h e = e
 
-pub no_parts : (trees : List Tree) (all rest : List ℕ) (q : Marks) → rest ≡ []
-    → parts_admit q trees rest ≡ parts_admit q trees all → true ≡ parts_admit q trees all
-no_parts trees all rest q e h = sym (ap (parts_admit q trees) e) ∙ h
-
 -- what is known before the rest of some nodes
 pub record ReadsTo (nodes rest : List TypeNode) (marked : List Bool) : Type 0 where
   pub trees : List Tree
   pub known : Knows trees marked
   pub whole : unfolded_after trees rest ≡ unfolded nodes
-
-pub reads_none : (nodes rest : List TypeNode) (marked : List Bool) → marked ≡ [] → rest ≡ nodes
-    → ReadsTo nodes rest marked
-reads_none nodes rest marked e f = record { trees = []; known = λ q. sym e; whole = ap (unfolded_after []) f }
-
-pub reads_one : (nodes rest more : List TypeNode) (x : TypeNode) (marked new : List Bool) (m : Bool)
-    → ReadsTo nodes rest marked → rest ≡ x ∷ more → NodeAdmits marked x m → new ≡ marked ++ m ∷ []
-    → ReadsTo nodes more new
-reads_one nodes rest more x marked new m r at h e = record {
-  trees = r.trees ++ node_tree r.trees x ∷ [];
-  known = λ q. map-append (admits q) r.trees (node_tree r.trees x ∷ [])
-      ∙ ap₂ (λ xs b. xs ++ b ∷ []) (r.known q) (sym (h r.trees r.known q)) ∙ sym e;
-  whole = sym (ap (unfolded_after r.trees) at) ∙ r.whole;
-}
 
 pub reads_all : (nodes rest : List TypeNode) (marked front : List Bool) (m : Bool) → ReadsTo nodes rest marked
     → rest ≡ [] → marked ≡ front ++ m ∷ [] → 0 < length nodes → (q : Marks) → m ≡ admits q (root nodes)

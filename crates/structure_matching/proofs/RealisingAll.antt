@@ -1,6 +1,6 @@
 -- The walk for a realisation from the root of a signature.
-use Rattle.std.proofs.Common.{◌≡◌, refl, sym, ap, ◌∙◌, subst, List, [], Some, Bool, true, false}
-use Rattle.std.specs.Prelude.{Result, Ok, Err}
+use Rattle.std.proofs.Common.{◌≡◌, refl, sym, ap, ◌∙◌, subst, List, [], Some}
+use Rattle.std.specs.Prelude.{Result, Err}
 use Rattle.std.specs.List.{list_any}
 use Rattle.cm_base.specs.declared.diag.Place.{Place}
 use Rattle.cm_base.specs.declared.fault.Fault.{Fault}
@@ -9,7 +9,7 @@ use Rattle.semantic_objects.specs.declared.name.TyName.{TyName}
 use Rattle.semantic_objects.specs.Environments.{Env, Signature}
 use Rattle.unification.specs.Types.{State}
 use Rattle.type_walks.specs.Replaced.{rows_of}
-use Rattle.static_semantics.specs.Inferring.{Scope, Answer, ◌>>=◌, gives, diag_at, refuses_where}
+use Rattle.static_semantics.specs.Inferring.{Scope, Answer, ◌>>=◌, gives, refuses_where}
 use Rattle.static_semantics.specs.EnvironmentsPut.{put_env}
 use Rattle.module_semantics.specs.Matching.{Rows, items_under, realising_all, is_left, realisation_of}
 use Rattle.core_scopes.specs.Paths.{led_on}
@@ -54,36 +54,3 @@ search_fails place old new found sig names (fault.Diag d) read b e w inner s hom
     ∙ ap (λ m. m >>= λ rows. refuses_where (list_any (is_left rows) sig.bound) 37 inner (at_of place) >>= λ u. gives rows)
     (from_root place old new (Err (fault.Diag d)) found sig.env names b w inner s home)
 search_fails place old new found sig names fault.NoMemory read b e w inner s home = tt
-
-searched : (place : Place) (old new : Search) (found : Env) (sig : Signature) (names others : List TyName) (left : Bool)
-    → Begins names old → names ≡ sig.bound → others ≡ sig.bound
-    → WalksRoot place old new (Ok tt) found sig.env
-    → left ≡ list_any (is_left (rows_of new.rows)) others → (inner : Scope) (s : State) → inner.home ≡ place.file
-    → realisation_of inner (at_of place) s (put_env s.stands found) sig
-    ≡ (refuses_where left 37 inner (at_of place) >>= λ u. gives (rows_of new.rows))
-searched place old new found sig names others left b e f w h inner s home =
-    bound_is sig names inner place s (put_env s.stands found) e
-    ∙ ap (λ m. m >>= λ rows. refuses_where (list_any (is_left rows) sig.bound) 37 inner (at_of place) >>= λ u. gives rows)
-    (from_root place old new (Ok tt) found sig.env names b w inner s home)
-    ∙ ap (λ z. refuses_where z 37 inner (at_of place) >>= λ u. gives (rows_of new.rows))
-    (sym (h ∙ ap (list_any (is_left (rows_of new.rows))) f))
-
-pub search_left : (place : Place) (old new : Search) (found : Env) (sig : Signature) (names others : List TyName)
-    (left : Bool) → Begins names old → names ≡ sig.bound → others ≡ sig.bound
-    → WalksRoot place old new (Ok tt) found sig.env
-    → left ≡ list_any (is_left (rows_of new.rows)) others → left ≡ true → (inner : Scope) (s : State)
-    → inner.home ≡ place.file
-    → realisation_of inner (at_of place) s (put_env s.stands found) sig ≡ Some (Err (diag_at 37 inner (at_of place) []))
-search_left place old new found sig names others left b e f w h k inner s home =
-    searched place old new found sig names others left b e f w h inner s home
-    ∙ ap (λ z. refuses_where z 37 inner (at_of place) >>= λ u. gives (rows_of new.rows)) k
-
-pub search_ends : (place : Place) (old new : Search) (found : Env) (sig : Signature) (names others : List TyName)
-    (left : Bool) → Begins names old → names ≡ sig.bound → others ≡ sig.bound
-    → WalksRoot place old new (Ok tt) found sig.env
-    → left ≡ list_any (is_left (rows_of new.rows)) others → left ≡ false → (inner : Scope) (s : State)
-    → inner.home ≡ place.file
-    → realisation_of inner (at_of place) s (put_env s.stands found) sig ≡ gives (rows_of new.rows)
-search_ends place old new found sig names others left b e f w h k inner s home =
-    searched place old new found sig names others left b e f w h inner s home
-    ∙ ap (λ z. refuses_where z 37 inner (at_of place) >>= λ u. gives (rows_of new.rows)) k

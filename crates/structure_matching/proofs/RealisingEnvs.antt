@@ -116,14 +116,6 @@ structure_fails place old inside new last items c found pair (fault.Diag d) e is
     ∙ entered place old inside new (Err (fault.Diag d)) items c found pair is h w inner s root home led.1
 structure_fails place old inside new last items c found pair fault.NoMemory e is h w inner s root home k = tt
 
-pub structure_left : (old inside new last : Search) (name : List ℕ) → Enters old inside name → Continues inside new
-    → Leaves new last → Continues old last
-structure_left old inside new last name h k l = record {
-  path = l.path old.path name (k.path ∙ h.path);
-  bound = l.bound ∙ k.bound ∙ h.bound;
-  search = l.search;
-}
-
 -- ---- an environment
 
 values_pass : (inner : Scope) (place : Place) (s : State) (root : Env) (bound : List TyName) (path : List (List ℕ))

@@ -30,7 +30,7 @@ use Rattle.env_parts.specs.declared.facts.Facts.{Facts}
 use Rattle.env_parts.specs.Types.{holds_free, any_holds_free, facts_of, con_types, type_types}
 use Rattle.sml_modules.specs.Items.{item_facts}
 use Rattle.static_semantics.specs.EnvironmentsPut.{put_con, put_type}
-use Rattle.structure_matching.specs.Searching.{known_type, at_of, IsSearch, Continues, Realises, of_components}
+use Rattle.structure_matching.specs.Searching.{known_type, at_of, Continues, Realises, of_components}
 
 -- ---- answers
 
@@ -95,15 +95,6 @@ pub record RealisedTo (place : Place) (first now : Search) (Finds : State → En
       → realising_all inner (at_of place) s root first.bound.names (of_components items_of all) (rows_of first.rows)
       ≡ realising_all inner (at_of place) s root first.bound.names (of_components items_of rest) (rows_of now.rows)
 
-pub realised_none : (place : Place) (first : Search) (Finds : State → Env → Component → Type 0)
-    (items_of : Component → List Item) (all : List Component) → IsSearch first
-    → RealisedTo place first first Finds items_of all all
-realised_none place first Finds items_of all h = record {
-  continues = record { path = refl; bound = refl; search = h };
-  finds = λ s root f. f;
-  whole = λ inner s root e f. refl;
-}
-
 -- what is left after one of them
 after : (place : Place) (first now : Search) (Finds : State → Env → Component → Type 0)
     (items_of : Component → List Item) (all rest more : List Component) (c : Component)
@@ -156,14 +147,6 @@ realised_stop place first now new last Finds items_of all rest more c (fault.Dia
     (ap (λ names. realising_all inner (at_of place) s root names (items_of c) (rows_of now.rows)) (sym r.continues.bound)
     ∙ h inner s root home (after place first now Finds items_of all rest more c r at s root f).0)
 realised_stop place first now new last Finds items_of all rest more c fault.NoMemory r at h inner s root home f = tt
-
-pub realised_all : (place : Place) (first now : Search) (Finds : State → Env → Component → Type 0)
-    (items_of : Component → List Item) (all rest : List Component)
-    → RealisedTo place first now Finds items_of all rest → rest ≡ []
-    → Realises place first now (Ok tt) (λ s root. AllItems (Finds s root) all) (of_components items_of all)
-realised_all place first now Finds items_of all rest r at inner s root home f =
-    r.whole inner s root home f
-    ∙ ap (λ cs. realising_all inner (at_of place) s root first.bound.names (of_components items_of cs) (rows_of now.rows)) at
 
 -- ---- a type
 

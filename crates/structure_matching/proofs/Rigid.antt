@@ -1,6 +1,5 @@
 -- Rigid variables that are made one after the other, and types that are made of them.
-use Rattle.std.proofs.Common.{◌≡◌, ℕ, zero, suc, ◌+◌, ◌<◌, sym, ap, ap₂, ◌∙◌, subst, List, [], ◌∷◌, ◌++◌, length, map, Bool, true, false, eqb, cond, arith, take, length-append}
-use Rattle.std.proofs.Math.Seq.{take-length}
+use Rattle.std.proofs.Common.{◌≡◌, ℕ, zero, suc, ◌+◌, ◌<◌, sym, ap, ap₂, ◌∙◌, subst, List, [], ◌∷◌, ◌++◌, length, map, Bool, true, false, eqb, cond, arith, length-append}
 use Rattle.std.proofs.lemmas.Bool.{eqb-false, eqb-true, eq-eqb, ne_eqb}
 use Rattle.std.proofs.lemmas.List.{map-append}
 use Rattle.semantic_objects.specs.declared.name.TyId.{TyId}
@@ -10,12 +9,11 @@ use Rattle.unification.specs.Types.{Ty, State}
 use Rattle.unification.specs.Instances.{with_variable}
 use Rattle.unification.proofs.Walking.{either_way}
 use Rattle.type_nodes.specs.declared.node.Birth.{Birth}
-use Rattle.type_nodes.specs.Tables.{Table, Has, IsFrontOf, state, type_of, with_variable_of}
+use Rattle.type_nodes.specs.Tables.{Table, Has, state, type_of, with_variable_of}
 use Rattle.type_nodes.specs.Keeping.{IsKept}
 use Rattle.type_schemes.specs.Instances.{Extends}
 use Rattle.type_schemes.specs.Schemes.{HaveAll}
 use Rattle.type_functions.specs.Applied.{with_types}
-use Rattle.sml_types.specs.Unifying.{Grown}
 use Rattle.env_parts.specs.Types.{holds_free}
 use Rattle.static_semantics.specs.DatatypeInference.{counted}
 use Rattle.type_phrases.specs.Inferred.{KeepsTypes}
@@ -71,13 +69,6 @@ one_rigid first count next t new ids more made b r k is grown st e add at =
   where
     below : (n m : ℕ) → n < m + 1 → (n ≡ m → ⊥) → n < m
     below n m h d = omega (arith, h, d)
-
-pub grown_front : (a b : Table) → Grown a b → IsFrontOf a b
-grown_front a b h = record {
-  births = ap (take (length a.births)) h.births ∙ take-length a.births;
-  nodes = ap (take (length a.nodes)) h.nodes ∙ take-length a.nodes;
-  trail = h.front;
-}
 
 -- two types in a table in which they were made, one after the other
 pub are_two : (first count : ℕ) (t this_t that_t : Table) (args : List TyId) (this that : TyId) (x y : Tree)
