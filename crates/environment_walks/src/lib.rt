@@ -10,5 +10,6 @@ mod steps;
 pub use changing::{TypeChanges, change_env};
 pub use places::Images;
 pub use realising::realise;
+pub use rows::mapped_rows;
 pub use steps::{Step, enter_all, enter_rows};
 pub use type_walks::{Realisation, Replace};
