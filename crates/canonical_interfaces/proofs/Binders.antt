@@ -77,7 +77,8 @@ signature_written own k sig f r =
       bound = sym (met_of_renamed is_bound_name is_bound_name h xs (names_in_env (canonical_env h sig.env)) names
           (λ n l. same_bound h keeps n) (apart_by is_bound_name xs 0 h by));
       numbered = numbered_by is_bound_name xs 0 h by;
-      agree = bound_agree h xs (names_in_env (canonical_env h sig.env)) keeps names (same_number is_bound_name xs 0 h by);
+      agree = bound_agree h xs (names_in_env (canonical_env h sig.env)) keeps names
+          (same_number is_bound_name xs 0 h by);
       counted = counted_map h (met is_bound_name xs) f.counted;
     }
 

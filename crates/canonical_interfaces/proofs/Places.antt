@@ -47,7 +47,8 @@ place_front i (v ∷ vs) rest h = either_way (eqb i v)
     (λ e. ap (λ b. cond b zero (suc (place_of i (vs ++ rest)))) e
     ∙ sym (ap (λ b. cond b zero (suc (place_of i vs))) e))
     (λ e. ap (λ b. cond b zero (suc (place_of i (vs ++ rest)))) e
-    ∙ ap suc (place_front i vs rest (or_either (eqb i v) (is_among i vs) h (λ k. absurd (not_both (eqb i v) e k)) (λ k. k)))
+    ∙ ap suc (place_front i vs rest
+    (or_either (eqb i v) (is_among i vs) h (λ k. absurd (not_both (eqb i v) e k)) (λ k. k)))
     ∙ sym (ap (λ b. cond b zero (suc (place_of i vs))) e))
 
 place_new : (i : ℕ) (vs rest : List ℕ) → is_among i vs ≡ false → place_of i (vs ++ i ∷ rest) ≡ length vs
@@ -189,7 +190,8 @@ places_rise (x ∷ xs) h = ap₂ (λ y ys. y ∷ ys)
 shifted : (first n : ℕ) → (a : ℕ) → map (λ i. first + i) (range_with_len a n) ≡ range_with_len (first + a) n
 shifted first zero a = refl
 shifted first (suc n) a = ap (λ z. (first + a) ∷ z)
-    (shifted first n (a + 1) ∙ ap (λ z. range_with_len z n) (let k : first + (a + 1) ≡ (first + a) + 1 = omega arith in k))
+    (shifted first n (a + 1)
+    ∙ ap (λ z. range_with_len z n) (let k : first + (a + 1) ≡ (first + a) + 1 = omega arith in k))
 
 map_shift : (f : TyName → ℕ) (first : ℕ) (xs : List TyName)
     → map (λ n. first + f n) xs ≡ map (λ i. first + i) (map f xs)

@@ -1,6 +1,6 @@
 -- Which tops have a canonical form that can be written: what is asked of a top before its names and variables are
--- numbered. No number of a name of the unit, of a bound name or of a variable of a scheme is asked for, and no agreement
--- of such names on arity and equality, since the form gives each of them a number of its own.
+-- numbered. No number of a name of the unit, of a bound name or of a variable of a scheme is asked for, and no
+-- agreement of such names on arity and equality, since the form gives each of them a number of its own.
 use Rattle.std.specs.Prelude.{◌≡◌, ℕ, ◌+◌, ◌<◌, ◌≤◌, ◌^◌, List, [], length, map, filter, All, Bool, true, not, ◌&&◌}
 use Rattle.semantic_objects.specs.declared.name.TyName.{TyName}
 use Rattle.semantic_objects.specs.declared.symbol.Symbol.{Symbol}
@@ -100,8 +100,8 @@ pub record IsFairSignature (sig : Signature) : Type 0 where
   pub env : IsFairEnv sig.env
   pub counted : IsNumber (length (met is_bound_name (names_in_env sig.env)))
 
--- the functor binds the bound names of its parameter, and those of them that stand in its result stand in its parameter.
--- All bound names can be counted together
+-- the functor binds the bound names of its parameter, and those of them that stand in its result stand in its
+-- parameter. All bound names can be counted together
 pub record IsFairFunctor (fun : Functor) : Type 0 where
   pub param : IsFairEnv fun.param
   pub result : IsFairEnv fun.result

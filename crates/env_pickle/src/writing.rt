@@ -44,8 +44,8 @@ pub fn write_interface(
     }
 }
 
-/// The interface of the unit `home` that defines what stands at the top, with the numbers of names and variables as they
-/// stand: 12 at the unit where it has more bytes than it may.
+/// The interface of the unit `home` that defines what stands at the top, with the numbers of names and variables as
+/// they stand: 12 at the unit where it has more bytes than it may.
 pub fn write_top(graph: &EnvGraph, top: TopId, home: &Text) -> Result<Text, Fault>
     requires { HasTop graph.now top }
     ensures { WritesInterface home.now (top_at graph.now top) result }

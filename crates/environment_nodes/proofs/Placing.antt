@@ -5,7 +5,7 @@ use Rattle.node_bytes.specs.Nodes.{Node}
 use Rattle.node_tables.specs.Tables.{Adds}
 use Rattle.semantic_objects.specs.declared.entry.VidStatus.{VidStatus}
 use Rattle.semantic_objects.specs.Tables.{Table}
-use Rattle.semantic_objects.specs.Environments.{Env, structures_of, table_of}
+use Rattle.semantic_objects.specs.Environments.{structures, structures_of, table_of}
 use Rattle.env_parts.specs.declared.tables.EnvTables.{EnvTables}
 use Rattle.env_parts.specs.declared.tables.TopTables.{TopTables}
 use Rattle.sml_modules.specs.Items.{Item, at, as_type, as_value, as_env, as_signature, as_functor, IsType, IsValue, IsEnv, IsSignature, IsFunctor, map_rows}
@@ -144,7 +144,8 @@ rows_written home items nodes places (r ∷ rs) (m ∷ ms) h e =
 -- ---- rows of values
 
 value_is : (items : List Item) (places : NodePlaces) (r : List ℕ × ℕ) (m : ValuePlace) (rs : Table ℕ)
-    (ms : List ValuePlace) → ValuesArePlaced items places (r ∷ rs) (m ∷ ms) → value_asked items places r ≡ value_answered m
+    (ms : List ValuePlace) → ValuesArePlaced items places (r ∷ rs) (m ∷ ms)
+    → value_asked items places r ≡ value_answered m
 value_is items places r m rs ms h = cons_head (value_asked items places r) (value_answered m)
     (map (value_asked items places) rs) (map value_answered ms) h
 
@@ -247,14 +248,17 @@ pub top_added : (items : List Item) (places : NodePlaces) (old new : List Node) 
     → Adds old new (unit_node (rows_at old ss) (rows_at old sigs) (rows_at old funs) (rows_at old funsigs)) place
     → AddsOver items places old new (λ home. top_node home (top_of_tables items t)) place
 top_added items places old new t env ss sigs funs funsigs place a r s u f g h home w =
-    let one : rows_at old ss ≡ rows_by (env_node home) (Rattle.semantic_objects.specs.Environments.structures (as_env (at items t.env))) =
+    let one : rows_at old ss ≡ rows_by (env_node home) (structures (as_env (at items t.env))) =
     rows_written home items old places env.structures ss w s ∙ tops_are home items env.structures r.are.structures
-    ∙ ap (λ e. rows_by (env_node home) (Rattle.semantic_objects.specs.Environments.structures e)) (sym r.is) in
-    let two = rows_written home items old places t.signatures sigs w u ∙ signatures_are home items t.signatures a.signatures in
-    let three = rows_written home items old places t.functors funs w f ∙ functors_are home items t.functors a.functors in
-    let four = rows_written home items old places t.funsigs funsigs w g ∙ functors_are home items t.funsigs a.funsigs in
+    ∙ ap (λ e. rows_by (env_node home) (structures e)) (sym r.is) in
+    let two = rows_written home items old places t.signatures sigs w u
+    ∙ signatures_are home items t.signatures a.signatures in
+    let three = rows_written home items old places t.functors funs w f
+    ∙ functors_are home items t.functors a.functors in
+    let four = rows_written home items old places t.funsigs funsigs w g
+    ∙ functors_are home items t.funsigs a.funsigs in
     subst (λ z. Adds old new z place)
     (ap₂ (λ x y. unit_node x y (rows_at old funs) (rows_at old funsigs)) one two
     ∙ ap₂ (unit_node
-    (rows_by (env_node home) (Rattle.semantic_objects.specs.Environments.structures (as_env (at items t.env))))
+    (rows_by (env_node home) (structures (as_env (at items t.env))))
     (rows_by (node_of_signature home) (map_rows (λ p. as_signature (at items p)) t.signatures))) three four) h

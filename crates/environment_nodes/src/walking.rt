@@ -196,8 +196,8 @@ pub fn add_functor(
     add_place(graph, table, home, fun.place)
 }
 
-/// Adds a unit with all that it defines, in the interface of `home`: its structures, signatures, functors and signatures
-/// of functors. What of the graph stands in several of them is gone through once.
+/// Adds a unit with all that it defines, in the interface of `home`: its structures, signatures, functors and
+/// signatures of functors. What of the graph stands in several of them is gone through once.
 pub fn add_top(
     graph: &EnvGraph,
     table: &mut NodeTable,
