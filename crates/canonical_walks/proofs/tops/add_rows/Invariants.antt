@@ -1,4 +1,4 @@
-use Rattle.std.proofs.Common.{◌≡◌, ◌++◌, drop}
+use Rattle.std.proofs.Common.{◌≡◌, ◌++◌, drop, map}
 use Rattle.std.specs.List.{flat_map}
 use Rattle.sml_modules.specs.Items.{at}
 use Rattle.name_walks.specs.Places.{HasAll, names_in_all}
@@ -9,6 +9,7 @@ abbrev pub invariant-loop-place : goal.invariant-loop-place
 invariant-loop-place l = record {
   there : HasAll l.fn.graph l.fn.envs → HasAll l.fn.graph l.envs;
   are : names_in_all l.fn.graph l.envs
-      ++ flat_map (λ p. binder_names (at l.fn.graph.items p)) (drop l.place-index l.places)
-      ≡ names_in_all l.fn.graph l.fn.envs ++ flat_map (λ p. binder_names (at l.fn.graph.items p)) l.places;
+      ++ flat_map (λ p. binder_names (at l.fn.graph.items p)) (drop l.place-index (map (λ row. row.1) l.fn.rows))
+      ≡ names_in_all l.fn.graph l.fn.envs
+      ++ flat_map (λ p. binder_names (at l.fn.graph.items p)) (map (λ row. row.1) l.fn.rows);
 }
