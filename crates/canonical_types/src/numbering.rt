@@ -67,11 +67,7 @@ impl Numbering {
     }
 
     /// Some names with their numbers.
-    pub fn renamed_all(
-        &self,
-        alloc: Global,
-        names: &List<TyName>,
-    ) -> Result<List<TyName>, NoMemory>
+    pub fn renamed_all(&self, alloc: Global, names: &List<TyName>) -> Result<List<TyName>, NoMemory>
         ensures { IfOk result (λ made. made ≡ map (by_order self.now) names.now) }
     {
         let mut made = List::new(alloc);
@@ -94,11 +90,7 @@ fn is_own(name: &TyName, home: &Text) -> bool
 }
 
 /// Those of some names that a unit owns.
-pub fn own_names(
-    alloc: Global,
-    names: &List<TyName>,
-    home: &Text,
-) -> Result<List<TyName>, NoMemory>
+pub fn own_names(alloc: Global, names: &List<TyName>, home: &Text) -> Result<List<TyName>, NoMemory>
     ensures { IfOk result (λ own. own ≡ filter (is_own home.now) names.now) }
 {
     let mut own = List::new(alloc);
@@ -161,8 +153,10 @@ pub fn functor_names(
     names: &List<TyName>,
     bound: &List<TyName>,
 ) -> Result<FunctorNames, NoMemory>
-    ensures of_param { IfOk result (λ made. made.of_param ≡ filter (is_of bound.now true) (filter is_bound_name names.now)) }
-    ensures further { IfOk result (λ made. made.further ≡ filter (is_of bound.now false) (filter is_bound_name names.now)) }
+    ensures of_param { IfOk result (λ made.
+        made.of_param ≡ filter (is_of bound.now true) (filter is_bound_name names.now)) }
+    ensures further { IfOk result (λ made.
+        made.further ≡ filter (is_of bound.now false) (filter is_bound_name names.now)) }
 {
     let among = Numbering::new(alloc, bound)?;
     let names = bound_names(alloc, names)?;

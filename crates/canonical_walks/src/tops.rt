@@ -84,7 +84,8 @@ fn canon_tables(
     requires own { NoneBound own.now }
     requires tables { AreTopTables graph.old.items tables.now }
     ensures extends { Extends graph.old graph.new }
-    ensures made { IfOk result (MakesTop graph.new.items (canonical_by (by_order own.now) (top_of_tables graph.old.items tables.now))) }
+    ensures made { IfOk result (MakesTop graph.new.items
+        (canonical_by (by_order own.now) (top_of_tables graph.old.items tables.now))) }
 {
     let mut images = Images::new(graph.alloc());
     let env = change_env(graph, own, EnvId { place: tables.env }, &mut images)?;
@@ -113,9 +114,10 @@ fn canon_top(graph: &mut EnvGraph, top: TopId) -> Result<TopId, NoMemory>
 }
 
 /// The canonical form of a top: the names of the unit that owns the graph are numbered by first occurrence, the names
-/// that a signature or a functor binds likewise in it, and the variables of each scheme in its type. Names and variables
-/// that don't occur are gone. Whatever is shared is gone through once for the unit's names, and once for each signature
-/// and functor that it stands in.
+/// that a signature or a functor binds likewise in it, and the variables of each scheme in its type. Names and
+/// variables that don't occur are gone. What is shared is gone through once for the unit's names, and once for each
+/// signature and functor in which it stands. It refuses for want of memory alone, as which 2^64 - 1 steps count too.
+/// The Definition of Standard ML (Revised), sections 4.2 and 5.1: bound names are no more than their places.
 pub fn canon(graph: &mut EnvGraph, top: TopId) -> Result<TopId, NoMemory>
     requires { HasTop graph.old top }
     ensures ok { IfOk result (GivesTop graph.old graph.new (canonical graph.old.home (top_at graph.old top))) }
