@@ -96,7 +96,7 @@ ltb_suc a b = by_test (ltb a b) refl
     by_test true e = let k : a < b = ltb-true a b e in sym (lt-ltb (suc a) (suc b) (omega (arith, k)))
     by_test false e = let k : b ≤ a = ltb-false a b e in sym (le-ltb (suc a) (suc b) (omega (arith, k)))
 
-among_from : (count first d m : ℕ) → m ≡ first + d → is_among m (counted count first) ≡ ltb d count
+pub among_from : (count first d m : ℕ) → m ≡ first + d → is_among m (counted count first) ≡ ltb d count
 among_from zero first d m e = sym (le-ltb d 0 (omega arith))
 among_from (suc count) first zero m e =
     let k : m ≡ first = omega (arith, e) in
@@ -106,7 +106,7 @@ among_from (suc count) first (suc d) m e =
     ∙ among_from count (suc first) d m (omega (arith, e))
     ∙ ltb_suc d count
 
-place_from : (count first d m : ℕ) → m ≡ first + d → d < count → place_of m (counted count first) ≡ d
+pub place_from : (count first d m : ℕ) → m ≡ first + d → d < count → place_of m (counted count first) ≡ d
 place_from zero first d m e h = absurd (omega (arith, h))
 place_from (suc count) first zero m e h =
     let k : m ≡ first = omega (arith, e) in

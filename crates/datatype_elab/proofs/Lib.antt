@@ -1,0 +1,3 @@
+pub mod OwnTypes
+pub mod Naming
+pub mod Consing

@@ -1,0 +1,7 @@
+//! Datatypes: their names, the types of their constructors, which of them admit equality, and what they bind.
+#![tactic(auto)]
+
+mod checks;
+mod cons;
+mod names;
+mod trees;
