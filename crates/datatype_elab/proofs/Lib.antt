@@ -1,3 +1,4 @@
 pub mod OwnTypes
 pub mod Naming
 pub mod Consing
+pub mod Dating

@@ -1,2 +1,3 @@
 pub mod OwnTypes
 pub mod Reading
+pub mod Listing

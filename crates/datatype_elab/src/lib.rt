@@ -3,5 +3,6 @@
 
 mod checks;
 mod cons;
+mod dats;
 mod names;
 mod trees;
