@@ -2,3 +2,4 @@ pub mod OwnTypes
 pub mod Naming
 pub mod Consing
 pub mod Dating
+pub mod Wanting

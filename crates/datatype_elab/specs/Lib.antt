@@ -1,3 +1,4 @@
 pub mod OwnTypes
 pub mod Reading
 pub mod Listing
+pub mod Wants

@@ -5,4 +5,6 @@ mod checks;
 mod cons;
 mod dats;
 mod names;
+mod needs;
 mod trees;
+mod wants;
