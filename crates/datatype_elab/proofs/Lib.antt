@@ -3,3 +3,4 @@ pub mod Naming
 pub mod Consing
 pub mod Dating
 pub mod Wanting
+pub mod Choosing

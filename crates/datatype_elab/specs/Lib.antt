@@ -2,3 +2,4 @@ pub mod OwnTypes
 pub mod Reading
 pub mod Listing
 pub mod Wants
+pub mod Choosing

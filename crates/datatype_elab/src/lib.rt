@@ -2,6 +2,7 @@
 #![tactic(auto)]
 
 mod checks;
+mod choice;
 mod cons;
 mod dats;
 mod names;
