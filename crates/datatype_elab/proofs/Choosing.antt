@@ -1,8 +1,8 @@
 -- The greatest choice of datatypes that admit equality, from what each of them needs.
 use Rattle.std.proofs.Common.{◌≡◌, ◌≢◌, ℕ, ◌+◌, ◌<◌, ◌≤◌, List, [], ◌∷◌, ◌++◌, length, get_or, set, replicate, map, take, refl, sym, ap, ap₂, ◌∙◌, subst, Option, Some, None, Bool, true, false, ◌||◌, inl, inr, ◌⊎◌, zero, suc, arith}
-use Rattle.std.specs.Prelude.{All, Contains, slice_index_or, cond, Result, Ok, Err, OnOk}
+use Rattle.std.specs.Prelude.{All, Contains, slice_index_or, cond, Result, Ok, Err, OnOk, IfOk}
 use Rattle.std.proofs.lemmas.Bool.{cases_eq}
-use Rattle.std.proofs.lemmas.List.{get_or-set_same, get_or-set_other, length-set, length-replicate, length-map, append-nil, map_more, take_all}
+use Rattle.std.proofs.lemmas.List.{get_or-set_same, get_or-set_other, length-set, length-replicate, length-map, append-nil, map_more, take_all, take-append-le}
 use Rattle.semantic_objects.specs.declared.symbol.Symbol.{Symbol}
 use Rattle.semantic_objects.specs.Trees.{Tree, Trees}
 use Rattle.unification.specs.Types.{Ty, Types}
@@ -442,3 +442,25 @@ pub index_want : (xs : List (Option ℕ)) (i : ℕ) → i < length xs → get_or
 index_want [] i h = absurd (omega (arith, h))
 index_want (y ∷ xs) zero h = refl
 index_want (y ∷ xs) (suc i) h = index_want xs i (omega (arith, h))
+
+pub vec_back : {X : Type 0} (len : ℕ) (new rest result : List X) → result ≡ take len (new ++ rest) → len ≡ length new
+    → result ≡ new
+vec_back len new rest result e l =
+    e ∙ take-append-le len new rest (omega (arith, l)) ∙ take_all len new (omega (arith, l))
+
+pub choose_types : (need : Symbol → Need) (slice : List DatRead) (barred : List Bool) (holders result : List (List ℕ))
+    → Gathered need slice (length slice) barred holders → result ≡ holders → AllAreTypes result
+choose_types need slice barred holders result h e =
+    subst AllAreTypes (sym e) (holders_types need slice barred holders h)
+
+pub chosen_ok : {E : Type 0} (new : NewNames) (dats slice : List DatRead) (barred : List Bool)
+    (holders result : List (List ℕ)) (r : Result (List Bool) E) → new.count ≡ length dats → slice ≡ dats
+    → Gathered (need_in new) slice (length slice) barred holders → result ≡ holders → GreatestChoicesAreTaken
+    → IfOk r (λ choice. IsGreatest barred result choice)
+    → IfOk r (λ choice. (t : Table) → AreDats t dats
+    → choice ≡ equality_choice new.home new.first (map (dat_of t) dats))
+chosen_ok new dats slice barred holders result (Ok choice) count e h f law g = λ t are.
+    chosen new dats barred choice holders count
+    (subst (λ ds. Gathered (need_in new) ds (length ds) barred holders) e h) law
+    (subst (λ hs. IsGreatest barred hs choice) f g) t are
+chosen_ok new dats slice barred holders result (Err x) count e h f law g = tt

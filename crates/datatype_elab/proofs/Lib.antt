@@ -4,3 +4,4 @@ pub mod Consing
 pub mod Dating
 pub mod Wanting
 pub mod Choosing
+pub mod Declaring

@@ -3,3 +3,4 @@ pub mod Reading
 pub mod Listing
 pub mod Wants
 pub mod Choosing
+pub mod Declaring

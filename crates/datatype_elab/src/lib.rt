@@ -7,5 +7,6 @@ mod cons;
 mod dats;
 mod names;
 mod needs;
+mod reading;
 mod trees;
 mod wants;
