@@ -5,3 +5,4 @@ pub mod Dating
 pub mod Wanting
 pub mod Choosing
 pub mod Declaring
+pub mod Settling

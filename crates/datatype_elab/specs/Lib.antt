@@ -4,3 +4,4 @@ pub mod Listing
 pub mod Wants
 pub mod Choosing
 pub mod Declaring
+pub mod Making

@@ -8,5 +8,6 @@ mod dats;
 mod names;
 mod needs;
 mod reading;
+mod settle;
 mod trees;
 mod wants;

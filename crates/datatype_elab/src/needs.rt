@@ -26,7 +26,7 @@ pub(crate) enum Need {
 }
 
 /// The place of a name among the new ones.
-fn place_of(new: &NewNames, name: &TyName) -> Option<usize>
+pub(crate) fn place_of(new: &NewNames, name: &TyName) -> Option<usize>
     ensures { result ≡ new_place new.now name.now }
 {
     let Owner::Unit(unit) = &name.owner else {
