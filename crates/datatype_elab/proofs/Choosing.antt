@@ -1,15 +1,15 @@
 -- The greatest choice of datatypes that admit equality, from what each of them needs.
-use Rattle.std.proofs.Common.{◌≡◌, ◌≢◌, ℕ, ◌+◌, ◌<◌, ◌≤◌, List, [], ◌∷◌, ◌++◌, length, get_or, set, replicate, map, take, refl, sym, ap, ap₂, ◌∙◌, subst, Option, Some, None, Bool, true, false, ◌||◌, inl, inr, ◌⊎◌, zero, suc, arith}
-use Rattle.std.specs.Prelude.{All, Contains, slice_index_or, cond, Result, Ok, Err, OnOk, IfOk}
+use Rattle.std.proofs.Common.{◌≡◌, ◌≢◌, ℕ, ◌+◌, ◌<◌, List, [], ◌∷◌, ◌++◌, length, get_or, set, replicate, map, take, refl, sym, ap, ap₂, ◌∙◌, subst, Option, Some, None, Bool, true, false, ◌||◌, inl, inr, ◌⊎◌, zero, suc, arith}
+use Rattle.std.specs.Prelude.{Contains, cond, Result, Ok, Err, OnOk, IfOk}
 use Rattle.std.proofs.lemmas.Bool.{cases_eq}
-use Rattle.std.proofs.lemmas.List.{get_or-set_same, get_or-set_other, length-set, length-replicate, length-map, append-nil, map_more, take_all, take-append-le}
+use Rattle.std.proofs.lemmas.List.{get_or-set_same, get_or-set_other, length-set, length-replicate, length-map, map_more, take_all, take-append-le}
 use Rattle.semantic_objects.specs.declared.symbol.Symbol.{Symbol}
-use Rattle.semantic_objects.specs.Trees.{Tree, Trees}
+use Rattle.semantic_objects.specs.Trees.{Tree}
 use Rattle.unification.specs.Types.{Ty, Types}
 use Rattle.unification.specs.Closing.{closed_over, closed_over_all, is_among, place_of}
 use Rattle.type_nodes.specs.Tables.{Table, type_of}
 use Rattle.static_semantics.specs.DatatypeInference.{counted, Dat, equality_choice}
-use Rattle.equality_types.specs.Choices.{AllAreTypes, holders_of, IsGreatest}
+use Rattle.equality_types.specs.Choices.{AllAreTypes, IsGreatest}
 use Rattle.equality_laws.specs.Needs.{Need, need_of, is_barred, are_barred, held, all_held, barred_over, held_over, argument_barred, argument_held, cons_barred, cons_held, barred_of, held_of}
 use Rattle.equality_laws.specs.Promises.{AreHoldersOf, GreatestChoicesAreTaken}
 use Rattle.listed_types.specs.declared.listed.ListedType.{ListedType}
@@ -20,7 +20,7 @@ use Rattle.datatype_elab.specs.declared.needs.NewNames.{NewNames}
 use Rattle.datatype_elab.specs.Reading.{con_of, argument_ty, IsArgument, AreCons}
 use Rattle.datatype_elab.specs.Listing.{dat_of, AreDats}
 use Rattle.datatype_elab.specs.Wants.{need_in, wanted_over, wanted, all_wanted, In, AddsWants}
-use Rattle.datatype_elab.specs.Choosing.{argument_wanted, cons_wanted, dat_wanted, is_bar, has_none, holders_at, AddsHolder, AddsWanted, AddsHolders, wanted_at, Gathered}
+use Rattle.datatype_elab.specs.Choosing.{argument_wanted, cons_wanted, dat_wanted, is_bar, has_none, holders_at, AddsWanted, AddsHolders, wanted_at, Gathered}
 use Rattle.datatype_elab.proofs.Wanting.{in_left, in_right, in_either}
 
 -- ---- all constructors
@@ -162,7 +162,7 @@ holders_more old now new wants left rest (Some part) at inv e adds =
       ];
       kept = λ p a h. elim (set_cases now part (holders_at now part ++ at ∷ []) p adds.within) [
         | inl (same, f) ↦ subst (In a) (sym f) (in_left a (holders_at now part) (at ∷ [])
-        (subst (λ z. In a (holders_at now z)) same (inv.kept p a h)))
+            (subst (λ z. In a (holders_at now z)) same (inv.kept p a h)))
         | inr (_, f) ↦ subst (In a) (sym f) (inv.kept p a h)
       ];
       sub = λ x h. inv.sub x (subst (In x) (sym e) (inr h));
@@ -229,12 +229,14 @@ gathered_more need dats k dat barred after holders new inv within e f adds =
       counted = adds.counted ∙ inv.counted;
       more = λ p a h. elim (adds.more p a h) [
         | inl i ↦ (let j = inv.more p a i in let l : a < k = j.0 in (omega (arith, l), j.1))
-        | inr i ↦ (let l : a ≡ k = i.0 in (omega (arith, l),
-        subst (λ z. In (Some p) (wanted_at need dats z)) (sym l) (subst (In (Some p)) (sym here) i.1)))
+        | inr i ↦ (let l : a ≡ k = i.0 in (
+          omega (arith, l),
+          subst (λ z. In (Some p) (wanted_at need dats z)) (sym l) (subst (In (Some p)) (sym here) i.1),
+        ))
       ];
       all = λ p a l i. elim (cases_eq a k) [
         | inl same ↦ subst (λ z. In z (holders_at new p)) (sym same) (adds.all p (subst (In (Some p)) here
-        (subst (λ z. In (Some p) (wanted_at need dats z)) same i)))
+            (subst (λ z. In (Some p) (wanted_at need dats z)) same i)))
         | inr other ↦ adds.kept p a (inv.all p a (omega (arith, l, other)) i)
       ];
     }

@@ -1,6 +1,6 @@
 -- Constructors that are read, one after another.
-use Rattle.std.proofs.Common.{◌≡◌, ℕ, ◌+◌, List, [], ◌∷◌, ◌++◌, length, map, refl, sym, ap, ap₂, ◌∙◌, subst, Option, Some, None, Bool, true, false, cond}
-use Rattle.std.specs.Prelude.{Result, Ok, Err, IfOk, IsErrAnd}
+use Rattle.std.proofs.Common.{◌≡◌, ℕ, List, [], ◌∷◌, ◌++◌, map, refl, sym, ap, ap₂, ◌∙◌, subst, Option, Some, None, Bool, true, false, cond}
+use Rattle.std.specs.Prelude.{Result, Ok, Err, IsErrAnd}
 use Rattle.std.specs.Option.{option_map, is_some}
 use Rattle.std.proofs.lemmas.List.{append_assoc, append-nil, map-append}
 use Rattle.cm_base.specs.declared.fault.Fault.{Fault}
@@ -13,10 +13,9 @@ use Rattle.semantic_objects.specs.declared.entry.ValueEntry.{ValueEntry}
 use Rattle.semantic_objects.specs.Symbols.{same_text}
 use Rattle.semantic_objects.specs.Tables.{names_of}
 use Rattle.unification.specs.Types.{Ty, State, put}
-use Rattle.type_nodes.specs.Tables.{Table, Has, state, type_of, whole}
+use Rattle.type_nodes.specs.Tables.{Table, type_of}
 use Rattle.bare_phrases.specs.Phrases.{ConPhrase}
 use Rattle.bare_phrases.specs.PhraseOf.{ty_phrase, con_phrase}
-use Rattle.sml_modules.specs.Items.{map_rows}
 use Rattle.sml_modules.specs.Graphs.{Graph}
 use Rattle.name_trails.specs.Trails.{Rows, last_entry}
 use Rattle.static_semantics.specs.BasicTypes.{is_one_of}

@@ -1,6 +1,6 @@
 -- Datatypes that are read, one after another.
-use Rattle.std.proofs.Common.{◌≡◌, ℕ, ◌+◌, ◌<◌, ◌≤◌, List, [], ◌∷◌, ◌++◌, length, map, get_or, refl, sym, ap, ap₂, ◌∙◌, subst, Option, Some, None, Bool, true, false, cond, zero, suc, arith}
-use Rattle.std.specs.Prelude.{Result, Ok, Err, IfOk, IsErrAnd}
+use Rattle.std.proofs.Common.{◌≡◌, ℕ, ◌+◌, ◌≤◌, List, [], ◌∷◌, ◌++◌, length, map, get_or, refl, sym, ap, ap₂, ◌∙◌, subst, Some, None, Bool, true, false, zero, suc, arith}
+use Rattle.std.specs.Prelude.{Result, Ok, Err, IsErrAnd}
 use Rattle.std.proofs.lemmas.List.{append_assoc, append-nil, map-append, length-map}
 use Rattle.cm_base.specs.declared.fault.Fault.{Fault}
 use Rattle.cm_base.specs.declared.fault.Fault.TheVariants as fault
@@ -8,25 +8,23 @@ use Rattle.sml_trees.specs.declared.name.Name.{Name}
 use Rattle.sml_trees.specs.declared.ty.ConBind.{ConBind}
 use Rattle.sml_trees.specs.declared.ty.DatBind.{DatBind}
 use Rattle.semantic_objects.specs.declared.name.TyId.{TyId}
-use Rattle.semantic_objects.specs.declared.name.TyId.TheVariants as id
 use Rattle.semantic_objects.specs.declared.entry.ValueEntry.{ValueEntry}
 use Rattle.semantic_objects.specs.Tables.{names_of}
 use Rattle.semantic_objects.specs.Environments.{Env, empty_env}
 use Rattle.unification.specs.Types.{Ty, State, Substitution}
-use Rattle.type_nodes.specs.Tables.{Table, state, type_of, whole}
+use Rattle.type_nodes.specs.Tables.{Table, state, type_of}
 use Rattle.type_nodes.specs.Keeping.{IsKept}
 use Rattle.bare_phrases.specs.Phrases.{ConPhrase, DatPhrase}
 use Rattle.bare_phrases.specs.PhraseOf.{con_phrase, dat_phrase}
 use Rattle.sml_modules.specs.Items.{map_rows}
 use Rattle.sml_modules.specs.Graphs.{Graph}
 use Rattle.name_trails.specs.Trails.{Rows}
-use Rattle.static_semantics.specs.Inferring.{Progress, with_types, Scope, with_written_alone, Answer, ◌>>=◌, gives, refuses_where, name_at, is_named}
+use Rattle.static_semantics.specs.Inferring.{Progress, Scope, with_written_alone, Answer, ◌>>=◌, gives, refuses_where, name_at, is_named}
 use Rattle.static_semantics.specs.TypeInference.{new_rigid, listed, numbers, as_written}
 use Rattle.static_semantics.specs.DatatypeInference.{counted, Con, Dat, infer_cons, cons_of, infer_dats}
-use Rattle.core_scopes.specs.Scopes.{Bindings, seen, written_of, written_rows, IsScopeOf}
+use Rattle.core_scopes.specs.Scopes.{Bindings, seen, written_of, IsScopeOf}
 use Rattle.core_scopes.specs.Marks.{Becomes}
 use Rattle.type_phrases.specs.Inferred.{Answers, KeepsTypes, HaveRows, IsScopeOver, progress, scope_in}
-use Rattle.type_phrases.specs.Steps.{OnlyMakes}
 use Rattle.type_phrases.proofs.Keeping.{keeps_all, keeps_later, makes_nothing}
 use Rattle.type_phrases.proofs.Steps.{failed}
 use Rattle.type_bindings.specs.Listing.{AreMade}
@@ -34,7 +32,7 @@ use Rattle.listed_types.specs.Firm.{AreAlone}
 use Rattle.datatype_elab.specs.declared.cons.ConRead.{ConRead}
 use Rattle.datatype_elab.specs.declared.cons.Variables.{Variables}
 use Rattle.datatype_elab.specs.declared.dats.DatRead.{DatRead}
-use Rattle.datatype_elab.specs.Reading.{infer_dat, con_of, AreCons, con_names, AreConsStep}
+use Rattle.datatype_elab.specs.Reading.{infer_dat, con_of, con_names, AreConsStep}
 use Rattle.datatype_elab.specs.Listing.{row_ids, IsListIn, AreConsUnder, dat_of, IsDat, AreDats, IsDatStep, AreDatsStep}
 use Rattle.datatype_elab.proofs.OwnTypes.{length-counted}
 use Rattle.datatype_elab.proofs.Naming.{passed_on}
@@ -220,8 +218,10 @@ dat_listed : {V : Type 0} (g : Graph) (old mid u : Table) (sc : Bindings V) (ref
     → ListedAs g old mid bind.tyvars (Ok rows)
     → infer_dat (scope_in g u read sc) refused bind others (progress old g)
     ≡ (infer_cons (with_written_alone (as_written rows) (scope_in g mid read sc)) refused bind.cons others []
-    >>= λ cons. gives ((let dat : Dat = record { name = bind.name.text; variables = rows; cons = cons } in dat),
-    progress mid g))
+    >>= λ cons. gives (
+      (let dat : Dat = record { name = bind.name.text; variables = rows; cons = cons } in dat),
+      progress mid g,
+    ))
 dat_listed g old mid u sc refused bind rows read others h =
     ap (λ (w : Answer (Rows ℕ × Progress)). w
     >>= λ r. infer_cons (with_written_alone (as_written r.0) (scope_in g u read sc)) refused bind.cons others []
@@ -240,8 +240,10 @@ dat_unread g old mid new sc refused before after vs bind rows e r k h keeps cons
           subst (λ (w : Answer (Dat × Progress)). Answers w (λ dat. (dat_of new dat, progress new g)) (Err e))
           (sym (dat_listed g old mid u sc refused bind rows read others h))
           (failed (infer_cons (with_written_alone (as_written rows) (scope_in g mid read sc)) refused bind.cons others [])
-          (λ cons. gives ((let dat : Dat = record { name = bind.name.text; variables = rows; cons = cons } in dat),
-          progress mid g)) (map (con_of new)) (λ dat. (dat_of new dat, progress new g)) e
+          (λ cons. gives (
+            (let dat : Dat = record { name = bind.name.text; variables = rows; cons = cons } in dat),
+            progress mid g,
+          )) (map (con_of new)) (λ dat. (dat_of new dat, progress new g)) e
           (cons.infers read others same));
       read = tt;
       names = tt;
@@ -261,9 +263,10 @@ dat_read g old mid new sc refused before after vs bind name rows cons h keeps st
       ∙ ap (λ (w : Answer (List Con)). w >>= λ cs. gives
       ((let dat : Dat = record { name = bind.name.text; variables = rows; cons = cs } in dat), progress mid g))
       (step.infers read others same)
-      ∙ ap₂ (λ z (s : State). gives
-      ((let dat : Dat = record { name = z; variables = rows; cons = map (con_of new) cons } in dat),
-      (let p : Progress = record { types = s; names = length g.made } in p))) (sym n) (sym step.makes.state);
+      ∙ ap₂ (λ z (s : State). gives (
+        (let dat : Dat = record { name = z; variables = rows; cons = map (con_of new) cons } in dat),
+        (let p : Progress = record { types = s; names = length g.made } in p),
+      )) (sym n) (sym step.makes.state);
   read = record { cons = step.read; numbered = numbered; counted = count };
   names = step.names;
   keeps = keeps_later old mid new keeps step.makes.keeps;
@@ -314,8 +317,7 @@ dats_none g t sc refused binds names made e f =
 
 dat_later : (a b : Table) (dat : DatRead) → KeepsTypes a b → IsDat a dat → IsDat b dat × (dat_of b dat ≡ dat_of a dat)
 dat_later a b dat h k =
-    let i = cons_later a b dat.variables dat.cons h k.cons in
-    (
+    let i = cons_later a b dat.variables dat.cons h k.cons in (
       record { cons = i.0; numbered = k.numbered; counted = k.counted },
       ap (λ cs. (let made : Dat = record { name = dat.name; variables = dat.list; cons = cs } in made)) i.1,
     )

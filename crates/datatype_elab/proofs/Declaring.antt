@@ -1,15 +1,13 @@
 -- The datatypes of a declaration in a scope.
 use Rattle.std.proofs.Common.{◌≡◌, ℕ, List, [], length, map, refl, sym, ap, ap₂, ◌∙◌, subst}
-use Rattle.std.specs.Prelude.{Result, Ok, Err, IfOk, IsErrAnd}
+use Rattle.std.specs.Prelude.{Result, Ok, Err, IsErrAnd}
 use Rattle.cm_base.specs.declared.fault.Fault.{Fault}
 use Rattle.cm_base.specs.declared.fault.Fault.TheVariants as fault
-use Rattle.sml_trees.specs.declared.ty.DatBind.{DatBind}
 use Rattle.semantic_objects.specs.declared.name.TyId.{TyId}
 use Rattle.semantic_objects.specs.declared.entry.TypeStr.{TypeStr}
 use Rattle.semantic_objects.specs.declared.entry.ValueEntry.{ValueEntry}
 use Rattle.semantic_objects.specs.Tables.{with_all}
 use Rattle.semantic_objects.specs.Environments.{Env, env_of, empty_env, modified_by}
-use Rattle.unification.specs.Types.{Ty}
 use Rattle.type_nodes.specs.Tables.{Table, type_of}
 use Rattle.bare_phrases.specs.Phrases.{DatPhrase}
 use Rattle.sml_modules.specs.Items.{map_rows}
@@ -17,7 +15,7 @@ use Rattle.sml_modules.specs.declared.parts.NamedEnv.{NamedEnv}
 use Rattle.sml_modules.specs.declared.parts.NamedType.{NamedType}
 use Rattle.sml_modules.specs.Graphs.{Graph, HasEnvs, structure_rows, type_rows}
 use Rattle.name_trails.specs.Trails.{Rows}
-use Rattle.static_semantics.specs.Inferring.{Progress, Scope, under, Answer, ◌>>=◌, gives}
+use Rattle.static_semantics.specs.Inferring.{Progress, Scope, under, Answer, ◌>>=◌}
 use Rattle.static_semantics.specs.DatatypeInference.{Dat, new_types, infer_dats, equality_choice}
 use Rattle.core_scopes.specs.declared.made.Made.{Made}
 use Rattle.core_scopes.specs.declared.made.NamedInScope.{NamedInScope}

@@ -6,3 +6,5 @@ pub mod Wanting
 pub mod Choosing
 pub mod Declaring
 pub mod Settling
+pub mod Entering
+pub mod Made

@@ -1,16 +1,15 @@
 -- Type names applied to the variables of their lists.
-use Rattle.std.proofs.Common.{◌≡◌, ℕ, ◌+◌, ◌<◌, List, [], ◌∷◌, ◌++◌, length, map, refl, sym, ap, ap₂, ◌∙◌, zero, suc, arith, true, false, cond}
+use Rattle.std.proofs.Common.{◌≡◌, ℕ, ◌+◌, ◌<◌, List, [], ◌∷◌, ◌++◌, length, map, refl, sym, ap, ap₂, ◌∙◌, zero, suc, arith, cond}
 use Rattle.std.proofs.lemmas.Bool.{lt-ltb}
 use Rattle.std.proofs.lemmas.List.{map-append, length-map}
 use Rattle.semantic_objects.specs.declared.name.TyName.{TyName}
-use Rattle.semantic_objects.specs.declared.entry.TypeFn.{TypeFn}
 use Rattle.semantic_objects.specs.declared.entry.TypeStr.{TypeStr}
 use Rattle.semantic_objects.specs.declared.symbol.Symbol.TheVariants as symbol
 use Rattle.semantic_objects.specs.Trees.{Tree, Trees, trees_of}
-use Rattle.unification.specs.Types.{Ty, Types}
-use Rattle.unification.specs.Closing.{is_among, place_of, closed_over, closed_over_all}
+use Rattle.unification.specs.Types.{Ty}
+use Rattle.unification.specs.Closing.{place_of, closed_over, closed_over_all}
 use Rattle.static_semantics.specs.BasicTypes.{types_of}
-use Rattle.static_semantics.specs.TypeInference.{type_function, plain_type}
+use Rattle.static_semantics.specs.TypeInference.{plain_type}
 use Rattle.static_semantics.specs.DatatypeInference.{counted, own_ty, own_type}
 use Rattle.listed_types.proofs.Closing.{among_from, place_from}
 use Rattle.datatype_elab.specs.OwnTypes.{own_tree}

@@ -1,5 +1,5 @@
 -- Types with the equality of new names that was chosen.
-use Rattle.std.proofs.Common.{◌≡◌, ℕ, ◌-◌, ◌<◌, List, [], ◌∷◌, length, map, get_or, refl, sym, ap, ap₂, ◌∙◌, subst, Option, Some, None, Bool, true, false, ◌||◌, cond, zero, suc, slice_get}
+use Rattle.std.proofs.Common.{◌≡◌, ℕ, ◌-◌, List, [], ◌∷◌, length, map, get_or, refl, sym, ap, ap₂, ◌∙◌, subst, Option, Some, None, Bool, true, false, ◌||◌, cond, zero, suc, slice_get}
 use Rattle.std.specs.Prelude.{Result, Ok, Err, IfOk}
 use Rattle.semantic_objects.specs.declared.name.TyName.{TyName}
 use Rattle.semantic_objects.specs.declared.node.TypeNode.{TypeNode}
@@ -8,7 +8,6 @@ use Rattle.semantic_objects.specs.declared.symbol.Symbol.{Symbol}
 use Rattle.semantic_objects.specs.declared.symbol.Symbol.TheVariants as symbol
 use Rattle.semantic_objects.specs.Symbols.{part_count, HasRisingLabels}
 use Rattle.semantic_objects.specs.Nodes.{root, AreTree}
-use Rattle.semantic_objects.specs.Parts.{arrow_tree}
 use Rattle.semantic_objects.specs.Trees.{Tree, Trees, TypeScheme, binds, binds_any, BindsBelow}
 use Rattle.unification.proofs.Walking.{or_either}
 use Rattle.static_semantics.specs.DatatypeInference.{is_new, settled_name, settled_symbol}

@@ -1,6 +1,6 @@
 -- What the equality of a tree needs, found from its last node on.
-use Rattle.std.proofs.Common.{◌≡◌, ◌≢◌, ℕ, ◌+◌, ◌-◌, ◌<◌, ◌≤◌, List, [], ◌∷◌, ◌++◌, length, get_or, set, replicate, map, refl, sym, ap, ap₂, ◌∙◌, subst, Option, Some, None, Bool, true, false, not, ◌&&◌, ◌||◌, cond, inl, inr, ◌⊎◌, zero, suc, arith, ltb, slice_get}
-use Rattle.std.proofs.lemmas.Bool.{cases_eq, cases_lt, lt-ltb, le-ltb, ltb-true, ltb-false}
+use Rattle.std.proofs.Common.{◌≡◌, ◌≢◌, ℕ, ◌+◌, ◌-◌, ◌<◌, ◌≤◌, List, [], ◌∷◌, ◌++◌, length, get_or, set, replicate, refl, sym, ap, ap₂, ◌∙◌, subst, Option, Some, None, Bool, true, false, cond, inl, inr, ◌⊎◌, zero, suc, arith, slice_get}
+use Rattle.std.proofs.lemmas.Bool.{cases_eq}
 use Rattle.std.proofs.lemmas.List.{get_or-set_same, get_or-set_other, length-set, length-replicate, append-nil}
 use Rattle.semantic_objects.specs.declared.name.TyName.{TyName}
 use Rattle.semantic_objects.specs.declared.node.TypeNode.{TypeNode}
@@ -8,14 +8,14 @@ use Rattle.semantic_objects.specs.declared.node.TypeNode.TheVariants as node
 use Rattle.semantic_objects.specs.declared.symbol.Symbol.{Symbol}
 use Rattle.semantic_objects.specs.declared.symbol.Symbol.TheVariants as symbol
 use Rattle.semantic_objects.specs.Nodes.{nowhere, node_tree, trees_at, unfolded, tree_at, root, AreBelow, IsNodeAt, AreNodes, AreTree}
-use Rattle.semantic_objects.specs.Trees.{Tree, Trees, trees_of}
+use Rattle.semantic_objects.specs.Trees.{Tree, trees_of}
 use Rattle.semantic_objects.proofs.Unfolding.{noted}
 use Rattle.unification.specs.declared.equality.Equality.TheVariants as equality
-use Rattle.unification.specs.Types.{is_ref, equality_of}
+use Rattle.unification.specs.Types.{is_ref}
 use Rattle.static_semantics.specs.DatatypeInference.{is_new}
-use Rattle.equality_laws.specs.Needs.{Need, need_of}
+use Rattle.equality_laws.specs.Needs.{Need}
 use Rattle.datatype_elab.specs.declared.needs.NewNames.{NewNames}
-use Rattle.datatype_elab.specs.Wants.{need_in, new_place, need_by, known_need, wanted_over, wanted, all_wanted, own_wants, needed, own_of, needed_of, PartsBelow, In, IsMarked, Marks, LookedAt, Looked, IsPassed, nobody, SteppedBy, Stepped, begun, AddsWants}
+use Rattle.datatype_elab.specs.Wants.{need_in, new_place, need_by, known_need, wanted_over, wanted, all_wanted, own_wants, needed, own_of, needed_of, PartsBelow, In, IsMarked, Marks, LookedAt, Looked, nobody, SteppedBy, Stepped, begun, AddsWants}
 
 -- ---- lists
 
@@ -156,7 +156,10 @@ pub looked_none : (need : Need) (ps : List ℕ) (old : List Bool) (before after 
     → needed need ps ≡ [] → own_wants need ≡ ws → after ≡ before ++ ws → LookedAt need ps old old before after
 looked_none need ps old before after ws e f h = record {
   marks = subst (Marks old old) (sym e) (record {
-    counted = refl; more = λ p m. inl m; kept = λ p m. m; all = λ p i. absurd i;
+    counted = refl;
+    more = λ p m. inl m;
+    kept = λ p m. m;
+    all = λ p i. absurd i;
   });
   found = h ∙ ap (λ zs. before ++ zs) (sym f);
 }
@@ -173,7 +176,10 @@ pub looked_leaf : (need : Symbol → Need) (x : TypeNode) (old : List Bool) (bef
     → needed_of need x ≡ [] → own_of need x ≡ [] → Looked need x old old before before
 looked_leaf need x old before e f = record {
   marks = subst (Marks old old) (sym e) (record {
-    counted = refl; more = λ p m. inl m; kept = λ p m. m; all = λ p i. absurd i;
+    counted = refl;
+    more = λ p m. inl m;
+    kept = λ p m. m;
+    all = λ p i. absurd i;
   });
   found = sym (append-nil before) ∙ ap (λ zs. before ++ zs) (sym f);
 }
@@ -294,10 +300,10 @@ parts_below nodes n k x h within e f =
 
 pub record Pending (need : Symbol → Need) (nodes : List TypeNode) (at : ℕ) (marks : List Bool) (x : Option ℕ) : Type 0
   where
-  pub place : ℕ
-  pub below : place < at
-  pub mark : IsMarked marks place
-  pub wants : In x (wanted need (tree_at nodes place))
+    pub place : ℕ
+    pub below : place < at
+    pub mark : IsMarked marks place
+    pub wants : In x (wanted need (tree_at nodes place))
 
 pub record Walk (need : Symbol → Need) (nodes : List TypeNode) (at : ℕ) (marks : List Bool)
     (before found : List (Option ℕ)) : Type 0 where
@@ -357,7 +363,7 @@ walk_step need nodes at k marks new before found after nodes_are inv e within st
               place = j.place;
               below = elim (cases_eq j.place k) [
                 | inl same ↦ absurd (let bad : false ≡ true = sym f ∙ ap (λ z. get_or marks z false) (sym same) ∙ j.mark in
-                let no : ⊥ = cc in no)
+                    let no : ⊥ = cc in no)
                 | inr other ↦ (let l = j.below in omega (arith, l, e, other))
               ];
               mark = j.mark;
@@ -375,27 +381,27 @@ walk_step need nodes at k marks new before found after nodes_are inv e within st
           more = λ x i. elim (in_either x found (own_of need (get_or nodes k nobody)) (subst (In x) s.found i)) [
             | inl j ↦ inv.more x j
             | inr j ↦ inr (inv.marked k (omega (arith, e)) f x (subst (λ t. In x (wanted need t)) (sym tree)
-            (node_own need (unfolded nodes) (get_or nodes k nobody) x j)))
+                (node_own need (unfolded nodes) (get_or nodes k nobody) x j)))
           ];
           kept = λ x i. subst (In x) (sym s.found) (in_left x found (own_of need (get_or nodes k nobody)) (inv.kept x i));
           marked = λ p l m x i. elim (s.marks.more p m) [
             | inl j ↦ inv.marked p (omega (arith, l, e)) j x i
             | inr j ↦ inv.marked k (omega (arith, e)) f x (subst (λ t. In x (wanted need t)) (sym tree)
-            (node_part need (unfolded nodes) (get_or nodes k nobody) p x j i))
+                (node_part need (unfolded nodes) (get_or nodes k nobody) p x j i))
           ];
           all = λ x i. elim (inv.all x i) [
             | inl j ↦ inl (subst (In x) (sym s.found) (in_left x found (own_of need (get_or nodes k nobody)) j))
             | inr j ↦ elim (cases_eq j.place k) [
               | inl same ↦ elim (node_from need (unfolded nodes) (get_or nodes k nobody) x
-              (subst (λ t. In x (wanted need t)) (ap (tree_at nodes) same ∙ tree) j.wants)) [
-                | inl own ↦ inl (subst (In x) (sym s.found) (in_right x found (own_of need (get_or nodes k nobody)) own))
-                | inr part ↦ inr (record {
-                  place = part.place;
-                  below = needed_below need k (get_or nodes k nobody) part.place here part.there;
-                  mark = s.marks.all part.place part.there;
-                  wants = part.wants;
-                })
-              ]
+                  (subst (λ t. In x (wanted need t)) (ap (tree_at nodes) same ∙ tree) j.wants)) [
+                    | inl own ↦ inl (subst (In x) (sym s.found) (in_right x found (own_of need (get_or nodes k nobody)) own))
+                    | inr part ↦ inr (record {
+                      place = part.place;
+                      below = needed_below need k (get_or nodes k nobody) part.place here part.there;
+                      mark = s.marks.all part.place part.there;
+                      wants = part.wants;
+                    })
+                  ]
               | inr other ↦ inr (record {
                 place = j.place;
                 below = (let l = j.below in omega (arith, l, e, other));

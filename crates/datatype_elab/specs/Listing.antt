@@ -11,7 +11,7 @@ use Rattle.bare_phrases.specs.Phrases.{ConPhrase, DatPhrase}
 use Rattle.sml_modules.specs.Items.{map_rows}
 use Rattle.sml_modules.specs.Graphs.{Graph}
 use Rattle.name_trails.specs.Trails.{Rows}
-use Rattle.static_semantics.specs.Inferring.{Scope, with_written_alone}
+use Rattle.static_semantics.specs.Inferring.{with_written_alone}
 use Rattle.static_semantics.specs.TypeInference.{numbers, as_written}
 use Rattle.static_semantics.specs.DatatypeInference.{counted, Con, Dat, infer_cons, infer_dats}
 use Rattle.core_scopes.specs.Scopes.{Bindings}

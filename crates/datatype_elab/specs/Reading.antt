@@ -1,5 +1,5 @@
 -- Constructors and datatypes that are read one after another. Only private functions cite this file.
-use Rattle.std.specs.Prelude.{◌≡◌, ℕ, List, [], ◌∷◌, ◌++◌, length, map, Option, Some, None, Result, IfOk}
+use Rattle.std.specs.Prelude.{◌≡◌, ℕ, List, [], ◌∷◌, ◌++◌, map, Option, Some, None, Result, IfOk}
 use Rattle.std.specs.Option.{option_map}
 use Rattle.cm_base.specs.declared.fault.Fault.{Fault}
 use Rattle.sml_trees.specs.declared.name.Name.{Name}
@@ -13,10 +13,10 @@ use Rattle.sml_modules.specs.Graphs.{Graph}
 use Rattle.name_trails.specs.Trails.{Rows}
 use Rattle.static_semantics.specs.BasicTypes.{is_one_of}
 use Rattle.static_semantics.specs.Inferring.{Progress, Scope, with_written_alone, Answer, ◌>>=◌, gives, refuses_where, name_at, is_named}
-use Rattle.static_semantics.specs.TypeInference.{listed, numbers, as_written}
+use Rattle.static_semantics.specs.TypeInference.{listed, as_written}
 use Rattle.static_semantics.specs.DatatypeInference.{counted, Con, Dat, infer_optional_ty, infer_cons}
 use Rattle.core_scopes.specs.Scopes.{Bindings}
-use Rattle.type_phrases.specs.Inferred.{Answers, KeepsTypes, progress, scope_in}
+use Rattle.type_phrases.specs.Inferred.{Answers, scope_in}
 use Rattle.type_phrases.specs.Steps.{OnlyMakes}
 use Rattle.listed_types.specs.declared.listed.ListedType.{ListedType}
 use Rattle.datatype_elab.specs.declared.cons.ConRead.{ConRead}

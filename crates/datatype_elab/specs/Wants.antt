@@ -1,5 +1,5 @@
 -- What the equality of types as trees needs, found node by node. Only private functions cite this file.
-use Rattle.std.specs.Prelude.{◌≡◌, ℕ, ◌-◌, ◌<◌, List, [], ◌∷◌, ◌++◌, length, get_or, set, replicate, Option, Some, None, Bool, true, false, ◌⊎◌, ◌||◌, cond}
+use Rattle.std.specs.Prelude.{◌≡◌, ℕ, ◌-◌, List, [], ◌∷◌, ◌++◌, length, get_or, set, replicate, Option, Some, None, Bool, true, false, ◌⊎◌, cond}
 use Rattle.semantic_objects.specs.declared.name.TyName.{TyName}
 use Rattle.semantic_objects.specs.declared.node.TypeNode.{TypeNode}
 use Rattle.semantic_objects.specs.declared.node.TypeNode.TheVariants as node
@@ -101,13 +101,13 @@ pub record Marks (old new : List Bool) (places : List ℕ) : Type 0 where
 
 pub record LookedAt (need : Need) (places : List ℕ) (old new : List Bool) (before after : List (Option ℕ)) : Type 0
   where
-  pub marks : Marks old new (needed need places)
-  pub found : after ≡ before ++ own_wants need
+    pub marks : Marks old new (needed need places)
+    pub found : after ≡ before ++ own_wants need
 
 pub record Looked (need : Symbol → Need) (x : TypeNode) (old new : List Bool) (before after : List (Option ℕ)) : Type 0
   where
-  pub marks : Marks old new (needed_of need x)
-  pub found : after ≡ before ++ own_of need x
+    pub marks : Marks old new (needed_of need x)
+    pub found : after ≡ before ++ own_of need x
 
 pub record IsPassed (old new : List Bool) (before after : List (Option ℕ)) : Type 0 where
   pub marks : new ≡ old

@@ -84,11 +84,7 @@ fn add_holder(holders: &mut [List<usize>], part: usize, at: usize) -> Result<(),
 }
 
 /// The same of what is wanted, if that is a type.
-fn add_wanted(
-    holders: &mut [List<usize>],
-    want: Option<usize>,
-    at: usize,
-) -> Result<(), NoMemory>
+fn add_wanted(holders: &mut [List<usize>], want: Option<usize>, at: usize) -> Result<(), NoMemory>
     ensures { OnOk result (AddsWanted holders.old holders.new want at) }
 {
     match want {

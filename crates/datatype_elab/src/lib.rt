@@ -5,6 +5,8 @@ mod checks;
 mod choice;
 mod cons;
 mod dats;
+mod entries;
+mod making;
 mod names;
 mod needs;
 mod reading;

@@ -36,13 +36,7 @@ pub(crate) fn place_of(new: &NewNames, name: &TyName) -> Option<usize>
         return None;
     }
     match usize::try_from(name.number - new.first) {
-        Ok(place) => {
-            if place < new.count {
-                Some(place)
-            } else {
-                None
-            }
-        }
+        Ok(place) => { if place < new.count { Some(place) } else { None } }
         Err(_) => None,
     }
 }

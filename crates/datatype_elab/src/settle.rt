@@ -15,7 +15,7 @@ use semantic_objects::{Scheme, Symbol, TreePart, TyName, TypeNode, TypeTree};
 use std::alloc::Global;
 
 /// Whether a type admits equality by a choice.
-fn admits(choice: &List<bool>, place: usize) -> bool
+pub(crate) fn admits(choice: &List<bool>, place: usize) -> bool
     ensures { result ≡ get_or choice.now place false }
 {
     match choice.get(place) {
@@ -25,11 +25,7 @@ fn admits(choice: &List<bool>, place: usize) -> bool
 }
 
 /// A type name with the equality that was chosen for it, if it is a new one.
-fn settled_name(
-    new: &NewNames,
-    choice: &List<bool>,
-    name: &TyName,
-) -> Result<TyName, NoMemory>
+fn settled_name(new: &NewNames, choice: &List<bool>, name: &TyName) -> Result<TyName, NoMemory>
     requires { new.now.count ≡ length choice.now }
     ensures { IfOk result (λ made. made ≡ settled_name new.now.home new.now.first choice.now name.now) }
 {
@@ -53,11 +49,7 @@ fn settled_name(
 }
 
 /// The same of a symbol.
-fn settled_symbol(
-    new: &NewNames,
-    choice: &List<bool>,
-    symbol: &Symbol,
-) -> Result<Symbol, NoMemory>
+fn settled_symbol(new: &NewNames, choice: &List<bool>, symbol: &Symbol) -> Result<Symbol, NoMemory>
     requires { new.now.count ≡ length choice.now }
     ensures { IfOk result (λ made. made ≡ settled_symbol new.now.home new.now.first choice.now symbol.now) }
 {
@@ -68,11 +60,7 @@ fn settled_symbol(
 }
 
 /// The same of a node.
-fn settled_node(
-    new: &NewNames,
-    choice: &List<bool>,
-    item: &TypeNode,
-) -> Result<TypeNode, NoMemory>
+fn settled_node(new: &NewNames, choice: &List<bool>, item: &TypeNode) -> Result<TypeNode, NoMemory>
     requires { new.now.count ≡ length choice.now }
     ensures { IfOk result (λ made.
         made ≡ mapped_node node.Free (settled_symbol new.now.home new.now.first choice.now) item.now) }

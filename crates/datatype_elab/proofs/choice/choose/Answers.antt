@@ -1,4 +1,4 @@
-use Rattle.std.proofs.Common.{◌≡◌, List, ℕ, [], ap, sym, ◌∙◌, length}
+use Rattle.std.proofs.Common.{[], ap, sym, ◌∙◌, length}
 use Rattle.std.proofs.lemmas.List.{length-replicate}
 use Rattle.datatype_elab.specs.Wants.{need_in}
 use Rattle.datatype_elab.proofs.Choosing.{vec_back, choose_types, chosen_ok}

@@ -1,4 +1,4 @@
-use Rattle.std.proofs.Common.{ap, ◌∙◌, Option, Some}
+use Rattle.std.proofs.Common.{ap, ◌∙◌, Some}
 use Rattle.unification.specs.Types.{Ty}
 use Rattle.static_semantics.specs.Inferring.{Answer, ◌>>=◌, gives}
 use Rattle.type_phrases.specs.Inferred.{scope_in}

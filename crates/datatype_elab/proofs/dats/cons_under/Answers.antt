@@ -1,7 +1,7 @@
 use Rattle.std.proofs.Common.{map}
 use Rattle.bare_phrases.specs.PhraseOf.{con_phrase}
 use Rattle.core_scopes.specs.Scopes.{written_rows}
-use Rattle.datatype_elab.proofs.Dating.{under_over, under_alone, under_read, under_no_memory}
+use Rattle.datatype_elab.proofs.Dating.{under_over, under_alone, under_read}
 use Rattle.datatype_elab.proofs.dats.cons_under.Goals as goal
 
 pub read_cons-made-requires-clause-scope : goal.read_cons-made-requires-clause-scope

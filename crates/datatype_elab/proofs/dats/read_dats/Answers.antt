@@ -9,9 +9,11 @@ use Rattle.datatype_elab.proofs.Dating.{dats_none, dats_more, dats_refused, dats
 use Rattle.datatype_elab.proofs.dats.read_dats.Goals as goal
 
 pub loop-bind-init : goal.loop-bind-init
-loop-bind-init g c =
-    (dats_none c.args.g.now c.args.t.now c.args.scope.now c.args.refused.now c.args.binds.now c.new-names.result
-    c.new-made.result c.new-names.ensures c.new-made.ensures, refl)
+loop-bind-init g c = (
+  dats_none c.args.g.now c.args.t.now c.args.scope.now c.args.refused.now c.args.binds.now c.new-names.result
+      c.new-made.result c.new-names.ensures c.new-made.ensures,
+  refl,
+)
 
 pub read_dat-requires : goal.read_dat-requires
 read_dat-requires g c = subst (IsScopeOf c.args.g.now) (sym c.loop-bind.invariant.1) c.requires
@@ -44,8 +46,7 @@ returns-in_err-add-clause-scope g c = c.in_ok-next.ensures.scope ∙ c.loop-bind
 pub loop-bind-preserved : goal.loop-bind-preserved
 loop-bind-preserved g c =
     let binds = c.args.binds.now in
-    let i = c.loop-bind.bind-index in
-    (
+    let i = c.loop-bind.bind-index in (
       dats_more c.args.g.now c.args.t.now c.loop-bind.t c.read_dat.new.t c.args.scope.now c.args.refused.now
           c.loop-bind.names c.read_dat.new.names binds (drop i binds) (drop (i + 1) binds) c.bind-item.result
           c.loop-bind.made c.add.new.self c.in_ok-next.next c.loop-bind.invariant.0

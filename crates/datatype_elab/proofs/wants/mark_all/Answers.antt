@@ -1,4 +1,4 @@
-use Rattle.std.proofs.Common.{ℕ, ◌+◌, ◌<◌, length, drop, get_or, refl, subst, sym, arith}
+use Rattle.std.proofs.Common.{◌+◌, ◌<◌, length, drop, get_or, refl, subst, sym}
 use Rattle.type_phrases.proofs.PartsRead.{drop_item}
 use Rattle.datatype_elab.proofs.Wanting.{in_at, below_at, index_is, marked_more}
 use Rattle.datatype_elab.proofs.wants.mark_all.Goals as goal
