@@ -8,3 +8,4 @@ pub mod Declaring
 pub mod Settling
 pub mod Entering
 pub mod Made
+pub mod Binding

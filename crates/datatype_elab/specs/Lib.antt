@@ -5,3 +5,4 @@ pub mod Wants
 pub mod Choosing
 pub mod Declaring
 pub mod Making
+pub mod Binding

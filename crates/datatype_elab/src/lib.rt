@@ -6,6 +6,7 @@ mod choice;
 mod cons;
 mod dats;
 mod entries;
+mod environment;
 mod making;
 mod names;
 mod needs;
