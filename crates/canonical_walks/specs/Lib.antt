@@ -1,3 +1,4 @@
 pub mod Orders
 pub mod Variables
 pub mod Canonicals
+pub mod Binders

@@ -2,7 +2,11 @@
 //! graph is gone through once.
 #![tactic(auto)]
 
+mod binders;
 mod entries;
 mod numbering;
 mod renaming;
+mod tops;
 mod variables;
+
+pub use tops::canon;

@@ -66,7 +66,7 @@ some_env (Item.TopItem x) h = absurd h
 
 -- ---- more nodes
 
-images_later : (by : Change) (old new : Graph) (images : Images) → Extends old new
+pub images_later : (by : Change) (old new : Graph) (images : Images) → Extends old new
     → AreChanged by old.items images → AreChanged by new.items images
 images_later by old new images e h = record {
   each = λ p q i. later (at old.items p) (at old.items q) (at new.items p) (at new.items q) (h.each p q i)
