@@ -9,13 +9,13 @@ use Rattle.realisation.specs.Names.{names_in_env, names_in_functor, names_in_sig
 use Rattle.realisation.specs.Environments.{each_row}
 use Rattle.realisation.specs.Canonical.{met, numbered, numbered_in, is_own, is_bound_name, is_of_param, is_further, canonical_env, signature_name, canonical_signature, functor_name, canonical_functor, own_name, canonical}
 use Rattle.realisation.proofs.Listing.{Named, named_left, named_right}
-use Rattle.canonical_laws.proofs.Names.{map_agrees, met_listed, met_passes}
-use Rattle.canonical_laws.proofs.Envs.{Follows, canonical_follows, form_agrees}
+use Rattle.canonical_laws.proofs.Names.{map_agrees, met_listed}
+use Rattle.canonical_laws.proofs.Envs.{canonical_follows, form_agrees}
 use Rattle.canonical_laws.proofs.Parts.{Moves, signature_alike, functor_alike, own_is_not_bound}
-use Rattle.canonical_walks.specs.declared.numbering.FunctorNames.{FunctorNames}
-use Rattle.canonical_walks.specs.Orders.{by_order, is_of}
+use Rattle.canonical_types.specs.declared.numbering.FunctorNames.{FunctorNames}
+use Rattle.canonical_types.specs.Orders.{by_order, is_of}
 use Rattle.canonical_walks.specs.Binders.{unchanged, signature_with, functor_with, NoneBound, NamesFunctor, canonical_by}
-use Rattle.canonical_walks.proofs.Ordered.{keeps_name, both_filters, filter_once, not_met, stays, order_agrees, both_orders}
+use Rattle.canonical_types.proofs.Ordered.{keeps_name, both_filters, filter_once, not_met, stays, order_agrees, both_orders}
 
 abbrev pub sig_of : List TyName → Env → Signature
 sig_of bound env = record { bound = bound; env = env }

@@ -1,25 +1,25 @@
 -- The canonical forms of signatures and functors of a graph.
-use Rattle.std.proofs.Common.{◌≡◌, ℕ, List, [], ◌∷◌, ◌++◌, map, refl, sym, ap, ap₂, ◌∙◌, subst, Some, None, cond, nat_eq}
+use Rattle.std.proofs.Common.{◌≡◌, ℕ, List, [], ◌∷◌, refl, sym, ap, ap₂, ◌∙◌, subst, Some, None, cond, nat_eq}
 use Rattle.std.specs.Prelude.{Result, Ok, Err, IfOk, OnErr}
 use Rattle.std.proofs.lemmas.Bool.{eqb-true}
 use Rattle.unification.proofs.Walking.{either_way}
 use Rattle.semantic_objects.specs.declared.name.TyName.{TyName}
 use Rattle.semantic_objects.specs.Tables.{Table}
-use Rattle.semantic_objects.specs.Environments.{Env, Signature, Functor}
+use Rattle.semantic_objects.specs.Environments.{Signature, Functor}
 use Rattle.sml_modules.specs.declared.id.EnvId.{EnvId}
-use Rattle.sml_modules.specs.Items.{Item, at, as_env, as_signature, as_functor, IsEnv, IsSignature, IsFunctor, map_rows}
-use Rattle.sml_modules.specs.Graphs.{Graph, env_at, HasEnv}
+use Rattle.sml_modules.specs.Items.{Item, at, as_signature, as_functor, IsSignature, IsFunctor, map_rows}
+use Rattle.sml_modules.specs.Graphs.{Graph, env_at}
 use Rattle.sml_modules.specs.Nodes.{AreAll}
 use Rattle.sml_modules.specs.Adding.{Extends, Adds}
 use Rattle.sml_modules.proofs.Unfolding.{Never, at_more, all_more}
-use Rattle.sml_modules.proofs.Keeping.{extends_self, extends_then}
-use Rattle.realisation.specs.Environments.{each_row, changed}
+use Rattle.sml_modules.proofs.Keeping.{extends_self}
+use Rattle.realisation.specs.Environments.{each_row}
 use Rattle.realisation.specs.Canonical.{to_canonical, canonical_env, canonical_signature, canonical_functor}
 use Rattle.environment_walks.specs.declared.places.Images.{Images}
-use Rattle.environment_walks.specs.Changing.{image_in, AreChanged, IsChangedEnv, AreMapped}
+use Rattle.environment_walks.specs.Changing.{image_in, AreChanged, AreMapped}
 use Rattle.environment_walks.proofs.Changes.{IsSet, images_later}
 use Rattle.environment_walks.proofs.Mapping.{mapped_name, mapped_image, mapped_rest}
-use Rattle.canonical_walks.specs.Orders.{by_order}
+use Rattle.canonical_types.specs.Orders.{by_order}
 use Rattle.canonical_walks.specs.Binders.{unchanged, signature_with, functor_with, NoneBound, IsCanon, CanonAt, AreCanon, CanonRows}
 use Rattle.canonical_walks.proofs.Binding.{sig_moved, fun_moved}
 

@@ -1,16 +1,14 @@
 -- Tops in their canonical form.
 use Rattle.std.proofs.Common.{◌≡◌, ℕ, List, [], ◌∷◌, ◌++◌, filter, map, refl, sym, ap, ap₂, ◌∙◌, subst}
-use Rattle.std.specs.Prelude.{Result, Ok, Err, IfOk}
 use Rattle.std.specs.List.{flat_map}
 use Rattle.std.proofs.lemmas.List.{append_assoc, append-nil}
 use Rattle.semantic_objects.specs.declared.name.TyName.{TyName}
 use Rattle.semantic_objects.specs.Tables.{Table}
-use Rattle.semantic_objects.specs.Environments.{Env, Signature, Functor, Top}
+use Rattle.semantic_objects.specs.Environments.{Top}
 use Rattle.env_parts.specs.declared.tables.TopTables.{TopTables}
 use Rattle.sml_modules.specs.declared.id.EnvId.{EnvId}
-use Rattle.sml_modules.specs.declared.id.TopId.{TopId}
-use Rattle.sml_modules.specs.Items.{Item, at, as_env, as_signature, as_functor, as_top, IsEnv, IsSignature, IsFunctor, IsTop, map_rows}
-use Rattle.sml_modules.specs.Graphs.{Graph, env_at, top_at, HasEnv, GivesTop}
+use Rattle.sml_modules.specs.Items.{Item, at, as_env, as_signature, as_functor, as_top, IsSignature, IsFunctor, IsTop, map_rows}
+use Rattle.sml_modules.specs.Graphs.{Graph, env_at, HasEnv, GivesTop}
 use Rattle.sml_modules.specs.declared.node.Node.{Node}
 use Rattle.sml_modules.specs.declared.node.Node.TheVariants as node
 use Rattle.sml_modules.specs.declared.node.SigNode.{SigNode}
@@ -23,11 +21,11 @@ use Rattle.realisation.specs.Environments.{each_row}
 use Rattle.realisation.specs.Canonical.{met, is_own, to_canonical, canonical_env, canonical_signature, canonical_functor, canonical}
 use Rattle.environment_walks.specs.Changing.{IsChangedEnv}
 use Rattle.name_walks.specs.Places.{HasAll, names_in_all}
-use Rattle.canonical_walks.specs.Orders.{by_order}
+use Rattle.canonical_types.specs.Orders.{by_order}
 use Rattle.canonical_walks.specs.Binders.{CanonRows, binder_names, canonical_by, AddsEnvs, MakesTop}
 use Rattle.canonical_walks.proofs.Binding.{top_is, top_canonical}
-use Rattle.canonical_walks.proofs.Ordered.{filter_once}
-use Rattle.canonical_walks.proofs.Canons.{still, all_still, rows_still}
+use Rattle.canonical_types.proofs.Ordered.{filter_once}
+use Rattle.canonical_walks.proofs.Canons.{all_still, rows_still}
 
 abbrev pub env_id : ℕ → EnvId
 env_id p = record { place = p }

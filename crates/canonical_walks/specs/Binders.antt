@@ -1,5 +1,5 @@
 -- Signatures and functors of a graph in their canonical form, one after the other.
-use Rattle.std.specs.Prelude.{◌≡◌, ℕ, List, [], ◌++◌, Bool, true, false, Some}
+use Rattle.std.specs.Prelude.{◌≡◌, ℕ, List, [], ◌++◌, true, false, Some}
 use Rattle.semantic_objects.specs.declared.name.TyName.{TyName}
 use Rattle.semantic_objects.specs.Tables.{Table}
 use Rattle.semantic_objects.specs.Environments.{Env, Signature, Functor, Top}
@@ -14,8 +14,8 @@ use Rattle.realisation.specs.Environments.{each_row}
 use Rattle.realisation.specs.Canonical.{met, is_bound_name, is_of_param, is_further, to_canonical, canonical_env, canonical_signature, canonical_functor}
 use Rattle.environment_walks.specs.declared.places.Images.{Images}
 use Rattle.environment_walks.specs.Changing.{image_in, AreChanged}
-use Rattle.canonical_walks.specs.declared.numbering.FunctorNames.{FunctorNames}
-use Rattle.canonical_walks.specs.Orders.{by_order}
+use Rattle.canonical_types.specs.declared.numbering.FunctorNames.{FunctorNames}
+use Rattle.canonical_types.specs.Orders.{by_order}
 
 -- where the unit's own names have their numbers, no name becomes another one
 abbrev pub unchanged : TyName → TyName

@@ -1,4 +1,1 @@
-pub mod Orders
-pub mod Variables
-pub mod Canonicals
 pub mod Binders

@@ -6,10 +6,10 @@ ghost use Rattle.sml_modules.specs.Graphs.{env_at, HasEnv, HasSignature, HasFunc
 ghost use Rattle.sml_modules.specs.Adding.{Extends};
 ghost use Rattle.realisation.specs.Canonical.{to_canonical, canonical_signature, canonical_functor};
 ghost use Rattle.environment_walks.specs.Changing.{AreChanged};
-ghost use Rattle.canonical_walks.specs.Orders.{by_order};
+ghost use Rattle.canonical_types.specs.Orders.{by_order};
 ghost use Rattle.canonical_walks.specs.Binders.{unchanged, signature_with, functor_with, NoneBound, NamesFunctor, CanonAt, AreCanon, CanonRows};
 
-use crate::numbering::{FunctorNames, Numbering, bound_names, functor_names};
+use canonical_types::{FunctorNames, Numbering, bound_names, functor_names};
 use cm_base::{List, NoMemory};
 use env_parts::Rows;
 use environment_walks::{Images, change_env, mapped_rows};

@@ -3,10 +3,6 @@
 #![tactic(auto)]
 
 mod binders;
-mod entries;
-mod numbering;
-mod renaming;
 mod tops;
-mod variables;
 
 pub use tops::canon;

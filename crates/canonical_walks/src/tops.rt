@@ -9,11 +9,11 @@ ghost use Rattle.sml_modules.specs.Adding.{Extends};
 ghost use Rattle.realisation.specs.Names.{names_in_top};
 ghost use Rattle.realisation.specs.Canonical.{met, is_own, canonical};
 ghost use Rattle.name_walks.specs.Places.{HasAll, names_in_all};
-ghost use Rattle.canonical_walks.specs.Orders.{by_order};
+ghost use Rattle.canonical_types.specs.Orders.{by_order};
 ghost use Rattle.canonical_walks.specs.Binders.{NoneBound, binder_names, canonical_by, AddsEnvs, MakesTop};
 
 use crate::binders::canon_rows;
-use crate::numbering::{Numbering, own_names};
+use canonical_types::{Numbering, own_names};
 use cm_base::{List, NoMemory};
 use env_parts::{Rows, TopTables};
 use environment_walks::{Images, change_env};

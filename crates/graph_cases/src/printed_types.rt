@@ -6,7 +6,7 @@ use semantic_objects::{Owner, Symbol, TyName, TypeNode, TypeTree};
 use std::alloc::Global;
 
 /// The letter of a type name, and a question mark where it has none.
-fn name_letter(name: &TyName) -> &'static [u8] {
+pub fn name_letter(name: &TyName) -> &'static [u8] {
     match &name.owner {
         Owner::Basis => match name.number {
             1 => b"i",

@@ -3,7 +3,7 @@ use Rattle.sml_modules.specs.Graphs.{functor_of}
 use Rattle.sml_modules.proofs.Keeping.{keeps}
 use Rattle.realisation.specs.Environments.{changed}
 use Rattle.realisation.specs.Canonical.{to_canonical}
-use Rattle.canonical_walks.specs.Orders.{by_order}
+use Rattle.canonical_types.specs.Orders.{by_order}
 use Rattle.canonical_walks.proofs.Canons.{fun_canon}
 use Rattle.canonical_walks.proofs.binders.canon_functor.Goals as goal
 

@@ -1,7 +1,7 @@
 use Rattle.sml_modules.specs.Adding.{Extends}
 use Rattle.realisation.specs.Canonical.{to_canonical}
 use Rattle.environment_walks.specs.Changing.{AreChanged}
-use Rattle.canonical_walks.specs.Orders.{by_order}
+use Rattle.canonical_types.specs.Orders.{by_order}
 use Rattle.canonical_walks.specs.Binders.{AreCanon}
 use Rattle.canonical_walks.proofs.binders.note_binders.Given as goal
 

@@ -4,7 +4,7 @@ use Rattle.sml_modules.specs.Graphs.{env_at}
 use Rattle.sml_modules.proofs.Keeping.{keeps, extends_then}
 use Rattle.realisation.specs.Environments.{changed}
 use Rattle.realisation.specs.Canonical.{to_canonical, canonical_functor}
-use Rattle.canonical_walks.specs.Orders.{by_order}
+use Rattle.canonical_types.specs.Orders.{by_order}
 use Rattle.canonical_walks.specs.Binders.{unchanged, functor_with}
 use Rattle.canonical_walks.proofs.Binding.{fun_of, fun_numbered}
 use Rattle.canonical_walks.proofs.Canons.{item_added, added_extends}

@@ -1,4 +1,4 @@
-use Rattle.std.proofs.Common.{◌∙◌, sym, ap, subst}
+use Rattle.std.proofs.Common.{◌∙◌, sym, ap}
 use Rattle.sml_modules.specs.Graphs.{top_at}
 use Rattle.sml_modules.specs.Nodes.{top_of_tables}
 use Rattle.realisation.specs.Names.{names_in_top}

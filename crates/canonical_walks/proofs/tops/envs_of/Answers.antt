@@ -1,5 +1,4 @@
-use Rattle.std.proofs.Common.{[], ◌∷◌, ◌++◌, ap, ◌∙◌, refl}
-use Rattle.canonical_walks.proofs.Topped.{env_id, top_named}
+use Rattle.canonical_walks.proofs.Topped.{top_named}
 use Rattle.canonical_walks.proofs.tops.envs_of.Goals as goal
 
 pub returns-clause-names : goal.returns-clause-names
