@@ -60,7 +60,7 @@ dats_counted sc refused (bind ∷ binds) made st r e =
     (λ cons j.
     let dat : Dat = record { name = bind.name.text; variables = l.0; cons = cons } in
     let i : length r.0 ≡ length (made ++ dat ∷ []) + length binds =
-        dats_counted sc refused binds (made ++ dat ∷ []) l.1 r j in
+    dats_counted sc refused binds (made ++ dat ∷ []) l.1 r j in
     let o : length (made ++ dat ∷ []) ≡ length made + 1 = length-append made (dat ∷ []) in
     omega (arith, i, o)))
 
