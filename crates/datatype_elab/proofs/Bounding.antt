@@ -1,5 +1,5 @@
 -- The arguments of datatypes bind variables of their lists alone.
-use Rattle.std.proofs.Common.{◌≡◌, ℕ, ◌<◌, ◌∷◌, [], List, refl, sym, ap, ◌∙◌, subst, Bool, true, false, cond, Option, Some, None, length}
+use Rattle.std.proofs.Common.{◌≡◌, ℕ, ◌<◌, ◌∷◌, [], List, refl, sym, subst, Bool, true, false, cond, Option, Some, None, length}
 use Rattle.std.proofs.lemmas.Bool.{eqb-true}
 use Rattle.semantic_objects.specs.Trees.{Tree, binds, binds_any, BindsBelow}
 use Rattle.unification.specs.Closing.{is_among, place_of, closed_over, closed_over_all}

@@ -1,19 +1,18 @@
 -- Datatypes that were read are named and bound.
 use Rattle.std.proofs.Common.{◌≡◌, ℕ, ◌+◌, ◌≤◌, List, [], ◌∷◌, ◌++◌, length, map, take, refl, sym, ap, ap₂, ◌∙◌, subst, Bool, arith, zero, suc, Some, None}
 use Rattle.std.proofs.lemmas.List.{length-append, take-append-le, take_all}
-use Rattle.std.specs.Prelude.{Result, Ok, Err}
+use Rattle.std.specs.Prelude.{Ok, Err}
 use Rattle.cm_base.specs.declared.fault.Fault.{Fault}
 use Rattle.cm_base.specs.declared.fault.Fault.TheVariants as fault
 use Rattle.semantic_objects.specs.declared.name.TyName.{TyName}
 use Rattle.semantic_objects.specs.declared.entry.ValueEntry.{ValueEntry}
 use Rattle.semantic_objects.specs.Environments.{Env, empty_env}
-use Rattle.unification.specs.Types.{State}
 use Rattle.type_nodes.specs.Tables.{Table, state}
 use Rattle.bare_phrases.specs.Phrases.{DatPhrase}
 use Rattle.sml_modules.specs.Graphs.{Graph, with_name}
 use Rattle.static_semantics.specs.Inferring.{Progress, Scope, under, with_written_alone, Answer, ◌>>=◌, gives}
 use Rattle.static_semantics.specs.TypeInference.{listed, as_written}
-use Rattle.static_semantics.specs.DatatypeInference.{Con, Dat, infer_cons, cons_of, infer_dats, dat_admits, narrowed, looked_over, looked_over_times, equality_choice, made_types, after_names, datatypes_of, new_types}
+use Rattle.static_semantics.specs.DatatypeInference.{Dat, infer_cons, cons_of, infer_dats, dat_admits, narrowed, looked_over, looked_over_times, equality_choice, made_types, after_names, datatypes_of, new_types}
 use Rattle.core_scopes.specs.declared.made.Made.{Made}
 use Rattle.core_scopes.specs.Scopes.{Bindings}
 use Rattle.core_scopes.specs.Marks.{env_of_made}
@@ -21,7 +20,7 @@ use Rattle.type_phrases.specs.Inferred.{Answers, progress, scope_in}
 use Rattle.type_phrases.proofs.Steps.{failed}
 use Rattle.datatype_elab.specs.declared.dats.DatRead.{DatRead}
 use Rattle.datatype_elab.specs.declared.reading.Datatypes.{Datatypes}
-use Rattle.datatype_elab.specs.Listing.{dat_of, AreDats}
+use Rattle.datatype_elab.specs.Listing.{dat_of}
 use Rattle.datatype_elab.specs.Declaring.{infer_datatypes, AreRead}
 use Rattle.datatype_elab.specs.Leaving.{MakesNames}
 

@@ -1,5 +1,5 @@
 -- What a declaration of datatypes leaves: the names of its types more, and a table that knows their variables.
-use Rattle.std.specs.Prelude.{◌≡◌, List, length, take, Result, Ok, Err}
+use Rattle.std.specs.Prelude.{◌≡◌, length, take, Result, Ok, Err}
 use Rattle.cm_base.specs.declared.fault.Fault.{Fault}
 use Rattle.cm_base.specs.declared.fault.Fault.TheVariants as fault
 use Rattle.sml_modules.specs.declared.id.EnvId.{EnvId}

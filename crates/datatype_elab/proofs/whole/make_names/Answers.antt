@@ -1,5 +1,4 @@
-use Rattle.std.proofs.Common.{◌≡◌, ◌+◌, ◌≤◌, length, refl, subst, sym, arith}
-use Rattle.datatype_elab.specs.Leaving.{MakesNames}
+use Rattle.std.proofs.Common.{◌≡◌, ◌+◌, ◌≤◌, length, arith}
 use Rattle.datatype_elab.proofs.Finishing.{names_none, names_more, names_longer}
 use Rattle.datatype_elab.proofs.whole.make_names.Goals as goal
 
