@@ -9,3 +9,5 @@ pub mod Settling
 pub mod Entering
 pub mod Made
 pub mod Binding
+pub mod Bounding
+pub mod Finishing

@@ -6,3 +6,4 @@ pub mod Choosing
 pub mod Declaring
 pub mod Making
 pub mod Binding
+pub mod Leaving

@@ -1,6 +1,6 @@
 //! What a declaration of datatypes binds.
 
-ghost use Rattle.std.specs.Prelude.{◌≡◌, ◌++◌, length, map, IfOk, OnOk};
+ghost use Rattle.std.specs.Prelude.{◌≡◌, ◌++◌, [], length, map, IfOk, OnOk};
 ghost use Rattle.semantic_objects.specs.declared.entry.ValueEntry.{ValueEntry};
 ghost use Rattle.semantic_objects.specs.Environments.{empty_env};
 ghost use Rattle.type_nodes.specs.Tables.{Table};
@@ -74,9 +74,10 @@ pub(crate) fn make_all<V: Copy + Drop>(
     requires home { new.now.home ≡ g.now.home }
     requires counted { new.now.count ≡ length choice.now }
     requires bound { AllBound dats.now }
-    ensures { IfOk result (λ made. (h : Graph) (read : V → ValueEntry) (t : Table) → AreDats t dats.now
+    ensures made { IfOk result (λ made. (h : Graph) (read : V → ValueEntry) (t : Table) → AreDats t dats.now
         → env_of_made h read made
         ≡ made_types new.now.home new.now.first choice.now new.now.first (map (dat_of t) dats.now) empty_env) }
+    ensures structures { IfOk result (λ made. made.structures ≡ []) }
 {
     let mut made = Made {
         structures: List::new(alloc),

@@ -14,3 +14,6 @@ mod reading;
 mod settle;
 mod trees;
 mod wants;
+mod whole;
+
+pub use whole::datatypes_in;

@@ -12,8 +12,8 @@ loop-at-preserved g c =
     c.index-dats-at.result c.loop-at.made c.in_ok-made.made c.in_ok-name.name c.in_ok-entry.entry c.loop-at.invariant
     c.loop-at-test.true c.index-dats-at.is c.in_ok-name.ensures c.in_ok-entry.ensures c.in_ok-made.ensures
 
-pub returns : goal.returns
-returns g c = λ h read t are.
+pub returns-clause-made : goal.returns-clause-made
+returns-clause-made g c = λ h read t are.
     let end : length c.args.dats.now ≤ c.loop-at.at = omega (arith, c.loop-at-test.false) in
     types_done c.args.new.now.home c.args.new.now.first c.args.choice.now c.args.dats.now c.loop-at.at c.loop-at.made
     c.loop-at.invariant end h read t are
