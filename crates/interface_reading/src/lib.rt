@@ -8,4 +8,4 @@ mod needs;
 mod open;
 
 pub use fault::RestoreFault;
-pub use names::is_name;
+pub use names::{are_names, is_name};

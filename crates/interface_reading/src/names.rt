@@ -1,12 +1,12 @@
 //! What is asked of names and labels.
 
-ghost use Rattle.std.specs.Prelude.{◌≡◌, ◌↔◌, IsTrue};
+ghost use Rattle.std.specs.Prelude.{◌≡◌, ◌↔◌, All, IsTrue};
 ghost use Rattle.std.specs.List.{list_all};
 ghost use Rattle.std.specs.Ordering.{nat_cmp};
 ghost use Rattle.std.specs.declared.cmp.Ordering.TheVariants.{Less};
 ghost use Rattle.std.specs.Cmp.Lexicographic.{slice_cmp};
 ghost use Rattle.semantic_objects.specs.Symbols.{AreRising};
-ghost use Rattle.interface_format.specs.Rules.{IsName};
+ghost use Rattle.interface_format.specs.Rules.{IsName, AreNames};
 ghost use Rattle.interface_reading.specs.Names.{is_graph};
 
 use cm_base::Text;
@@ -53,4 +53,19 @@ fn are_rising(names: &[Text]) -> bool
         }
     }
     true
+}
+
+/// Whether each text can be a name.
+fn are_all_names(names: &[Text]) -> bool
+    ensures { IsTrue result ↔ All IsName names.now }
+{
+    names.iter().all(|name| is_name(name.as_bytes()))
+}
+
+/// Whether these can be the names or the labels of a list in an interface: each is one, they stand in strictly rising
+/// byte order, and their count has four bytes.
+pub fn are_names(names: &[Text]) -> bool
+    ensures { IsTrue result ↔ AreNames names.now }
+{
+    names.len() <= u32::MAX as usize && are_rising(names) && are_all_names(names)
 }
