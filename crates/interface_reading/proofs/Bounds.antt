@@ -1,12 +1,12 @@
 -- A bound on the nodes that are open says nothing, where it is no less than the number of bytes.
-use Rattle.std.proofs.Common.{◌≡◌, ℕ, zero, suc, ◌<◌, ◌≤◌, refl, sym, ap, subst, ◌∙◌, List, [], ◌∷◌, ◌++◌, length, take, drop, Bool, true, false, cond, Option, Some, None, arith}
+use Rattle.std.proofs.Common.{◌≡◌, ℕ, zero, suc, ◌≤◌, refl, sym, ap, subst, ◌∙◌, List, [], ◌∷◌, ◌++◌, length, take, drop, Bool, true, false, cond, Option, Some, None, arith}
 use Rattle.std.specs.Prelude.{◌==◌}
 use Rattle.std.proofs.lemmas.List.{length-drop}
-use Rattle.cm_bytes.specs.Fields.{Step, ◌>>=◌, byte_at, raw_at, u32_at}
+use Rattle.cm_bytes.specs.Fields.{◌>>=◌, byte_at, raw_at, u32_at}
 use Rattle.cm_bytes.proofs.Fields.{bind_some, some_is}
 use Rattle.node_bytes.specs.Nodes.{Node, Content, Begun, whole, number_of, node_of}
 use Rattle.node_bytes.specs.Formats.{Format, Shape}
-use Rattle.node_bytes.specs.Reading.{NodeStep, content_at, back_at, if_new, written_at, tagged_at, node_at, alone_at}
+use Rattle.node_bytes.specs.Reading.{NodeStep, content_at, back_at, if_new, written_at, tagged_at, node_at}
 use Rattle.interface_reading.specs.Unbounded.{any_node_at}
 
 -- ---- no step adds bytes
@@ -156,6 +156,7 @@ nodes_same zero n m f a b = record { same = at }
     none : (i : ℕ) (begun : Begun) → node_at i f begun [] ≡ None
     none zero begun = refl
     none (suc i) begun = refl
+
     at : (begun : Begun) (bytes : List ℕ) → length bytes ≤ 0 → node_at n f begun bytes ≡ node_at m f begun bytes
     at begun [] le = none n begun ∙ sym (none m begun)
     at begun (x ∷ bytes) le = absurd (omega (arith, le))

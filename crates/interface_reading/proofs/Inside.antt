@@ -1,7 +1,7 @@
 -- No node that is read stands in itself.
-use Rattle.std.proofs.Common.{◌≡◌, ℕ, zero, suc, ◌+◌, ◌<◌, ◌≤◌, refl, sym, ap, subst, ◌∙◌, List, [], ◌∷◌, ◌++◌, length, Bool, true, false, cond, Option, Some, None, arith}
+use Rattle.std.proofs.Common.{◌≡◌, ℕ, zero, suc, ◌+◌, ◌<◌, ◌≤◌, refl, ap, subst, ◌∙◌, List, [], ◌∷◌, ◌++◌, Bool, true, false, cond, Option, Some, None, arith}
 use Rattle.std.specs.Prelude.{◌==◌}
-use Rattle.cm_bytes.specs.Fields.{Step, ◌>>=◌, byte_at, raw_at, u32_at}
+use Rattle.cm_bytes.specs.Fields.{◌>>=◌, byte_at, raw_at, u32_at}
 use Rattle.cm_bytes.proofs.Fields.{bind_some, some_is}
 use Rattle.node_bytes.specs.Nodes.{Node, Content, Begun, whole, number_of, node_of, one_on, here_or, same_node}
 use Rattle.node_bytes.specs.Formats.{Format, Shape}
@@ -90,9 +90,11 @@ written_small step h f tag begun bytes r e =
     let a = bind_some (content_at step (f.shape tag) (begun ++ None ∷ []) bytes) later r e in
     subst (λ (q : (Node × List Node) × List ℕ). AreSmall (size q.0.0) q.0.1)
     (if_new_is (number_of begun (Node.node tag a.0.0.0))
-    ((Node.node tag a.0.0.0, Node.node tag a.0.0.0 ∷ a.0.0.1), a.0.1) r a.2)
-    (omega arith, small_more (size_in a.0.0.0) (suc (size_in a.0.0.0)) a.0.0.1 (omega arith)
-    (content_small step h (f.shape tag) (begun ++ None ∷ []) bytes a.0 a.1))
+    ((Node.node tag a.0.0.0, Node.node tag a.0.0.0 ∷ a.0.0.1), a.0.1) r a.2) (
+      omega arith,
+      small_more (size_in a.0.0.0) (suc (size_in a.0.0.0)) a.0.0.1 (omega arith)
+          (content_small step h (f.shape tag) (begun ++ None ∷ []) bytes a.0 a.1),
+    )
 
 tagged_small : (step : NodeStep) → BeginsSmall step → (f : Format) (tag : ℕ) (begun : Begun) (bytes : List ℕ)
     (r : (Node × List Node) × List ℕ) (b : Bool) → cond b (back_at begun bytes) (written_at step f tag begun bytes) ≡ Some r

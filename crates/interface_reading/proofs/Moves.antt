@@ -1,17 +1,16 @@
 -- How reading goes on in an open node, step by step.
-use Rattle.std.proofs.Common.{◌≡◌, ◌≢◌, ℕ, zero, suc, ◌+◌, ◌<◌, ◌≤◌, refl, sym, ap, subst, ◌∙◌, List, [], ◌∷◌, ◌++◌, length, set, Bool, true, false, cond, Option, Some, None, append_assoc, arith}
-use Rattle.std.specs.Prelude.{◌==◌}
+use Rattle.std.proofs.Common.{◌≡◌, ◌≢◌, ℕ, refl, sym, ap, ◌∙◌, List, [], ◌∷◌, ◌++◌, length, set, Bool, cond, Option, Some, None, append_assoc}
 use Rattle.std.proofs.lemmas.List.{append-nil}
 use Rattle.std.proofs.lemmas.Bool.{eq-eqb, ne_eqb}
-use Rattle.cm_bytes.specs.Fields.{Step, ◌>>=◌, byte_at, raw_at, u32_at}
+use Rattle.cm_bytes.specs.Fields.{◌>>=◌, raw_at, u32_at}
 use Rattle.node_bytes.specs.Nodes.{Node, Content, Begun, whole, number_of, node_of}
 use Rattle.node_bytes.specs.Formats.{Format, Shape}
-use Rattle.node_bytes.specs.Reading.{NodeStep, content_at, back_at, if_new, written_at, tagged_at, node_at, alone_at}
+use Rattle.node_bytes.specs.Reading.{content_at, back_at, if_new, written_at, alone_at}
 use Rattle.node_bytes.proofs.Numbers.{whole-append}
 use Rattle.interface_reading.specs.Unbounded.{any_node_at}
-use Rattle.interface_reading.specs.Open.{both, Frame, Then, node_in, closing, going, on, opened, going_with}
-use Rattle.interface_reading.proofs.Bounds.{any_tagged, any_nothing}
-use Rattle.interface_reading.proofs.Inside.{BeginsSmall, content_small, node_small, not_in_itself, size_in, AreSmall}
+use Rattle.interface_reading.specs.Open.{both, Frame, Then, closing, going, on, opened, going_with}
+use Rattle.interface_reading.proofs.Bounds.{any_tagged}
+use Rattle.interface_reading.proofs.Inside.{content_small, node_small, not_in_itself, size_in, AreSmall}
 
 -- ---- steps one after another
 

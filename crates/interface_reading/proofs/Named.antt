@@ -19,7 +19,6 @@ and_both : (a b : Bool) → a ≡ true → b ≡ true → (a && b) ≡ true
 and_both true b h k = k
 and_both false b h k = h
 
-
 from_graph : (b : ℕ) → is_graph b ≡ true → 33 ≤ b
 from_graph b h = ltb-true 32 b (and_parts (nat_lt 32 b) (nat_lt b 127) h).0
 
@@ -66,11 +65,12 @@ pub rises_all : (at : ℕ) (names : List (List ℕ)) → RisesTo at names → le
 rises_all at [] h le = tt
 rises_all at (x ∷ []) h le = tt
 rises_all zero (x ∷ y ∷ names) h le = absurd (omega (arith, le))
-rises_all (suc at) (x ∷ y ∷ names) h le =
-    (h.less 0 (omega (arith, le)) (omega arith),
-    rises_all at (y ∷ names) (record {
-      less = λ k lt within. h.less (suc k) (omega (arith, lt)) (omega (arith, within));
-    }) (omega (arith, le)))
+rises_all (suc at) (x ∷ y ∷ names) h le = (
+  h.less 0 (omega (arith, le)) (omega arith),
+  rises_all at (y ∷ names) (record {
+    less = λ k lt within. h.less (suc k) (omega (arith, lt)) (omega (arith, within));
+  }) (omega (arith, le)),
+)
 
 pub rises_at : (names : List (List ℕ)) (k : ℕ) (x y : List ℕ) → AreRising names → slice_get names k ≡ Some x
     → slice_get names (suc k) ≡ Some y → slice_cmp nat_cmp x y ≡ Less

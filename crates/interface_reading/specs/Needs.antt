@@ -1,5 +1,5 @@
 -- What is awaited in a node, as a shape.
-use Rattle.std.specs.Prelude.{◌≡◌, ℕ, ◌+◌, List, [], ◌∷◌, ◌++◌, Some, None, Result, Ok, Err}
+use Rattle.std.specs.Prelude.{◌≡◌, ℕ, List, [], ◌∷◌, ◌++◌, Some, None, Result, Ok, Err}
 use Rattle.std.specs.Borrow.{Bor}
 use Rattle.cm_bytes.specs.Fields.{raw_at}
 use Rattle.node_bytes.specs.Formats.{Shape}

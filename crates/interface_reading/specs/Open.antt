@@ -1,9 +1,9 @@
 -- What is left to be read while some nodes are open.
-use Rattle.std.specs.Prelude.{ℕ, List, [], ◌∷◌, ◌++◌, set, Some}
+use Rattle.std.specs.Prelude.{ℕ, ◌++◌, set, Some}
 use Rattle.cm_bytes.specs.Fields.{Step, ◌>>=◌}
 use Rattle.node_bytes.specs.Nodes.{Node, Content, Begun, whole, number_of}
 use Rattle.node_bytes.specs.Formats.{Format, Shape}
-use Rattle.node_bytes.specs.Reading.{NodeStep, content_at, if_new}
+use Rattle.node_bytes.specs.Reading.{content_at, if_new}
 use Rattle.interface_reading.specs.Unbounded.{any_node_at}
 
 -- one content behind another

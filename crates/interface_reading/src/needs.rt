@@ -66,10 +66,7 @@ pub(crate) fn needs_of(alloc: Global, tag: u8) -> Result<List<Need>, RestoreFaul
                 Need::List(Listed::Named),
             ],
         ),
-        10 => needs_from(
-            alloc,
-            &[Need::Part, Need::Raw(4), Need::Part, Need::Raw(4)],
-        ),
+        10 => needs_from(alloc, &[Need::Part, Need::Raw(4), Need::Part, Need::Raw(4)]),
         11 => needs_from(alloc, &[Need::List(Listed::Named); 4]),
         _ => Err(RestoreFault::BadInterface),
     }

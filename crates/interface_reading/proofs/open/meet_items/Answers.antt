@@ -1,4 +1,4 @@
-use Rattle.std.proofs.Common.{◌-◌, ◌≡◌, ◌++◌, ◌∷◌, [], suc, arith, ap, ◌∙◌}
+use Rattle.std.proofs.Common.{◌-◌, arith, ap, ◌∙◌}
 use Rattle.interface_reading.specs.Needs.{shape_over, listed_then}
 use Rattle.node_bytes.specs.Formats.{Shape}
 use Rattle.interface_reading.proofs.Awaited.{items_more}

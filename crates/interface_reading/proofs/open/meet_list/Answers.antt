@@ -1,4 +1,4 @@
-use Rattle.std.proofs.Common.{◌≡◌, ◌++◌, ◌∷◌, [], ap, ap₂, ◌∙◌}
+use Rattle.std.proofs.Common.{◌++◌, ◌∷◌, [], ap, ap₂, ◌∙◌}
 use Rattle.interface_reading.specs.declared.needs.Need.TheVariants as need
 use Rattle.interface_reading.proofs.Awaited.{open_of, list_met}
 use Rattle.interface_reading.proofs.open.meet_list.Goals as goal

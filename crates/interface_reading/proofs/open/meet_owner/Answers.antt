@@ -1,4 +1,4 @@
-use Rattle.std.proofs.Common.{ap, ap₂}
+use Rattle.std.proofs.Common.{ap}
 use Rattle.interface_reading.specs.Meeting.{rest_shape}
 use Rattle.interface_reading.proofs.Awaited.{open_of, owner_met, owner_text, owner_plain}
 use Rattle.interface_reading.proofs.open.meet_owner.Goals as goal
