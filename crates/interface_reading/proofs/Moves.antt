@@ -7,6 +7,7 @@ use Rattle.node_bytes.specs.Nodes.{Node, Content, Begun, whole, number_of, node_
 use Rattle.node_bytes.specs.Formats.{Format, Shape}
 use Rattle.node_bytes.specs.Reading.{content_at, back_at, if_new, written_at, alone_at}
 use Rattle.node_bytes.proofs.Numbers.{whole-append}
+use Rattle.interface_reading.specs.Laws.{ReadsOpenNodes}
 use Rattle.interface_reading.specs.Unbounded.{any_node_at}
 use Rattle.interface_reading.specs.Open.{both, Frame, Then, closing, going, on, opened, going_with}
 use Rattle.interface_reading.proofs.Bounds.{any_tagged}
@@ -177,14 +178,20 @@ going_complete f done fr begun bytes is =
     ∙ ap (λ (c : Content). if_new (number_of begun (Node.node fr.tag c)) (Node.node fr.tag c)
     >>= λ x. done (set begun fr.number (Some x)) x bytes) (both_nothing fr.before)
 
-pub going_refused : (f : Format) (done : Then) (fr : Frame) (begun : Begun) (bytes : List ℕ)
-    → fr.shape ≡ Shape.refused → going f done fr begun bytes ≡ None
-going_refused f done fr begun bytes is =
-    ap (λ (s : Shape). content_at (any_node_at f) s begun bytes >>= λ r. closing done fr (begun ++ whole r.0.1) r.0.0 r.1) is
-
 -- ---- the beginning
 
 pub alone_is : (f : Format) (bytes : List ℕ)
     → alone_at f bytes ≡ (any_node_at f [] bytes >>= λ x. Some (x.0.0, x.1))
 unfolding alone_at
 alone_is f bytes = refl
+
+-- ---- all of it
+
+pub open_nodes : ReadsOpenNodes
+open_nodes = record {
+  alone = alone_is;
+  part = going_part;
+  opens = node_opens;
+  back = node_back;
+  closes = going_complete;
+}

@@ -27,6 +27,7 @@ fn are_graph(bytes: &[u8]) -> bool
 }
 
 /// Whether a text can be a name or a label in an interface: it has 1 to 255 bytes from 33 to 126.
+#[tactic(auto, using(crate::proofs::Named::is_named, crate::proofs::Named::named_is))]
 pub fn is_name(text: &[u8]) -> bool
     ensures { IsTrue result ↔ IsName text.now }
 {
