@@ -1,1 +1,4 @@
 pub mod Specifying
+pub mod Listing
+pub mod Valuing
+pub mod Excepting

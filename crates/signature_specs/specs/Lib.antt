@@ -1,1 +1,3 @@
 pub mod Specs
+pub mod Variables
+pub mod Steps

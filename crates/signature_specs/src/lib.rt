@@ -1,6 +1,12 @@
 //! Specifications in signatures: values, types and exceptions.
 #![tactic(auto)]
 
+mod exceptions;
 mod specified;
+mod under;
+mod vals;
+mod variables;
 
+pub use exceptions::elab_exception_specs;
 pub use specified::{Specified, specify_type, specify_value};
+pub use vals::elab_vals;
