@@ -2,3 +2,4 @@ pub mod Specifying
 pub mod Listing
 pub mod Valuing
 pub mod Excepting
+pub mod Typing
