@@ -1,5 +1,5 @@
 -- Exceptions that are specified, one after another.
-use Rattle.std.proofs.Common.{◌≡◌, ℕ, refl, sym, ap, ap₂, ◌∙◌, subst, List, [], ◌∷◌, length, map, Option, Some, None, Bool}
+use Rattle.std.proofs.Common.{◌≡◌, ℕ, refl, sym, ap, ap₂, ◌∙◌, subst, List, [], ◌∷◌, Option, Some, None}
 use Rattle.std.specs.Prelude.{Result, Ok, Err, IsErrAnd}
 use Rattle.std.specs.Option.{option_map}
 use Rattle.cm_base.specs.declared.fault.Fault.{Fault}
@@ -10,7 +10,7 @@ use Rattle.semantic_objects.specs.Trees.{Tree, Trees, trees_of, BindsBelow}
 use Rattle.semantic_objects.specs.Environments.{Signature, empty_env, with_value}
 use Rattle.unification.specs.Types.{Ty}
 use Rattle.unification.specs.Closing.{closed_over}
-use Rattle.type_nodes.specs.Tables.{Table, type_of}
+use Rattle.type_nodes.specs.Tables.{Table}
 use Rattle.bare_phrases.specs.Phrases.{TyPhrase, ConPhrase}
 use Rattle.bare_phrases.specs.PhraseOf.{ty_phrase}
 use Rattle.name_trails.specs.Trails.{Rows}
@@ -22,7 +22,6 @@ use Rattle.inference_laws.proofs.Nodes.{closed_binds}
 use Rattle.type_phrases.specs.Inferred.{Answers}
 use Rattle.type_phrases.proofs.Steps.{failed}
 use Rattle.type_phrases.proofs.PartsRead.{passed_on}
-use Rattle.listed_types.specs.declared.listed.ListedType.{ListedType}
 use Rattle.module_semantics.specs.SignatureInference.{exception_ty, specified, infer_exception_specs}
 use Rattle.signature_specs.specs.Variables.{IsListIn}
 use Rattle.signature_specs.specs.Steps.{open_exception, exception_with, infer_exception}

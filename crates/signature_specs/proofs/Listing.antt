@@ -1,5 +1,5 @@
 -- Lists of type variables in a table, and types under them.
-use Rattle.std.proofs.Common.{◌≡◌, ℕ, ◌+◌, ◌≤◌, ◌<◌, List, [], ◌∷◌, ◌++◌, length, map, refl, sym, ap, ap₂, ◌∙◌, subst, Bool, true, false, ◌||◌, cond, zero, suc, arith}
+use Rattle.std.proofs.Common.{◌≡◌, ℕ, ◌+◌, ◌≤◌, List, [], ◌∷◌, ◌++◌, length, refl, sym, ap, ap₂, ◌∙◌, subst, Bool, true, false, ◌||◌, cond, zero, suc, arith}
 use Rattle.std.proofs.lemmas.List.{append_assoc, append-nil, map-append}
 use Rattle.sml_trees.specs.declared.name.Name.{Name}
 use Rattle.semantic_objects.specs.declared.name.TyId.{TyId}
@@ -11,7 +11,7 @@ use Rattle.type_nodes.specs.Keeping.{IsKept}
 use Rattle.sml_modules.specs.Items.{map_rows}
 use Rattle.sml_modules.specs.Graphs.{Graph}
 use Rattle.name_trails.specs.Trails.{Rows}
-use Rattle.static_semantics.specs.Inferring.{Progress, Scope, with_written_alone, Answer, ◌>>=◌, gives, refuses_where, name_at, is_named}
+use Rattle.static_semantics.specs.Inferring.{Progress, Scope, with_written_alone, ◌>>=◌, gives, refuses_where, name_at, is_named}
 use Rattle.static_semantics.specs.TypeInference.{new_rigid, listed, numbers, as_written}
 use Rattle.static_semantics.specs.DatatypeInference.{counted}
 use Rattle.static_semantics.specs.CoreInference.{implicit}

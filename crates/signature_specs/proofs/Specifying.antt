@@ -1,6 +1,6 @@
 -- Names that are specified one after another.
 use Rattle.std.proofs.Common.{◌≡◌, ℕ, refl, sym, ap, ap₂, ◌∙◌, subst, List, [], ◌∷◌, ◌++◌, Option, Some, None, Bool, true, false, ◌||◌}
-use Rattle.std.specs.Prelude.{Result, Ok, Err, IsErrAnd}
+use Rattle.std.specs.Prelude.{Result, Err, IsErrAnd}
 use Rattle.std.specs.Option.{is_some}
 use Rattle.cm_base.specs.declared.fault.Fault.{Fault}
 use Rattle.sml_trees.specs.declared.name.At.{At}
@@ -18,7 +18,7 @@ use Rattle.type_phrases.specs.Inferred.{Answers}
 use Rattle.type_phrases.proofs.Steps.{failed}
 use Rattle.type_phrases.proofs.PartsRead.{passed_on}
 use Rattle.signature_specs.specs.declared.specified.Specified.{Specified}
-use Rattle.signature_specs.specs.Specs.{env_so_far, signature_so_far}
+use Rattle.signature_specs.specs.Specs.{env_so_far}
 
 -- ---- a check, and what is specified after it
 

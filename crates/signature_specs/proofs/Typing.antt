@@ -1,5 +1,5 @@
 -- Types that are specified by their names, one after another.
-use Rattle.std.proofs.Common.{◌≡◌, ℕ, ◌+◌, ◌<◌, refl, sym, ap, ap₂, ◌∙◌, subst, List, [], ◌∷◌, ◌++◌, length, map, Option, Some, None, Bool, true, false, zero, suc, arith, cond}
+use Rattle.std.proofs.Common.{◌≡◌, ℕ, ◌+◌, ◌<◌, refl, sym, ap, ap₂, ◌∙◌, subst, List, [], ◌∷◌, ◌++◌, length, map, Some, None, Bool, true, false, zero, suc, arith, cond}
 use Rattle.std.specs.Prelude.{Result, Ok, Err, IsErrAnd}
 use Rattle.std.proofs.lemmas.Bool.{lt-ltb}
 use Rattle.std.proofs.lemmas.List.{map-append, length-map, length-append}
@@ -11,7 +11,7 @@ use Rattle.semantic_objects.specs.declared.entry.TypeStr.{TypeStr}
 use Rattle.semantic_objects.specs.declared.symbol.Symbol.TheVariants as symbol
 use Rattle.semantic_objects.specs.Environments.{Env, Signature, empty_env, with_type, modified_by}
 use Rattle.semantic_objects.specs.Trees.{Tree, Trees, trees_of}
-use Rattle.unification.specs.Types.{Ty, State}
+use Rattle.unification.specs.Types.{Ty}
 use Rattle.unification.specs.Closing.{place_of, closed_over, closed_over_all}
 use Rattle.type_nodes.specs.Tables.{Table, state}
 use Rattle.sml_modules.specs.Graphs.{Graph, new_name_of}
@@ -20,7 +20,7 @@ use Rattle.name_trails.specs.Trails.{Rows}
 use Rattle.static_semantics.specs.BasicTypes.{types_of}
 use Rattle.static_semantics.specs.Inferring.{Progress, Scope, Answer, ◌>>=◌, gives, refuses_where, name_at}
 use Rattle.static_semantics.specs.TypeInference.{plain_type, listed}
-use Rattle.static_semantics.specs.DatatypeInference.{counted, own_name, own_ty, own_type, after_names}
+use Rattle.static_semantics.specs.DatatypeInference.{counted, own_name, own_type, after_names}
 use Rattle.listed_types.proofs.Closing.{among_from, place_from}
 use Rattle.type_phrases.specs.Inferred.{Answers, progress}
 use Rattle.type_phrases.proofs.Steps.{failed}

@@ -1,5 +1,5 @@
 -- Signatures while they are made. The Definition of Standard ML (Revised), rules 62 and 76 to 84.
-use Rattle.std.specs.Prelude.{List, [], map}
+use Rattle.std.specs.Prelude.{[]}
 use Rattle.semantic_objects.specs.Tables.{with_all}
 use Rattle.semantic_objects.specs.Environments.{Env, Signature, env_of}
 use Rattle.sml_modules.specs.Items.{map_rows}

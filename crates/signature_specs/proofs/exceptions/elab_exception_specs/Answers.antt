@@ -62,7 +62,7 @@ loop-con-preserved g c = record {
       let cons = c.args.cons.now in
       let i = c.loop-con.con-index in
       let item = c.con-item.result in
-        let inner = scope_in graph u read c.args.scope.now in
+      let inner = scope_in graph u read c.args.scope.now in
       exceptions_more inner (map con_phrase cons) (map con_phrase (drop i cons)) (map con_phrase (drop (i + 1) cons))
       (con_phrase item) (signature_so_far graph c.args.made.now) (signature_so_far graph c.loop-con.made)
       (c.loop-con.invariant.left_is u read)

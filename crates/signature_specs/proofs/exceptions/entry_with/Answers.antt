@@ -1,4 +1,4 @@
-use Rattle.std.proofs.Common.{subst, []}
+use Rattle.std.proofs.Common.{subst}
 use Rattle.std.specs.Prelude.{Err}
 use Rattle.semantic_objects.specs.declared.entry.ValueEntry.{ValueEntry}
 use Rattle.bare_phrases.specs.PhraseOf.{ty_phrase}

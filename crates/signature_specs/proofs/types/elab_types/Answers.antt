@@ -17,8 +17,10 @@ returns-in_err-elab_type-clause-infers c = λ inner home.
     (signature_so_far c.loop-desc.g c.loop-desc.made) (progress c.args.t.now c.args.g.now)
     (progress c.loop-desc.t c.loop-desc.g) (c.loop-desc.invariant.left_is inner home)
     (ap (map type_desc_phrase) (drop_item descs i item c.loop-desc-test.true c.desc-item.is))
-    (λ (x : Unit {0}). (signature_so_far c.elab_type.new.g c.elab_type.new.made,
-    progress c.elab_type.new.t c.elab_type.new.g))
+    (λ (x : Unit {0}). (
+      signature_so_far c.elab_type.new.g c.elab_type.new.made,
+      progress c.elab_type.new.t c.elab_type.new.g,
+    ))
     _ c.in_err-elab_type.field-0.0 c.from_residual.result c.from_residual.ensures.1
     (c.in_err-elab_type.ensures.infers inner (home ∙ sym c.loop-desc.invariant.home))
 
