@@ -37,7 +37,7 @@ entered_begin rows old h = record { left = λ g. refl; written = refl; front = h
 no_graph : Graph
 no_graph = record { items = []; home = []; made = [] }
 
-left_row : {A : Type 0} (xs : List A) (i : ℕ) (x : A) → i < length xs → x ≡ get_or xs i x
+pub left_row : {A : Type 0} (xs : List A) (i : ℕ) (x : A) → i < length xs → x ≡ get_or xs i x
     → drop i xs ≡ x ∷ drop (i + 1) xs
 left_row {A} xs i x h e = drop-cons xs i x h ∙ ap₂ (λ (y : A) n. y ∷ drop n xs) (sym e) (sym (add-one i))
 

@@ -1,2 +1,4 @@
 pub mod Rules
 pub mod Entered
+pub mod Moments
+pub mod Expressions

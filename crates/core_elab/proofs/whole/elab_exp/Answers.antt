@@ -1,0 +1,27 @@
+use Rattle.std.proofs.Common.{◌∙◌}
+use Rattle.unification.specs.Unification.{depth}
+use Rattle.sml_modules.specs.Graphs.{env_at}
+use Rattle.bare_phrases.specs.PhraseOf.{exp_phrase}
+use Rattle.static_semantics.specs.Inferring.{outermost}
+use Rattle.static_semantics.specs.CoreInference.{infer_exp}
+use Rattle.type_phrases.specs.Inferred.{progress}
+use Rattle.pattern_elab.specs.Scopes.{own_entry}
+use Rattle.core_elab.proofs.Ruling.{keeps_same}
+use Rattle.core_elab.proofs.Beginning.{whole, refused}
+use Rattle.core_elab.proofs.whole.elab_exp.Goals as goal
+
+pub returns-in-Ok-clause-infers : goal.returns-in-Ok-clause-infers
+returns-in-Ok-clause-infers c =
+    whole c.args.env (exp_phrase c.args.exp.now) (c.new-scope.ensures.seen c.args.g.now own_entry)
+    c.new-scope.ensures.written c.in-Ok.ensures
+
+pub returns-clause-infers : goal.returns-clause-infers
+returns-clause-infers c =
+    refused (infer_exp depth (outermost c.args.g.now.home (env_at c.args.g.now c.args.env))
+    (exp_phrase c.args.exp.now) (progress c.args.t.now c.args.g.now)) c.in-Err.fault c.elab_in_scope.new.t
+    c.undo.new.self c.elab_in_scope.new.g c.elab_in_scope.new.g
+    (whole c.args.env (exp_phrase c.args.exp.now) (c.new-scope.ensures.seen c.args.g.now own_entry)
+    c.new-scope.ensures.written c.in-Err.ensures)
+
+pub returns-clause-ids : goal.returns-clause-ids
+returns-clause-ids c = keeps_same c.args.t.now c.undo.new.self (c.undo.ensures ∙ c.mark-before.ensures)
