@@ -25,7 +25,7 @@ use type_phrases::check_label;
 /// some of it may be known. A `let` is answered as want of memory is. The Definition of Standard ML (Revised), rules 1 to
 /// 14.
 #[cycle(elab_in_scope)]
-pub(crate) fn elab_in_scope(
+pub fn elab_in_scope(
     alloc: Global,
     g: &mut EnvGraph,
     t: &mut TypeTable,

@@ -12,6 +12,7 @@ mod rules;
 mod whole;
 
 pub use entered::enter_variables;
+pub use exp::elab_in_scope;
 pub use places::{place_of_exp, place_of_pat};
 pub use plain::{elab_char, elab_int, elab_long, elab_string};
 pub use rules::{applied, handled, joined, no_rules, raised};

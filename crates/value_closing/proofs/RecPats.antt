@@ -76,7 +76,7 @@ differ_still sc pat bound st r h d =
 
 -- ---- rows
 
-length_bound : (rows : Rows OwnVariable) → length (bound_of rows) ≡ length rows
+pub length_bound : (rows : Rows OwnVariable) → length (bound_of rows) ≡ length rows
 length_bound [] = refl
 length_bound (row ∷ rows) = ap suc (length_bound rows)
 

@@ -1,0 +1,6 @@
+//! `val` declarations.
+#![tactic(auto)]
+
+mod binds;
+
+pub use binds::elab_binds;
