@@ -65,7 +65,7 @@ pat_bind None f h g k = refl
 pat_bind (Some (Err d)) f h g k = refl
 pat_bind (Some (Ok p)) f h g k = exp_bind (f p.2) (h p.0) p.0 p.1 (g p.1) k
 
-abbrev Row : Type 0
+abbrev pub Row : Type 0
 Row = PatPhrase × ExpPhrase
 
 abbrev others : Scope → Rules → Bound × List Group × Progress → Answer (Bound × List Group × Progress)
@@ -132,7 +132,7 @@ fails_behind : {old new : Table} {before after : Rows OwnVariable} {groups more 
 fails_behind h = record { front = h.front; whole = λ k. tt; distinct = λ k. tt }
 
 -- the rule, with the pattern's type as it was made
-joins : {t1 : Table} {m2 : Moment} {new : Table} {r : Result TyId Fault} (row : Row) (a b : TyId) (place : At)
+pub joins : {t1 : Table} {m2 : Moment} {new : Table} {r : Result TyId Fault} (row : Row) (a b : TyId) (place : At)
     → IsCoreAt m2
     → KeepsTypes t1 m2.table → Has t1 a → place ≡ pat_at row.0
     → IsRule m2.graph m2.table new (λ sc. joined depth sc place (type_of m2.table a) (type_of m2.table b)

@@ -1,1 +1,3 @@
 pub mod Binding
+pub mod RecBinding
+pub mod Under

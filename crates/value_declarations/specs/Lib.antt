@@ -1,1 +1,3 @@
 pub mod Bindings
+pub mod RecBindings
+pub mod Values
