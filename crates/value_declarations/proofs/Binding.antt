@@ -1,12 +1,11 @@
 -- The plain bindings of a `val`, one after another.
-use Rattle.std.proofs.Common.{◌≡◌, ℕ, zero, suc, ◌+◌, ◌<◌, ◌≤◌, List, [], ◌∷◌, ◌++◌, length, map, drop, take, get_or, refl, sym, ap, ap₂, ◌∙◌, subst, Some, None, true}
-use Rattle.std.specs.Prelude.{Result, Ok, Err, IfOk, IsErrAnd}
+use Rattle.std.proofs.Common.{◌≡◌, ℕ, zero, suc, List, [], ◌∷◌, ◌++◌, length, drop, take, refl, sym, ap, ap₂, ◌∙◌, subst, Some, None, true}
+use Rattle.std.specs.Prelude.{Result, Ok, Err, IsErrAnd}
 use Rattle.std.proofs.Math.Seq.{take-length}
 use Rattle.cm_base.specs.declared.fault.Fault.{Fault}
 use Rattle.cm_base.specs.declared.fault.Fault.TheVariants as fault
 use Rattle.sml_trees.specs.declared.name.At.{At}
 use Rattle.semantic_objects.specs.declared.name.TyId.{TyId}
-use Rattle.semantic_objects.specs.Environments.{Env}
 use Rattle.unification.specs.Types.{Ty}
 use Rattle.unification.specs.Unification.{depth}
 use Rattle.type_nodes.specs.Tables.{Table, Has, type_of}
@@ -25,7 +24,6 @@ use Rattle.pattern_elab.specs.declared.own.OwnVariable.{OwnVariable}
 use Rattle.pattern_elab.specs.Scopes.{own_ty, bound_of}
 use Rattle.pattern_elab.specs.Steps.{IsPat, BindsOn}
 use Rattle.pattern_elab.proofs.Scoping.{core_later}
-use Rattle.pattern_elab.proofs.Binding.{binds_only, binds_then}
 use Rattle.core_elab.specs.Rules.{IsRule}
 use Rattle.core_elab.specs.Moments.{Moment, moment, scope_at, progress_at, IsCoreAt, typed_as, Passes, Elabs}
 use Rattle.core_elab.specs.Expressions.{IsExp}
@@ -202,8 +200,10 @@ module _ {m0 : Moment} {t1 : Table} {before after : Rows OwnVariable} (row : Row
       → IsRule m2.graph m2.table new (λ sc. joined depth sc place (type_of m2.table a) (type_of m2.table b)
       (progress_at m2)) (Ok c)
       → start ≡ length before
-      → more ≡ groups ++ (is_nonexpansive (scope_at (moment m2.graph new m2.scope)).env row.1,
-      drop start (bound_of after)) ∷ []
+      → more ≡ groups ++ (
+        is_nonexpansive (scope_at (moment m2.graph new m2.scope)).env row.1,
+        drop start (bound_of after),
+      ) ∷ []
       → IsBind m0 row before after groups more (moment m2.graph new m2.scope) (Ok tt)
   bind_done {m2} {new} {more} {a} {b} {c} {place} start core h k at l s f =
       let m3 : Moment = moment m2.graph new m2.scope in

@@ -1,5 +1,5 @@
 -- The expressions of `rec` bindings, one after another.
-use Rattle.std.proofs.Common.{◌≡◌, ℕ, zero, suc, List, [], ◌∷◌, map, refl, sym, ap, ◌∙◌, subst, Some, None, slice_get}
+use Rattle.std.proofs.Common.{◌≡◌, suc, List, [], ◌∷◌, map, refl, sym, ap, ◌∙◌, subst, Some, None}
 use Rattle.std.specs.Prelude.{Result, Ok, Err}
 use Rattle.cm_base.specs.declared.fault.Fault.{Fault}
 use Rattle.cm_base.specs.declared.fault.Fault.TheVariants as fault
@@ -9,12 +9,12 @@ use Rattle.unification.specs.Types.{Ty}
 use Rattle.unification.specs.Unification.{depth}
 use Rattle.type_nodes.specs.Tables.{Table, Has, type_of}
 use Rattle.type_schemes.specs.Schemes.{HaveAll}
-use Rattle.bare_phrases.specs.Phrases.{PatPhrase, ExpPhrase, Rules}
+use Rattle.bare_phrases.specs.Phrases.{Rules}
 use Rattle.bare_phrases.specs.PhraseOf.{rules_of}
 use Rattle.static_semantics.specs.Inferring.{Progress, Scope, Answer, ◌>>=◌, gives, Bound, unify_at}
 use Rattle.static_semantics.specs.PatternInference.{pat_at}
 use Rattle.static_semantics.specs.CoreInference.{RecPats, joined, infer_exp, infer_rec_exps}
-use Rattle.type_phrases.specs.Inferred.{Answers, KeepsTypes}
+use Rattle.type_phrases.specs.Inferred.{Answers}
 use Rattle.type_phrases.proofs.Keeping.{keeps_all, all_later, types_later}
 use Rattle.core_elab.specs.Rules.{IsRule}
 use Rattle.core_elab.specs.Moments.{Moment, moment, scope_at, progress_at, IsCoreAt, typed_as, Passes, Elabs}

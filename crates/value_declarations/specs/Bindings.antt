@@ -1,7 +1,6 @@
 -- What calls answer for the plain bindings of a `val`, and what they leave.
 use Rattle.std.specs.Prelude.{◌≡◌, List, [], ◌∷◌, ◌++◌, length, take, true, Result, IfOk}
 use Rattle.cm_base.specs.declared.fault.Fault.{Fault}
-use Rattle.unification.specs.Types.{Ty}
 use Rattle.unification.specs.Unification.{depth}
 use Rattle.type_nodes.specs.Tables.{Table}
 use Rattle.name_trails.specs.Trails.{Rows}

@@ -1,6 +1,3 @@
-use Rattle.std.proofs.Common.{◌≡◌, refl, map}
-use Rattle.std.specs.Prelude.{Result, Ok, Err}
-use Rattle.cm_base.specs.declared.fault.Fault.{Fault}
 use Rattle.cm_base.specs.declared.fault.Fault.TheVariants as fault
 use Rattle.sml_trees.specs.declared.exp.Rule.{out-Rule}
 use Rattle.bare_phrases.specs.PhraseOf.{pat_phrase, exp_phrase, rule_phrase}

@@ -1,12 +1,11 @@
-use Rattle.std.proofs.Common.{ℕ, ◌+◌, List, ap, map, drop}
-use Rattle.std.specs.Prelude.{Ok, Err}
+use Rattle.std.proofs.Common.{List, ap, map}
 use Rattle.sml_trees.specs.declared.exp.Rule.{Rule}
 use Rattle.bare_phrases.specs.PhraseOf.{rule_phrase}
-use Rattle.type_phrases.proofs.PartsRead.{drop_item, drop_end}
+use Rattle.type_phrases.proofs.PartsRead.{drop_item}
 use Rattle.core_elab.specs.Moments.{moment}
 use Rattle.value_closing.specs.Groups.{groups_of}
 use Rattle.value_declarations.specs.Bindings.{AreBinds}
-use Rattle.value_declarations.proofs.Binding.{binds_begin, binds_next, binds_fail, binds_end, passed_on}
+use Rattle.value_declarations.proofs.Binding.{binds_next, binds_fail, passed_on}
 use Rattle.value_declarations.proofs.binds.elab_binds.Goals as goal
 
 pub loop-rule-preserved : goal.loop-rule-preserved

@@ -1,8 +1,6 @@
-use Rattle.std.specs.Prelude.{Err}
 use Rattle.sml_trees.specs.declared.exp.Rule.{out-Rule}
-use Rattle.bare_phrases.specs.PhraseOf.{pat_phrase, exp_phrase, rule_phrase}
+use Rattle.bare_phrases.specs.PhraseOf.{pat_phrase, exp_phrase}
 use Rattle.bare_phrases.proofs.Forms.{rule_phrase-kept}
-use Rattle.core_elab.specs.Moments.{moment}
 use Rattle.core_elab.proofs.Chains.{passed}
 use Rattle.value_declarations.proofs.RecBinding.{rec_first, rec_second, rec_done, rec_of}
 use Rattle.value_declarations.proofs.rec_exps.elab_rec_exp.Goals as goal

@@ -1,5 +1,5 @@
 use Rattle.core_elab.proofs.Entering.{front_same}
-use Rattle.std.proofs.Common.{rules, map}
+use Rattle.std.proofs.Common.{map}
 use Rattle.bare_phrases.specs.PhraseOf.{rule_phrase}
 use Rattle.value_declarations.proofs.Under.{recs_under}
 use Rattle.value_declarations.proofs.val.elab_recs_under.Goals as goal
@@ -11,3 +11,7 @@ returns c =
     (c.leave.ensures c.args.scope.now c.mark-before.ensures.is
     (front_same c.args.scope.now c.enter_variables.new.scope c.elab_rec_exps-result.new.scope
     (c.in_ok-enter_variables.ensures.ok c.args.g.now).front c.elab_rec_exps-result.ensures.left))
+
+pub elab_rec_exps-result-requires-clause-scope : goal.elab_rec_exps-result-requires-clause-scope
+elab_rec_exps-result-requires-clause-scope c =
+    (c.in_ok-enter_variables.ensures.ok c.args.g.now).there c.args.t.now c.requires.scope
