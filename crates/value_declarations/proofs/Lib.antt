@@ -1,3 +1,4 @@
 pub mod Binding
 pub mod RecBinding
 pub mod Under
+pub mod Whole

@@ -2,16 +2,17 @@
 use Rattle.std.specs.Prelude.{◌≡◌, ℕ, List, [], ◌++◌, map, Result}
 use Rattle.cm_base.specs.declared.fault.Fault.{Fault}
 use Rattle.sml_trees.specs.declared.name.At.{At}
+use Rattle.sml_trees.specs.declared.name.Name.{Name}
 use Rattle.semantic_objects.specs.declared.name.TyId.{TyId}
 use Rattle.semantic_objects.specs.Environments.{Env}
 use Rattle.unification.specs.Unification.{depth}
 use Rattle.unification.specs.Closing.{kept_since}
 use Rattle.type_nodes.specs.Tables.{Table, type_of}
 use Rattle.name_trails.specs.Trails.{Rows}
-use Rattle.bare_phrases.specs.Phrases.{PatPhrase, ExpPhrase}
+use Rattle.bare_phrases.specs.Phrases.{PatPhrase, ExpPhrase, DecPhrase}
 use Rattle.bare_phrases.specs.PhraseOf.{rules_of}
 use Rattle.static_semantics.specs.Inferring.{Progress, Scope, Answer, ◌>>=◌, Bound, under_bound}
-use Rattle.static_semantics.specs.CoreInference.{Group, RecPats, rec_bound, rec_groups, infer_binds, infer_rec_pats, infer_rec_exps}
+use Rattle.static_semantics.specs.CoreInference.{Group, RecPats, rec_bound, rec_groups, infer_binds, infer_rec_pats, infer_rec_exps, infer_dec}
 use Rattle.core_scopes.specs.declared.made.Made.{Made}
 use Rattle.core_scopes.specs.Marks.{env_of_made}
 use Rattle.pattern_elab.specs.declared.own.OwnVariable.{OwnVariable}
@@ -63,3 +64,10 @@ abbrev pub IsValUnder : Moment → ℕ → At → List (List ℕ × ℕ) → Lis
     → List (PatPhrase × ExpPhrase) → Moment → Result (Made OwnVariable) Fault → Type 0
 IsValUnder old n at own binds recs new result =
     Elabs old (λ sc. val_under n at own binds recs sc (progress_at old)) read_made ValuesAlone new result
+
+-- the whole `val`
+abbrev pub IsVal : Moment → List Name → List (PatPhrase × ExpPhrase) → List (PatPhrase × ExpPhrase) → At → Moment
+    → Result (Made OwnVariable) Fault → Type 0
+IsVal old tyvars binds recs at new result =
+    Elabs old (λ sc. infer_dec depth sc (DecPhrase.Val tyvars (rules_of binds) (rules_of recs) at) (progress_at old))
+    read_made ValuesAlone new result

@@ -7,4 +7,4 @@ mod val;
 
 pub use binds::elab_binds;
 pub use rec_exps::elab_rec_exps;
-pub use val::elab_val_under;
+pub use val::{elab_val, elab_val_under};

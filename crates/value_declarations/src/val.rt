@@ -1,12 +1,13 @@
-//! A `val` in the scope with its own type variables.
+//! A `val`: its bindings in the scope with its own type variables, and its end.
 
 ghost use Rattle.std.specs.Prelude.{map};
 ghost use Rattle.bare_phrases.specs.PhraseOf.{rule_phrase};
 ghost use Rattle.type_nodes.specs.Tables.{IsFrontOf, state};
 ghost use Rattle.type_schemes.specs.Schemes.{HaveAll};
 ghost use Rattle.pattern_elab.specs.Scopes.{IsCoreScope};
-ghost use Rattle.core_elab.specs.Moments.{moment};
-ghost use Rattle.value_declarations.specs.Values.{AreRecsUnder, IsValUnder};
+ghost use Rattle.core_elab.specs.Moments.{moment, scope_at, progress_at};
+ghost use Rattle.closing_laws.specs.Promises.{IsOfState};
+ghost use Rattle.value_declarations.specs.Values.{AreRecsUnder, IsValUnder, IsVal};
 
 use crate::binds::elab_binds;
 use crate::rec_exps::elab_rec_exps;
@@ -17,11 +18,11 @@ use name_trails::NameTrail;
 use pattern_elab::{CoreScope, OwnVariable};
 use semantic_objects::TyId;
 use sml_modules::EnvGraph;
-use sml_trees::{At, Rule};
+use sml_trees::{At, Name, Rule};
 use sml_types::TypeTable;
 use std::alloc::Global;
 use type_nodes::Mark;
-use value_closing::{close_val, elab_rec_pats, variables_since};
+use value_closing::{close_val, elab_rec_pats, own_variables, variables_since};
 
 /// The expressions of `rec` bindings under the variables of their patterns, which are left again.
 fn elab_recs_under(
@@ -71,4 +72,40 @@ pub fn elab_val_under(
     let own_bound = variables_since(alloc, &bound, start)?;
     elab_recs_under(alloc, g, t, scope, &own_bound, recs, &types)?;
     close_val(alloc, g, t, at, own, groups, since)
+}
+
+/// A `val`: what is bound in scope behind it. The scope is left as it was. It needs everything in scope to be of the
+/// state, so that closing by the age of variables is the definition's. The Definition of Standard ML (Revised),
+/// sections 4.6 to 4.8 and rule 15.
+pub fn elab_val(
+    alloc: Global,
+    g: &mut EnvGraph,
+    t: &mut TypeTable,
+    scope: &mut CoreScope,
+    tyvars: &[Name],
+    binds: &List<Rule>,
+    recs: &List<Rule>,
+    at: At,
+) -> Result<Made<OwnVariable>, Fault>
+    requires scope { IsCoreScope g.old t.old scope.old }
+    requires ready { IsOfState (scope_at (moment g.old t.old scope.old)) (progress_at (moment g.old t.old scope.old)) }
+    ensures { IsVal (moment g.old t.old scope.old) tyvars.now (map rule_phrase binds.now) (map rule_phrase recs.now) at
+        (moment g.new t.new scope.new) result }
+{
+    let since = t.mark();
+    let before = scope.mark();
+    let own = own_variables(alloc, g, t, scope, tyvars, binds, recs)?;
+    let result = elab_val_under(
+        alloc,
+        g,
+        t,
+        scope,
+        &own,
+        binds.as_slice(),
+        recs.as_slice(),
+        at,
+        &since,
+    );
+    scope.leave(before);
+    result
 }
