@@ -1,5 +1,5 @@
 -- One tool of a box is changed: the states and the counts of the box.
-use Rattle.std.proofs.Common.{◌≡◌, ◌≢◌, ◌∙◌, ap, ap₂, sym, refl, ℕ, zero, suc, ◌<◌, ◌≤◌, Bool, true, false, List, [], ◌∷◌, length, map, set, take, Some, arith}
+use Rattle.std.proofs.Common.{◌≡◌, ◌≢◌, ◌∙◌, ap, ap₂, sym, subst, refl, ℕ, zero, suc, ◌<◌, Bool, true, false, List, [], ◌∷◌, length, map, set, take, Some, arith}
 use Rattle.std.specs.Prelude.{nat_eq, slice_get}
 use Rattle.std.specs.Cmp.Lexicographic.{pointwise, nat_list_eq_equiv, same_text}
 use Rattle.std.proofs.lemmas.List.Elements.{All-head, All-tail}
@@ -27,18 +27,21 @@ module _ {A : Type 0} (state : A → ToolState) where
   set_state (suc at) (one ∷ tools) tool = ap (λ (more : List ToolState). state one ∷ more) (set_state at tools tool)
 
 -- what stands in a place of a box of which that place was changed
-pub get_set : (at place : ℕ) (tools : List ToolState) (before after found now : ToolState)
-    → slice_get tools at ≡ Some before → slice_get tools place ≡ Some found
-    → slice_get (set tools at after) place ≡ Some now → before.faults ≤ after.faults → found.faults ≤ now.faults
-get_set at place [] before after found now there was is le = absurd cc
-get_set zero zero (one ∷ tools) before after found now there was is le =
-    let a : found.faults ≡ before.faults = cc in let b : now.faults ≡ after.faults = cc in omega (arith, a, b, le)
-get_set zero (suc place) (one ∷ tools) before after found now there was is le =
-    let a : found.faults ≡ now.faults = cc in omega (arith, a)
-get_set (suc at) zero (one ∷ tools) before after found now there was is le =
-    let a : found.faults ≡ now.faults = cc in omega (arith, a)
-get_set (suc at) (suc place) (one ∷ tools) before after found now there was is le =
-    get_set at place tools before after found now there was is le
+module _ (Related : ToolState → ToolState → Type 0) (same : (tool : ToolState) → Related tool tool) where
+  pub get_set : (at place : ℕ) (tools : List ToolState) (before after found now : ToolState)
+      → slice_get tools at ≡ Some before → slice_get tools place ≡ Some found
+      → slice_get (set tools at after) place ≡ Some now → Related before after → Related found now
+  get_set at place [] before after found now there was is so = absurd cc
+  get_set zero zero (one ∷ tools) before after found now there was is so =
+      let a : before ≡ found = cc in
+      let b : after ≡ now = cc in
+      subst (λ (t : ToolState). Related t now) a (subst (λ (t : ToolState). Related before t) b so)
+  get_set zero (suc place) (one ∷ tools) before after found now there was is so =
+      let a : found ≡ now = cc in subst (λ (t : ToolState). Related found t) a (same found)
+  get_set (suc at) zero (one ∷ tools) before after found now there was is so =
+      let a : found ≡ now = cc in subst (λ (t : ToolState). Related found t) a (same found)
+  get_set (suc at) (suc place) (one ∷ tools) before after found now there was is so =
+      get_set at place tools before after found now there was is so
 
 pub set_there : (at : ℕ) (tools : List ToolState) (before after : ToolState) → slice_get tools at ≡ Some before
     → slice_get (set tools at after) at ≡ Some after

@@ -1,5 +1,5 @@
 -- A member's use of a tool as the next step of a loading.
-use Rattle.std.proofs.Common.{◌≡◌, ◌∙◌, ◌⊎◌, ap, ap₂, sym, subst, refl, inl, inr, ℕ, Bool, true, false, cond, List, [], ◌∷◌, ◌++◌, length, map, set, Option, Some, Result, Ok, Err}
+use Rattle.std.proofs.Common.{◌≡◌, ◌∙◌, ◌⊎◌, ap, ap₂, sym, subst, refl, inl, inr, ℕ, zero, suc, Bool, true, false, cond, List, [], ◌∷◌, ◌++◌, length, map, set, Option, Some, Result, Ok, Err, arith}
 use Rattle.std.specs.Prelude.{slice_get}
 use Rattle.cm_base.specs.Causes.{one_more}
 use Rattle.cm_base.specs.Files.{Files, Told}
@@ -15,7 +15,7 @@ use Rattle.member_deriving.specs.Uses.{Work, after_uses, ran_more, runs_of, with
 use Rattle.member_deriving.specs.declared.fault.MemberFault.{MemberFault}
 use Rattle.member_deriving.specs.declared.fault.MemberFault.TheVariants as fault
 use Rattle.member_deriving.proofs.Uses.{in_turn, leave_in_turn}
-use Rattle.box_deriving.specs.Boxes.{Counts, CutOff, InStep, OnFault, Origin, StepsOn, Tends, after_runs, counts_of, one_run, world_of, rules_in}
+use Rattle.box_deriving.specs.Boxes.{Counts, CutOff, InStep, OnFault, Origin, StepsOn, Tends, Went, after_runs, counts_of, one_run, world_of, rules_in}
 use Rattle.box_deriving.proofs.Places.{get_set, get_state, one_more_run, same_counts, same_rules, set_state, set_there}
 
 -- ---- answers
@@ -177,6 +177,9 @@ module _ (origin : Origin) (work : Work) (job : ToolUse) (r : Result (List ℕ) 
 
 -- ---- over the tools of a box
 
+stays : (tool : ToolState) → Went tool tool
+stays tool = record { runs = zero; ran = refl; faults = omega arith }
+
 module _ {A : Type 0} (state : A → ToolState) (at : ℕ) (old new : List A) (unit input : List ℕ)
     (r : Result (List ℕ) MemberFault) (before after : Option Files)
     (one : OfOne at old new (λ x y. SourcesBy (state x) (state y) unit input r before after)) where
@@ -197,12 +200,16 @@ module _ {A : Type 0} (state : A → ToolState) (at : ℕ) (old new : List A) (u
       ap rules_in changed
       ∙ same_rules at (map state old) found left there one.so.class one.so.rule
 
+  went_by : (left.ran ≡ found.ran) ⊎ (left.ran ≡ one_more found.ran) → Went found left
+  went_by (inl same) = record { runs = zero; ran = same; faults = one.so.cause.later }
+  went_by (inr more) = record { runs = suc zero; ran = more; faults = one.so.cause.later }
+
   pub tends : Tends r (map state old) (map state new)
   tends = record {
     rules = rules_stay;
     later = λ place x y was is.
-        get_set at place (map state old) found left x y there was
-        (ap (λ (tools : List ToolState). slice_get tools place) (sym changed) ∙ is) one.so.cause.later;
+        get_set Went stays at place (map state old) found left x y there was
+        (ap (λ (tools : List ToolState). slice_get tools place) (sym changed) ∙ is) (went_by one.so.leaves.once);
     blamed = λ failed. record {
       at = at;
       before = found;

@@ -8,7 +8,7 @@ use Rattle.bin_formats.specs.Format.{record_file}
 use Rattle.bin_store.specs.Paths.{tool_path}
 use Rattle.tool_deriving.specs.Deriving.{ToolState, ToolUse, record_of_use}
 use Rattle.member_deriving.specs.Sources.{IsGiven, OnGiven}
-use Rattle.member_deriving.specs.Uses.{Outcome, Work, after_uses, runs_of, work_of}
+use Rattle.member_deriving.specs.Uses.{Outcome, Work, after_uses, ran_more, runs_of, work_of}
 use Rattle.member_deriving.specs.declared.fault.MemberFault.{MemberFault}
 use Rattle.member_deriving.specs.declared.fault.MemberFault.TheVariants as fault
 
@@ -86,12 +86,18 @@ pub record Failed (old new : List ToolState) : Type 0 where
   pub ran : after.ran ≡ one_more before.ran
   pub rose : Rose before.faults after.faults
 
+-- a tool ran so many times, and its count of faults didn't fall
+pub record Went (before after : ToolState) : Type 0 where
+  pub runs : ℕ
+  pub ran : after.ran ≡ ran_more runs before.ran
+  pub faults : before.faults ≤ after.faults
+
 -- what a call that uses tools leaves of a box whatever it answers: classes and rules are as they were, no count of faults
 -- fell, and a tool is blamed only where one that this call ran failed
 pub record Tends (result : Result (List ℕ) MemberFault) (old new : List ToolState) : Type 0 where
   pub rules : rules_in new ≡ rules_in old
   pub later : (at : ℕ) (before after : ToolState) → slice_get old at ≡ Some before → slice_get new at ≡ Some after
-      → before.faults ≤ after.faults
+      → Went before after
   pub blamed : result ≡ Err fault.Tool → Failed old new
 
 -- what holds after a fault

@@ -270,7 +270,7 @@ kept_or : (kept first second : Bool) → (kept ≡ false → first ≡ second) �
 kept_or true first second h = refl
 kept_or false first second h = h refl
 
-open_is : (kept : ℕ → Bool) (s : State) (groups : List Group) (v : ℕ) → IsSettled s
+pub open_is : (kept : ℕ → Bool) (s : State) (groups : List Group) (v : ℕ) → IsSettled s
     → are_distinct (groups_bound groups) ≡ true
     → (kept v || free_in_env v s.stands (env_of_values (closed_rows kept s (variables_of groups))))
     ≡ stays_open kept s (variables_of groups) v

@@ -11,19 +11,19 @@ use Rattle.static_semantics.specs.CoreInference.{Group, added, names_variable, i
 use Rattle.static_semantics.specs.EnvironmentsPut.{put_env, put_rows, put_scope}
 use Rattle.static_semantics.specs.RuleConditions.{are_distinct, groups_bound}
 use Rattle.static_semantics.specs.Elaborates.{ElaboratesPat, ElaboratesExp, ElaboratesBinds, ElaboratesRecs}
-use Rattle.static_semantics.specs.Holding.{Given, AllItems, AllRows}
+use Rattle.static_semantics.specs.Holding.{Given, AllRows}
 use Rattle.static_semantics.specs.Growing.{TyIn, IsReady}
 use Rattle.static_semantics.proofs.Holding.{given_then}
 use Rattle.static_semantics.proofs.Growing.{ready_later}
 use Rattle.static_semantics.proofs.TypesGrow.{given_more}
 use Rattle.inference_laws.specs.Alike.{FirmEnv}
 use Rattle.inference_laws.specs.Promises.{Any}
-use Rattle.elaboration_laws.specs.Derived.{SolvesBefore, LeavesBefore, PatDerived, ExpDerived}
-use Rattle.elaboration_laws.proofs.Finding.{rows_after_put, con_mapped, con_put, value_found_put}
-use Rattle.elaboration_laws.proofs.Types.{given_check, is_not}
-use Rattle.elaboration_laws.proofs.Steps.{Joined}
-use Rattle.elaboration_laws.proofs.Patterns.{PatKnown, pat_known}
-use Rattle.elaboration_laws.proofs.Schemes.{put_groups}
+use Rattle.phrase_laws.specs.Derived.{SolvesBefore, LeavesBefore, PatDerived, ExpDerived}
+use Rattle.phrase_laws.proofs.Finding.{rows_after_put, con_mapped, con_put, value_found_put}
+use Rattle.phrase_laws.proofs.Types.{given_check, is_not}
+use Rattle.phrase_laws.proofs.Steps.{Joined}
+use Rattle.phrase_laws.proofs.Patterns.{PatKnown, pat_known}
+use Rattle.reopening_laws.proofs.Schemes.{put_groups}
 
 -- ---- lists
 
@@ -99,21 +99,12 @@ variable_put s env (PatPhrase.As name ty pat at) = refl
 
 -- ---- plain bindings
 
--- whether the right sides are nonexpansive: all of them, or none
-abbrev pub HaveFlag : Bool → Env → Rules → Type 0
-HaveFlag flag env Rules.EndOfRules = Unit {0}
-HaveFlag flag env (Rules.Rule pat exp rest) = (is_nonexpansive env exp ≡ flag) × HaveFlag flag env rest
-
-abbrev pub HasFlag : Bool → Group → Type 0
-HasFlag flag group = group.0 ≡ flag
-
 pub record BindsDerived (sc : Scope) (rules : Rules) (bound : Bound) (groups : List Group) (st : Progress)
     (r : Bound × List Group × Progress) : Type 0 where
   pub more : List Group
   pub all : r.1 ≡ groups ++ more
   pub after : r.0 ≡ bound ++ groups_bound more
   pub distinct : are_distinct bound ≡ true → are_distinct r.0 ≡ true
-  pub flags : (flag : Bool) → HaveFlag flag sc.env rules → AllItems (HasFlag flag) more
   pub solved : SolvesBefore st r.2
   pub leaves : LeavesBefore st r.2
   pub derives : (p : State) → Solves p r.2.types
@@ -130,7 +121,6 @@ no_binds_derived sc bound groups st = record {
   all = nothing_after groups;
   after = nothing_after bound;
   distinct = λ d. d;
-  flags = λ flag h. tt;
   solved = λ p q. q;
   leaves = λ p q. q;
   derives = λ p q. ElaboratesBinds.no_binds p.marks (put_scope p.stands sc) st.names;
@@ -161,7 +151,6 @@ bind_derived sc pat exp rest bound groups st r e u v h i j k =
       after = k.after ∙ ap (λ z. z ++ groups_bound k.more) h.binds.after
           ∙ after_both bound h.own (groups_bound k.more);
       distinct = λ d. k.distinct (h.binds.distinct d);
-      flags = λ flag f. (f.0, k.flags flag f.1);
       solved = λ p q. h.binds.solved p (i.solved p (j.solved p (k.solved p q)));
       leaves = λ p q. h.binds.leaves p (i.leaves p (j.leaves p (k.leaves p q)));
       derives = λ p q.
@@ -298,9 +287,3 @@ rec_groups_bound q sc f env Rules.EndOfRules (row ∷ rows) h = absurd h
 rec_groups_bound q sc f env (Rules.Rule pat exp rest) [] h = absurd h
 rec_groups_bound q sc f env (Rules.Rule pat exp rest) (row ∷ rows) h =
     ap (λ z. row.1 ++ z) (rec_groups_bound q sc f env rest rows h.2)
-
-pub rec_flags : (flag : Bool) (env : Env) (rules : Rules) (rows : RecPats) → HaveFlag flag env rules
-    → AllItems (HasFlag flag) (rec_groups env rules rows)
-rec_flags flag env Rules.EndOfRules rows h = tt
-rec_flags flag env (Rules.Rule pat exp rest) [] h = tt
-rec_flags flag env (Rules.Rule pat exp rest) (row ∷ rows) h = (h.0, rec_flags flag env rest rows h.1)

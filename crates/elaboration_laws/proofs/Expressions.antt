@@ -20,11 +20,11 @@ use Rattle.static_semantics.proofs.Holding.{given_then, given_where}
 use Rattle.static_semantics.proofs.Growing.{grows_variable, ty_constant}
 use Rattle.inference_laws.specs.Alike.{FirmEnv}
 use Rattle.inference_laws.specs.Promises.{Any}
-use Rattle.elaboration_laws.specs.Derived.{SolvesBefore, LeavesBefore, PatDerived, ExpDerived, ExpFieldsDerived, RulesDerived, MatchDerived, DecDerived}
-use Rattle.elaboration_laws.proofs.Finding.{no_entry_put, with_entry_put, under_put, under_bound_put, record_put, distinct_put}
-use Rattle.elaboration_laws.proofs.Types.{TyDerived}
-use Rattle.elaboration_laws.proofs.Steps.{Joined, unify_joins, unify_known, solved_variable, leaves_variable, solved_instance, leaves_instance, instance_under}
-use Rattle.elaboration_laws.proofs.Patterns.{ValueFound, value_known}
+use Rattle.phrase_laws.specs.Derived.{SolvesBefore, LeavesBefore, PatDerived, ExpDerived, ExpFieldsDerived, RulesDerived, MatchDerived, DecDerived}
+use Rattle.phrase_laws.proofs.Finding.{no_entry_put, with_entry_put, under_put, under_bound_put, record_put, distinct_put}
+use Rattle.phrase_laws.proofs.Types.{TyDerived}
+use Rattle.phrase_laws.proofs.Steps.{Joined, unify_joins, unify_known, solved_variable, leaves_variable, solved_instance, leaves_instance, instance_under}
+use Rattle.phrase_laws.proofs.Patterns.{ValueFound, value_known}
 
 pub exp_sized : (sc : Scope) (exp : ExpPhrase) (st : Progress) (at : At) (r : Ty × Progress) → ExpDerived sc exp st r
     → Given (ExpDerived sc exp st) (sized_exp sc at r)

@@ -16,9 +16,9 @@ use Rattle.static_semantics.specs.CoreInference.{implicit, own_variables}
 use Rattle.static_semantics.specs.RuleConditions.{are_distinct, do_differ, unscoped}
 use Rattle.static_semantics.specs.Holding.{Given, AllItems}
 use Rattle.static_semantics.proofs.Holding.{given_then, items_more}
-use Rattle.elaboration_laws.specs.Derived.{SolvesBefore, LeavesBefore}
-use Rattle.elaboration_laws.proofs.Patterns.{distinct_more}
-use Rattle.elaboration_laws.proofs.TypeBindings.{IsOwn, own_new, differ_more, own_below, numbers_more, texts_more, ListedOf, listed_of}
+use Rattle.phrase_laws.specs.Derived.{SolvesBefore, LeavesBefore}
+use Rattle.phrase_laws.proofs.Patterns.{distinct_more}
+use Rattle.phrase_laws.proofs.TypeBindings.{IsOwn, own_new, differ_more, own_below, numbers_more, texts_more, ListedOf, listed_of}
 
 abbrev pub texts_of : List (List ℕ × ℕ) → List (List ℕ)
 texts_of rows = map (λ (row : List ℕ × ℕ). row.0) rows

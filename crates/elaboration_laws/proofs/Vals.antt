@@ -1,18 +1,19 @@
 -- A `val` has a derivation, where its bindings have.
-use Rattle.std.proofs.Common.{◌≡◌, ℕ, List, [], ◌∷◌, ◌++◌, map, refl, sym, ap, ap₂, ◌∙◌, subst, Option, Some, None, Bool, true, false, ◌&&◌, not, ◌||◌, ◌+◌, ◌<◌, cond, arith}
+use Rattle.std.proofs.Common.{◌≡◌, ℕ, List, [], ◌∷◌, ◌++◌, map, refl, sym, ap, ap₂, ◌∙◌, subst, Option, Some, None, Bool, true, false, ◌&&◌, not, ◌||◌, ◌+◌, ◌<◌, cond, arith, inl, inr}
 use Rattle.std.proofs.lemmas.Bool.{eqb-true}
-use Rattle.std.specs.Prelude.{eqb}
+use Rattle.std.specs.Prelude.{eqb, ◌⊎◌}
+use Rattle.std.specs.List.{list_any}
 use Rattle.sml_trees.specs.declared.name.Name.{Name}
 use Rattle.unification.specs.Closing.{is_among}
 use Rattle.static_semantics.specs.BasicTypes.{is_one_of, is_equality_variable}
 use Rattle.sml_trees.specs.declared.name.At.{At}
 use Rattle.semantic_objects.specs.Environments.{Env, empty_env}
-use Rattle.unification.specs.Types.{Ty, Substitution, State, admits}
+use Rattle.unification.specs.Types.{Ty, Substitution, State, admits, put, occurs}
 use Rattle.unification.specs.Unification.{Solves, LeavesRigid}
-use Rattle.unification.proofs.Walking.{either_way, not_both, or_either}
+use Rattle.unification.proofs.Walking.{either_way, not_both, or_either, or_left, or_right, and_right}
 use Rattle.bare_phrases.specs.Phrases.{Rules, DecPhrase}
 use Rattle.static_semantics.specs.WrittenVariables.{written_in}
-use Rattle.static_semantics.specs.Inferring.{Progress, Scope, Bound, gives, under_bound, with_written, is_kept, free_in_env, has_too_large, sized_dec}
+use Rattle.static_semantics.specs.Inferring.{Progress, Scope, Bound, gives, under_bound, with_written, is_kept, free_in_env, free_in_written, has_too_large, sized_dec}
 use Rattle.static_semantics.specs.TypeInference.{numbers, as_written}
 use Rattle.static_semantics.specs.CoreInference.{Group, RecPats, rec_bound, rec_groups, closed_groups, closed_val, left_over, none_left}
 use Rattle.static_semantics.specs.EnvironmentsPut.{put_env, put_rows, put_scope}
@@ -20,39 +21,27 @@ use Rattle.static_semantics.specs.RuleConditions.{are_distinct, do_differ, Binds
 use Rattle.static_semantics.specs.Elaborates.{ElaboratesBinds, ElaboratesRecs, ElaboratesDec}
 use Rattle.static_semantics.specs.Holding.{Given, AllItems, AllRows}
 use Rattle.static_semantics.specs.Growing.{IsReady}
-use Rattle.static_semantics.proofs.Holding.{given_where, items_more}
+use Rattle.static_semantics.proofs.Holding.{given_where}
 use Rattle.static_semantics.proofs.Growing.{ready_later}
 use Rattle.static_semantics.proofs.TypesGrow.{MadeIn}
-use Rattle.static_semantics.proofs.CoreGrow.{items_after}
 use Rattle.inference_laws.specs.Promises.{Any}
-use Rattle.elaboration_laws.specs.Derived.{DecDerived}
-use Rattle.elaboration_laws.specs.Reopening.{Reopened}
-use Rattle.elaboration_laws.proofs.Finding.{rows_after_put, is_named_put, distinct_put, under_bound_put}
-use Rattle.elaboration_laws.proofs.Keeping.{mapped_after, new_apart}
-use Rattle.elaboration_laws.proofs.Closing.{shifted, differ_shifted}
-use Rattle.elaboration_laws.proofs.TypeBindings.{IsOwn}
+use Rattle.phrase_laws.specs.Derived.{DecDerived}
+use Rattle.reopening_laws.specs.Reopening.{Reopened}
+use Rattle.phrase_laws.proofs.Finding.{rows_after_put, is_named_put, distinct_put, under_bound_put}
+use Rattle.reopening_laws.proofs.Keeping.{mapped_after, new_apart}
+use Rattle.reopening_laws.proofs.Closing.{shifted, differ_shifted}
+use Rattle.phrase_laws.proofs.Patterns.{not_true}
+use Rattle.phrase_laws.proofs.TypeBindings.{IsOwn}
 use Rattle.elaboration_laws.proofs.Own.{texts_of, texts_in, named_one, OwnDerived}
-use Rattle.elaboration_laws.proofs.Reopening.{reopened}
-use Rattle.elaboration_laws.proofs.Around.{scope_around}
-use Rattle.elaboration_laws.proofs.Schemes.{ClosesOf, GroupCloses, put_groups, groups_bound_put, all_schemes, groups_have_schemes, groups_made, marks_agree, free_below}
-use Rattle.elaboration_laws.proofs.Bindings.{after_both, HaveFlag, HasFlag, BindsDerived, put_recs, RecPatsHold, RecPatsDerived, RecExpsDerived, rec_bound_put, rec_groups_put, rec_groups_bound, rec_flags}
+use Rattle.reopening_laws.proofs.Reopening.{reopened}
+use Rattle.reopening_laws.proofs.Around.{scope_around}
+use Rattle.reopening_laws.proofs.Schemes.{ClosesOf, GroupCloses, put_groups, groups_bound_put, all_schemes, groups_have_schemes, groups_made, marks_agree, free_below}
+use Rattle.closing_laws.specs.Variables.{Closing, all_closing, variables_of, stays_open}
+use Rattle.closing_laws.proofs.Rows.{val_made as made_is, open_is}
+use Rattle.elaboration_laws.proofs.Apart.{Apart, open_in}
+use Rattle.elaboration_laws.proofs.Bindings.{after_both, BindsDerived, put_recs, RecPatsHold, RecPatsDerived, RecExpsDerived, rec_bound_put, rec_groups_put, rec_groups_bound}
 
 -- ---- the groups
-
-rows_close : (flag : Bool) (kept : ℕ → Bool) (u : State) (closed : Bool) (rows : Bound) → closed ≡ flag
-    → AllRows (ClosesOf (λ v. flag && not (kept v)) kept u closed) rows
-rows_close flag kept u closed [] h = tt
-rows_close flag kept u closed (row ∷ rows) h =
-    (λ n e. ap (λ z. z && not (kept n)) (sym h), rows_close flag kept u closed rows h)
-
-groups_close : (flag : Bool) (kept : ℕ → Bool) (u : State) (groups : List Group) → AllItems (HasFlag flag) groups
-    → AllItems (GroupCloses (λ v. flag && not (kept v)) kept u) groups
-groups_close flag kept u groups h = items_more (HasFlag flag) (GroupCloses (λ v. flag && not (kept v)) kept u) groups
-    (λ group k. rows_close flag kept u group.0 group.1 k) h
-
-no_kept : (flag c : Bool) → c ≡ true → (flag && not c) ≡ false
-no_kept true c h = ap not h
-no_kept false c h = refl
 
 groups_bound_after : (xs ys : List Group) → groups_bound (xs ++ ys) ≡ groups_bound xs ++ groups_bound ys
 groups_bound_after [] ys = refl
@@ -98,18 +87,10 @@ among_moved P from (row ∷ rows) h v e = or_either (eqb v (from + row.1)) (is_a
     (λ i. subst P (sym (eqb-true v (from + row.1) i)) (h row.1))
     (λ i. among_moved P from rows h v i)
 
-left_case : (a b : Bool) (text : List ℕ) (rest : Option (List ℕ)) → cond (a || b) (Some text) rest ≡ None
-    → (a ≡ false) × (rest ≡ None)
-left_case true b text rest h = absurd (cc)
-left_case false true text rest h = absurd (cc)
-left_case false false text rest h = (refl, h)
-
-left_kept : (kept : ℕ → Bool) (s : State) (made : Env) (rows : List (List ℕ × ℕ)) → left_over kept s made rows ≡ None
-    → AllItems (λ (row : List ℕ × ℕ). kept row.1 ≡ false) rows
-left_kept kept s made [] h = tt
-left_kept kept s made (row ∷ rows) h =
-    let e = left_case (kept row.1) (free_in_env row.1 s.stands made) row.0 (left_over kept s made rows) h in
-    (e.0, left_kept kept s made rows e.1)
+left_none : (c : Bool) (text : List ℕ) (rest : Option (List ℕ)) → cond c (Some text) rest ≡ None
+    → (c ≡ false) × (rest ≡ None)
+left_none true text rest h = absurd (cc)
+left_none false text rest h = (refl, h)
 
 abbrev pub val_groups : Scope → Rules → (Bound × List Group × Progress) → (RecPats × Progress) → List Group
 val_groups sc recs b c = b.1 ++ rec_groups sc.env recs c.0
@@ -119,11 +100,164 @@ abbrev pub val_made : Scope → Rules → (Bound × List Group × Progress) → 
 val_made sc recs b c u =
     closed_groups (is_kept sc u.types.stands) u.types (val_groups sc recs b c) empty_env
 
+no_kept : (kept open_ : Bool) → kept ≡ true → (not kept && not open_) ≡ false
+no_kept kept open_ e = rw (e)
+
+both_not : (kept open_ : Bool) → kept ≡ false → open_ ≡ false → (not kept && not open_) ≡ true
+both_not kept open_ e i = rw (e, i)
+
+by_case : (a b c d : Bool) → b ≡ (c || d) → (a || b) ≡ ((a || c) || d)
+by_case true b c d h = refl
+by_case false b c d h = h
+
+and_no : (a b : Bool) → b ≡ false → (not a && not b) ≡ not a
+and_no true b h = refl
+and_no false b h = rw (h)
+
+-- what stands in the types that aren't closed, by groups and by variables
+open_same : (sc : Scope) (s : State) (v : ℕ) (groups : List Group)
+    → open_in sc s v groups
+    ≡ list_any (λ (x : Closing). not x.0 && occurs v (put s.stands x.1.1)) (variables_of groups)
+open_same sc s v [] = refl
+open_same sc s v (group ∷ groups) = ap₂ (λ (a b : Bool). a || b) (in_group group.0 group.1) (open_same sc s v groups)
+    ∙ sym (any_after (λ (x : Closing). not x.0 && occurs v (put s.stands x.1.1)) (all_closing group.0 group.1)
+    (variables_of groups))
+  where
+    in_group : (closes : Bool) (rows : Bound)
+        → (not closes && list_any (λ (row : List ℕ × Ty). occurs v (put s.stands row.1)) rows)
+        ≡ list_any (λ (x : Closing). not x.0 && occurs v (put s.stands x.1.1)) (all_closing closes rows)
+    in_group true [] = refl
+    in_group false [] = refl
+    in_group true (row ∷ rows) = in_group true rows
+    in_group false (row ∷ rows) = ap (λ z. occurs v (put s.stands row.1) || z) (in_group false rows)
+
+    any_after : {A : Type 0} (test : A → Bool) (xs ys : List A)
+        → list_any test (xs ++ ys) ≡ (list_any test xs || list_any test ys)
+    any_after test [] ys = refl
+    any_after test (x ∷ xs) ys = by_case (test x) (list_any test (xs ++ ys)) (list_any test xs) (list_any test ys)
+        (any_after test xs ys)
+
+or_no : (a b : Bool) → (a || b) ≡ false → (a ≡ false) × (b ≡ false)
+or_no true b h = absurd (cc)
+or_no false b h = (refl, h)
+
+-- written variables that are not left over
+not_left : (inner : Scope) (kept : ℕ → Bool) (s : State) (made : Env) (groups : List Group) (rows : List (List ℕ × ℕ))
+    → ((v : ℕ) → (kept v || free_in_env v s.stands made) ≡ stays_open kept s (variables_of groups) v)
+    → left_over kept s made rows ≡ None
+    → AllItems (λ (row : List ℕ × ℕ). (not (kept row.1) && not (open_in inner s row.1 groups)) ≡ true) rows
+not_left inner kept s made groups [] f h = tt
+not_left inner kept s made groups (row ∷ rows) f h =
+    let e = left_none (kept row.1 || free_in_env row.1 s.stands made) row.0 (left_over kept s made rows) h in
+    let both = or_no (kept row.1) _ (sym (f row.1) ∙ e.0) in (
+      both_not (kept row.1) (open_in inner s row.1 groups) both.0 (open_same inner s row.1 groups ∙ both.1),
+      not_left inner kept s made groups rows f e.1,
+    )
+
+-- what is kept inside is kept around, or one of the written variables
+kept_inside : (sc : Scope) (s : State) (own : List (List ℕ × ℕ)) (v : ℕ)
+    → AllItems (λ (row : List ℕ × ℕ). s.stands row.1 ≡ Ty.Var row.1) own
+    → is_kept (inner_scope own sc) s.stands v ≡ true
+    → (is_kept sc s.stands v ≡ true) ⊎ (is_among v (numbers own) ≡ true)
+kept_inside sc s own v alone e = or_either (free_in_env v s.stands sc.env)
+    (free_in_written v s.stands (as_written own ++ sc.written)) e
+    (λ i. inl (or_left (free_in_env v s.stands sc.env) (free_in_written v s.stands sc.written) i))
+    (λ i. in_rows own alone i)
+  where
+    in_rows : (rows : List (List ℕ × ℕ)) → AllItems (λ (row : List ℕ × ℕ). s.stands row.1 ≡ Ty.Var row.1) rows
+        → free_in_written v s.stands (as_written rows ++ sc.written) ≡ true
+        → (is_kept sc s.stands v ≡ true) ⊎ (is_among v (numbers rows) ≡ true)
+    in_rows [] h i = inl (or_right (free_in_env v s.stands sc.env) (free_in_written v s.stands sc.written) i)
+    in_rows (row ∷ rows) h i = or_either (occurs v (s.stands row.1))
+        (free_in_written v s.stands (as_written rows ++ sc.written)) i
+        (λ j. inr (or_left (eqb v row.1) (is_among v (numbers rows)) (subst (λ z. occurs v z ≡ true) h.0 j)))
+        (λ j. further (in_rows rows h.1 j))
+      where
+        further : (is_kept sc s.stands v ≡ true) ⊎ (is_among v (numbers rows) ≡ true)
+            → (is_kept sc s.stands v ≡ true) ⊎ (is_among v (numbers (row ∷ rows)) ≡ true)
+        further (inl j) = inl j
+        further (inr j) = inr (or_right (eqb v row.1) (is_among v (numbers rows)) j)
+
+own_not_open : (inner : Scope) (kept : ℕ → Bool) (s : State) (groups : List Group) (rows : List (List ℕ × ℕ)) (v : ℕ)
+    → AllItems (λ (row : List ℕ × ℕ). (not (kept row.1) && not (open_in inner s row.1 groups)) ≡ true) rows
+    → is_among v (numbers rows) ≡ true → open_in inner s v groups ≡ false
+own_not_open inner kept s groups [] v h e = absurd (cc)
+own_not_open inner kept s groups (row ∷ rows) v h e = or_either (eqb v row.1) (is_among v (numbers rows)) e
+    (λ i. subst (λ z. open_in inner s z groups ≡ false) (sym (eqb-true v row.1 i))
+    (not_true (open_in inner s row.1 groups)
+    (and_right (not (kept row.1)) (not (open_in inner s row.1 groups)) h.0)))
+    (λ i. own_not_open inner kept s groups rows v h.1 i)
+
+-- each group closes just what its variables close over
+module _ (sc inner : Scope) (kept : ℕ → Bool) (s : State) (own : List (List ℕ × ℕ)) (groups : List Group)
+    (around : (v : ℕ) → is_kept inner s.stands v ≡ true → (kept v ≡ true) ⊎ (is_among v (numbers own) ≡ true))
+    (own_closes : AllItems (λ (row : List ℕ × ℕ). (not (kept row.1) && not (open_in inner s row.1 groups)) ≡ true) own)
+  where
+    abbrev closing_of : ℕ → Bool
+    closing_of v = not (kept v) && not (open_in inner s v groups)
+
+    closed_row : (v : ℕ) (c : Bool) → open_in inner s v groups ≡ c → (open_in inner s v groups ≡ true → is_kept inner s.stands v ≡ true)
+        → closing_of v ≡ not (kept v)
+    closed_row v false e h = and_no (kept v) (open_in inner s v groups) e
+    closed_row v true e h = at (around v (h e))
+      where
+        at : (kept v ≡ true) ⊎ (is_among v (numbers own) ≡ true) → closing_of v ≡ not (kept v)
+        at (inl i) = rw (i)
+        at (inr i) = let k : false ≡ true = sym (own_not_open inner kept s groups own v own_closes i) ∙ e in absurd (cc)
+
+    closed_rows_close : (rows : Bound)
+        → AllRows (λ (t : Ty). (v : ℕ) → occurs v (put s.stands t) ≡ true → open_in inner s v groups ≡ true
+        → is_kept inner s.stands v ≡ true) rows
+        → AllRows (ClosesOf closing_of kept s true) rows
+    closed_rows_close [] h = tt
+    closed_rows_close (row ∷ rows) h =
+        ((λ n e. closed_row n (open_in inner s n groups) refl (h.0 n e)), closed_rows_close rows h.1)
+
+    open_rows_close : (rows : Bound)
+        → ((v : ℕ) → list_any (λ (row : List ℕ × Ty). occurs v (put s.stands row.1)) rows ≡ true
+        → open_in inner s v groups ≡ true)
+        → AllRows (ClosesOf closing_of kept s false) rows
+    open_rows_close [] f = tt
+    open_rows_close (row ∷ rows) f = (
+      (λ n e. no_open (kept n) (open_in inner s n groups) (f n (or_left (occurs n (put s.stands row.1)) _ e))),
+      open_rows_close rows (λ v e. f v (or_right (occurs v (put s.stands row.1)) _ e)),
+    )
+      where
+        no_open : (k o : Bool) → o ≡ true → (not k && not o) ≡ false
+        no_open true o e = refl
+        no_open false o e = rw (e)
+
+    group_closes : (group : Group) (c : Bool) → group.0 ≡ c
+        → ((v : ℕ) → (not group.0 && list_any (λ (row : List ℕ × Ty). occurs v (put s.stands row.1)) group.1) ≡ true
+        → open_in inner s v groups ≡ true)
+        → Apart inner s (λ v. open_in inner s v groups ≡ true) group → GroupCloses closing_of kept s group
+    group_closes group true e f h = subst (λ z. AllRows (ClosesOf closing_of kept s z) group.1) (sym e)
+        (closed_rows_close group.1 (h e))
+    group_closes group false e f h = subst (λ z. AllRows (ClosesOf closing_of kept s z) group.1) (sym e)
+        (open_rows_close group.1 (λ v i. f v (rw (e) i)))
+
+    some_close : (some : List Group) → ((v : ℕ) → open_in inner s v some ≡ true → open_in inner s v groups ≡ true)
+        → AllItems (Apart inner s (λ v. open_in inner s v groups ≡ true)) some
+        → AllItems (GroupCloses closing_of kept s) some
+    some_close [] f h = tt
+    some_close (group ∷ some) f h = (
+      group_closes group group.0 refl
+          (λ v e. f v (or_left (not group.0 && list_any (λ (row : List ℕ × Ty). occurs v (put s.stands row.1)) group.1)
+          (open_in inner s v some) e)) h.0,
+      some_close some
+          (λ v e. f v (or_right (not group.0 && list_any (λ (row : List ℕ × Ty). occurs v (put s.stands row.1)) group.1)
+          (open_in inner s v some) e)) h.1,
+    )
+
+    groups_close : AllItems (Apart inner s (λ v. open_in inner s v groups ≡ true)) groups
+        → AllItems (GroupCloses closing_of kept s) groups
+    groups_close h = some_close groups (λ v e. e) h
+
 module _ (sc : Scope) (rules recs : Rules) (at : At) (st : Progress) (b : Bound × List Group × Progress)
-    (c : RecPats × Progress) (u : Progress) (tyvars : List Name) (written : List (List ℕ × ℕ) × Progress) (flag : Bool)
+    (c : RecPats × Progress) (u : Progress) (tyvars : List Name) (written : List (List ℕ × ℕ) × Progress)
     (of_own : OwnDerived sc tyvars rules recs st written)
-    (own_flags : AllItems (λ (row : List ℕ × ℕ). flag ≡ true) written.0)
-    (plain_flags : HaveFlag flag sc.env rules) (flags : HaveFlag flag sc.env recs)
+    (apart : AllItems (Apart (inner_scope written.0 sc) u.types
+    (λ v. open_in (inner_scope written.0 sc) u.types v (val_groups sc recs b c) ≡ true)) (val_groups sc recs b c))
     (binds : BindsDerived (inner_scope written.0 sc) rules [] [] written.1 b)
     (pats : RecPatsDerived (inner_scope written.0 sc) recs [] b.0 b.2 c)
     (exps : RecExpsDerived (inner_scope written.0 sc) (under_bound (rec_bound c.0) (inner_scope written.0 sc)) recs c.0
@@ -133,19 +267,18 @@ module _ (sc : Scope) (rules recs : Rules) (at : At) (st : Progress) (b : Bound 
   abbrev kept : ℕ → Bool
   kept = is_kept sc u.types.stands
 
-  abbrev closes : ℕ → Bool
-  closes v = flag && not (kept v)
-
   abbrev groups : List Group
   groups = val_groups sc recs b c
 
+  abbrev inner : Scope
+  inner = inner_scope written.0 sc
+
+  -- variables that are closed are neither kept nor in the type of a variable that isn't closed
+  abbrev closes : ℕ → Bool
+  closes v = not (kept v) && not (open_in inner u.types v groups)
+
   here : IsReady Any sc u
   here = ready_later Any sc st u ready grown.0
-
-  closing : AllItems (GroupCloses closes kept u.types) groups
-  closing = groups_close flag kept u.types groups (items_after (HasFlag flag) b.1 (rec_groups sc.env recs c.0)
-      (subst (AllItems (HasFlag flag)) (sym binds.all) (binds.flags flag plain_flags))
-      (rec_flags flag sc.env recs c.0 flags))
 
   leaves_here : LeavesRigid u.types written.1.types
   leaves_here = binds.leaves u.types (pats.leaves u.types (exps.leaves u.types here.fit.settled.leaves))
@@ -159,6 +292,11 @@ module _ (sc : Scope) (rules recs : Rules) (at : At) (st : Progress) (b : Bound 
       (λ e. either_way (u.types.marks v)
       (λ i. absurd (not_both (written.1.types.marks v) e (leaves_here.unmarked v rigid i)))
       (λ i. i ∙ sym e))
+
+  own_alone : (rows : List (List ℕ × ℕ)) → AllItems (IsOwn written.1.types) rows
+      → AllItems (λ (row : List ℕ × ℕ). u.types.stands row.1 ≡ Ty.Var row.1) rows
+  own_alone [] h = tt
+  own_alone (row ∷ rows) h = (leaves_here.alone row.1 h.0.1, own_alone rows h.1)
 
   module _ (p : State) (q : Solves p u.types) where
     inside : Reopened closes p u.types
@@ -174,26 +312,14 @@ module _ (sc : Scope) (rules recs : Rules) (at : At) (st : Progress) (b : Bound 
     own_rows = moved inside.from written.0
 
     one_scope : put_scope f sc ≡ around
-    one_scope = scope_around closes p u.types inside sc (λ v e. no_kept flag (kept v) e)
+    one_scope = scope_around closes p u.types inside sc (λ v e. no_kept (kept v) (open_in inner u.types v groups) e)
 
     own_put : (rows : List (List ℕ × ℕ)) → AllItems (IsOwn written.1.types) rows
-        → AllItems (λ (row : List ℕ × ℕ). flag ≡ true) rows
-        → AllItems (λ (row : List ℕ × ℕ). kept row.1 ≡ false) rows
+        → AllItems (λ (row : List ℕ × ℕ). closes row.1 ≡ true) rows
         → put_rows f (as_written rows) ≡ as_written (moved inside.from rows)
-    own_put [] h k l = refl
-    own_put (row ∷ rows) h k l = ap₂ (λ (x : Ty) (more : List (List ℕ × Ty)). (row.0, x) ∷ more)
-        (inside.closed row.1 (ap₂ (λ (x y : Bool). x && not y) k.0 l.0) (leaves_here.alone row.1 h.0.1))
-        (own_put rows h.1 k.1 l.1)
-
-    inner_one : put_scope f (inner_scope written.0 sc) ≡ with_written (as_written own_rows) around
-    inner_one = ap (λ (rows : List (List ℕ × Ty)). (let made : Scope = record {
-      env = put_env f sc.env;
-      written = rows;
-      home = sc.home;
-    } in made)) (rows_after_put f (as_written written.0) sc.written)
-        ∙ ap₂ (λ (rows : List (List ℕ × Ty)) (z : Scope). with_written rows z)
-        (own_put written.0 of_own.each own_flags (left_kept kept u.types (val_made sc recs b c u) written.0 left))
-        one_scope
+    own_put [] h k = refl
+    own_put (row ∷ rows) h k = ap₂ (λ (x : Ty) (more : List (List ℕ × Ty)). (row.0, x) ∷ more)
+        (inside.closed row.1 k.0 (leaves_here.alone row.1 h.0.1)) (own_put rows h.1 k.1)
 
     own_marked : (rows : List (List ℕ × ℕ)) → AllItems (IsOwn written.1.types) rows
         → map (λ (row : List ℕ × ℕ). inside.inside.marks row.1) (moved inside.from rows)
@@ -236,6 +362,29 @@ module _ (sc : Scope) (rules recs : Rules) (at : At) (st : Progress) (b : Bound 
         ∙ distinct_put f (groups_bound groups)
         ∙ ap (λ (z : Bound). are_distinct z) bound_of
         ∙ pats.distinct (binds.distinct refl)
+
+    all_distinct : are_distinct (groups_bound groups) ≡ true
+    all_distinct = ap (λ (z : Bound). are_distinct z) bound_of ∙ pats.distinct (binds.distinct refl)
+
+    -- no written variable of the `val` is kept, nor in the type of a variable that isn't closed
+    own_closes : AllItems (λ (row : List ℕ × ℕ). closes row.1 ≡ true) written.0
+    own_closes = not_left inner kept u.types (val_made sc recs b c u) groups written.0
+        (λ v. ap (λ (env : Env). kept v || free_in_env v u.types.stands env) (made_is kept u.types groups)
+        ∙ open_is kept u.types groups v here.fit.settled all_distinct) left
+
+    closing : AllItems (GroupCloses closes kept u.types) groups
+    closing = groups_close sc inner kept u.types written.0 groups
+        (λ v e. kept_inside sc u.types written.0 v (own_alone written.0 of_own.each) e) own_closes apart
+
+    inner_one : put_scope f (inner_scope written.0 sc) ≡ with_written (as_written own_rows) around
+    inner_one = ap (λ (rows : List (List ℕ × Ty)). (let made : Scope = record {
+      env = put_env f sc.env;
+      written = rows;
+      home = sc.home;
+    } in made)) (rows_after_put f (as_written written.0) sc.written)
+        ∙ ap₂ (λ (rows : List (List ℕ × Ty)) (z : Scope). with_written rows z)
+        (own_put written.0 of_own.each own_closes)
+        one_scope
 
     closed : ClosesVal p.marks inside.inside.marks around own_rows all_groups (put_env p.stands (val_made sc recs b c u))
     closed = record {

@@ -1,9 +1,6 @@
 -- What holds of every declaration in a phrase, those inside others included. Of a sequence and of `local` nothing is
 -- asked but of the declarations in them, and nothing of a structure declaration.
-use Rattle.std.specs.Prelude.{◌≡◌, List, [], ◌∷◌, ◌⊎◌}
-use Rattle.sml_trees.specs.declared.name.Name.{Name}
 use Rattle.bare_phrases.specs.Phrases.{ExpPhrase, ExpFields, Rules, DecPhrase, DecPhrases}
-use Rattle.static_semantics.specs.WrittenVariables.{written_in}
 
 abbrev mutual
   pub ExpHas : (DecPhrase → Type 0) → ExpPhrase → Type 0
@@ -67,23 +64,14 @@ abbrev pub AreValues : Rules → Type 0
 AreValues Rules.EndOfRules = Unit {0}
 AreValues (Rules.Rule pat exp rest) = IsValue exp × AreValues rest
 
--- one plain binding, without a list of type variables, in which none stands unguarded
-abbrev pub BindsOne : List Name → Rules → Rules → Type 0
-BindsOne [] Rules.EndOfRules recs = ⊥
-BindsOne [] (Rules.Rule pat exp Rules.EndOfRules) Rules.EndOfRules =
-    written_in (Rules.Rule pat exp Rules.EndOfRules) Rules.EndOfRules ≡ []
-BindsOne [] (Rules.Rule pat exp Rules.EndOfRules) (Rules.Rule first right more) = ⊥
-BindsOne [] (Rules.Rule pat exp (Rules.Rule next right more)) recs = ⊥
-BindsOne (name ∷ names) rules recs = ⊥
-
--- a declaration that is no `datatype`; a `val` has such right sides alone, or is one such plain binding
-abbrev pub IsPlain : DecPhrase → Type 0
-IsPlain (DecPhrase.Val tyvars rules recs at) = (AreValues rules × AreValues recs) ⊎ BindsOne tyvars rules recs
-IsPlain (DecPhrase.Types binds at) = Unit {0}
-IsPlain (DecPhrase.Datatypes binds at) = ⊥
-IsPlain (DecPhrase.Replication name long at) = Unit {0}
-IsPlain (DecPhrase.Exceptions binds at) = Unit {0}
-IsPlain (DecPhrase.Local hidden shown at) = Unit {0}
-IsPlain (DecPhrase.Open longs at) = Unit {0}
-IsPlain (DecPhrase.Sequence decs at) = Unit {0}
-IsPlain (DecPhrase.Structures binds at) = Unit {0}
+-- a declaration; the `rec` bindings of a `val` have such right sides alone, as they have in every source
+abbrev pub BindsValues : DecPhrase → Type 0
+BindsValues (DecPhrase.Val tyvars rules recs at) = AreValues recs
+BindsValues (DecPhrase.Types binds at) = Unit {0}
+BindsValues (DecPhrase.Datatypes binds at) = Unit {0}
+BindsValues (DecPhrase.Replication name long at) = Unit {0}
+BindsValues (DecPhrase.Exceptions binds at) = Unit {0}
+BindsValues (DecPhrase.Local hidden shown at) = Unit {0}
+BindsValues (DecPhrase.Open longs at) = Unit {0}
+BindsValues (DecPhrase.Sequence decs at) = Unit {0}
+BindsValues (DecPhrase.Structures binds at) = Unit {0}

@@ -1,4 +1,2 @@
-pub mod Derived
 pub mod Declaring
-pub mod Reopening
 pub mod Promises

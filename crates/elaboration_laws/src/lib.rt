@@ -3,7 +3,4 @@
 
 mod laws;
 
-pub use laws::{
-    closed_variables_reopen, expressions_have_derivations, patterns_have_derivations,
-    types_have_derivations,
-};
+pub use laws::expressions_have_derivations;

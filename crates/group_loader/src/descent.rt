@@ -25,20 +25,20 @@ use std::alloc::Global;
 
 /// A group whose members are loaded, by its number and its name.
 #[derive(Drop)]
-pub(crate) struct Holder<'a> {
+pub struct Holder<'a> {
     pub number: u32,
     pub name: &'a Text,
 }
 
 /// A group whose loading begins, and its members, chosen or not.
 #[derive(Drop)]
-struct Opening {
-    group: Group,
-    members: List<MemberEntry>,
+pub struct Opening {
+    pub group: Group,
+    pub members: List<MemberEntry>,
 }
 
 /// The numbers of the members that a list chooses. No module is there yet.
-fn chosen(alloc: Global, defs: &List<Def>, lines: &List<Line>) -> Result<List<u32>, Fault>
+pub fn chosen(alloc: Global, defs: &List<Def>, lines: &List<Line>) -> Result<List<u32>, Fault>
     ensures { Gives result (chosen_items defs.now [] lines.now) }
 {
     let modules = List::new(alloc);
@@ -46,7 +46,7 @@ fn chosen(alloc: Global, defs: &List<Def>, lines: &List<Line>) -> Result<List<u3
 }
 
 /// The group of a name that is described so, as its loading begins.
-fn begun(alloc: Global, name: Text, description: Description) -> Opening
+pub fn begun(alloc: Global, name: Text, description: Description) -> Opening
     ensures group { result.group ≡ begun name description }
     ensures members { result.members ≡ description.members }
 {
@@ -73,7 +73,7 @@ fn begun(alloc: Global, name: Text, description: Description) -> Opening
 }
 
 /// Loads a source that is a member of the group of a number.
-fn load_source<F: Folder>(
+pub fn load_source<F: Folder>(
     folder: &mut F,
     context: &Context<'_>,
     holder: u32,

@@ -8,7 +8,9 @@ mod loader;
 mod project;
 mod reading;
 
+pub use descent::{Holder, Opening, begun, chosen, load_source};
 pub use fault::LoadFault;
 pub use limits::DESCRIPTION;
+pub use loader::Loader;
 pub use project::load;
-pub use reading::read_anchors;
+pub use reading::{Context, read_anchors, read_group, read_member_group, read_named};

@@ -15,7 +15,7 @@ use std::alloc::Global;
 /// What was loaded so far. Beside it stand the names of the groups, in the order of their numbers, and the numbers of
 /// those whose loading ended.
 #[derive(Drop)]
-pub(crate) struct Loader {
+pub struct Loader {
     pub progress: Progress,
     pub names: IndexSet<Text>,
     pub ended: IndexSet<u32>,

@@ -25,7 +25,7 @@ use std::alloc::Global;
 
 /// By which anchors and definitions a project is loaded.
 #[derive(Drop)]
-pub(crate) struct Context<'a> {
+pub struct Context<'a> {
     pub alloc: Global,
     pub anchors: &'a Anchors,
     pub defs: &'a List<Def>,
@@ -67,7 +67,7 @@ pub fn read_anchors<F: Folder>(alloc: Global, folder: &mut F) -> Result<Anchors,
 // ---- files by name
 
 /// The first bytes of the file of a name, one more than `max`.
-fn read_named<F: Folder>(
+pub fn read_named<F: Folder>(
     folder: &mut F,
     context: &Context<'_>,
     name: &Text,
@@ -175,7 +175,7 @@ fn description_found(
 }
 
 /// The description of ROOT, or of a group that has no frozen file.
-pub(crate) fn read_group<F: Folder>(
+pub fn read_group<F: Folder>(
     folder: &mut F,
     context: &Context<'_>,
     at: &Place,
@@ -204,7 +204,7 @@ fn frozen_group(alloc: Global, name: &Text, progress: &Progress) -> Result<Descr
 }
 
 /// The description of a group that is a member.
-pub(crate) fn read_member_group<F: Folder>(
+pub fn read_member_group<F: Folder>(
     folder: &mut F,
     context: &Context<'_>,
     at: &Place,

@@ -34,7 +34,7 @@ use Rattle.inference_laws.proofs.EnvsWith.{items_after, env_structures, env_type
 
 -- ---- environments
 
-firm_nothing : FirmEnv empty_env
+pub firm_nothing : FirmEnv empty_env
 firm_nothing = env_nothing AnyName FirmType FirmValue
 
 firm_with_type : (name : List ℕ) (str : TypeStr) (env : Env) → FirmType str → FirmEnv env
@@ -45,7 +45,7 @@ firm_with_value : (name : List ℕ) (value : ValueEntry) (env : Env) → FirmVal
     → FirmEnv (with_value name value env)
 firm_with_value name value env h k = env_with_value AnyName FirmType FirmValue name value env tt h k
 
-firm_modified : (env by : Env) → FirmEnv env → FirmEnv by → FirmEnv (modified_by env by)
+pub firm_modified : (env by : Env) → FirmEnv env → FirmEnv by → FirmEnv (modified_by env by)
 firm_modified env by h k = env_modified AnyName FirmType FirmValue env by h k
 
 type_found : (sc : Scope) (long : LongName) → FirmEnv sc.env
@@ -168,7 +168,7 @@ own_among : (m : ℕ) (vs : List ℕ) → occurs_any m (types_of (map Ty.Var vs)
 own_among m [] = refl
 own_among m (v ∷ vs) = ap (λ z. eqb m v || z) (own_among m vs)
 
-own_within : (name : TyName) (vs : List ℕ) → IsWithin (Among vs) (own_ty name vs)
+pub own_within : (name : TyName) (vs : List ℕ) → IsWithin (Among vs) (own_ty name vs)
 own_within name vs n e = sym (own_among n vs) ∙ e
 
 own_type_firm : (name : TyName) → FirmType (own_type name)
@@ -199,7 +199,7 @@ infer_types_firm sc (bind ∷ binds) made st h k =
 
 -- ---- datatypes
 
-new_firm : (sc : Scope) (binds : List DatPhrase) (number : ℕ) (made : Env) → FirmEnv made
+pub new_firm : (sc : Scope) (binds : List DatPhrase) (number : ℕ) (made : Env) → FirmEnv made
     → Given FirmEnv (new_types sc binds number made)
 new_firm sc [] number made h = h
 new_firm sc (bind ∷ binds) number made h =
@@ -208,10 +208,10 @@ new_firm sc (bind ∷ binds) number made h =
     (new_firm sc binds (suc number) (with_type bind.name.text (own_type name) made)
     (firm_with_type bind.name.text (own_type name) made (own_type_firm name) h))
 
-abbrev ConsWithin : (ℕ → Type 0) → List Con → Type 0
+abbrev pub ConsWithin : (ℕ → Type 0) → List Con → Type 0
 ConsWithin Q cons = AllRows (IfSome (IsWithin Q)) cons
 
-abbrev DatWithin : Dat → Type 0
+abbrev pub DatWithin : Dat → Type 0
 DatWithin dat = ConsWithin (Among (numbers dat.variables)) dat.cons
 
 optional_within : (Q : ℕ → Type 0) (sc : Scope) (ty : Option TyPhrase) → FirmEnv sc.env
@@ -231,7 +231,7 @@ cons_within Q sc refused (con ∷ cons) before made h k l =
     (λ arg m. cons_within Q sc refused cons before (made ++ (con.name.text, arg) ∷ []) h k
     (rows_after (IfSome (IsWithin Q)) made ((con.name.text, arg) ∷ []) l (m, tt)))))
 
-dats_within : (sc : Scope) (refused : List (List ℕ)) (binds : List DatPhrase) (made : List Dat) (st : Progress)
+pub dats_within : (sc : Scope) (refused : List (List ℕ)) (binds : List DatPhrase) (made : List Dat) (st : Progress)
     → FirmEnv sc.env → AllItems DatWithin made
     → Given (λ r. AllItems DatWithin r.0) (infer_dats sc refused binds made st)
 dats_within sc refused [] made st h k = k
@@ -265,10 +265,10 @@ con_within Q home first choice of None h k = h
 con_within Q home first choice of (Some arg) h k = arrow_within Q (settled home first choice arg) of
     (settled_within Q home first choice arg k) h
 
-abbrev FirmScheme : TypeScheme → Type 0
+abbrev pub FirmScheme : TypeScheme → Type 0
 FirmScheme σ = IsFirm σ.body
 
-schemes_firm : (home : List ℕ) (first : ℕ) (choice : List Bool) (own : List (List ℕ × ℕ)) (of : Ty) (cons : List Con)
+pub schemes_firm : (home : List ℕ) (first : ℕ) (choice : List Bool) (own : List (List ℕ × ℕ)) (of : Ty) (cons : List Con)
     → IsWithin (Among (numbers own)) of → ConsWithin (Among (numbers own)) cons
     → AllRows FirmScheme (con_schemes home first choice own of cons)
 schemes_firm home first choice own of [] h k = tt
@@ -281,7 +281,7 @@ schemes_firm home first choice own of (con ∷ cons) h k = rows_with FirmScheme 
 abbrev FirmCons : List ConEntry → Type 0
 FirmCons cons = AllItems (λ (con : ConEntry). IsFirm con.scheme.body) cons
 
-entries_firm : (rows : Table TypeScheme) → AllRows FirmScheme rows → FirmCons (con_entries rows)
+pub entries_firm : (rows : Table TypeScheme) → AllRows FirmScheme rows → FirmCons (con_entries rows)
 entries_firm [] h = tt
 entries_firm (row ∷ rows) h = (h.0, entries_firm rows h.1)
 

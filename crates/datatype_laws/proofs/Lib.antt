@@ -1,0 +1,4 @@
+pub mod Settling
+pub mod New
+pub mod Datatypes
+pub mod Below

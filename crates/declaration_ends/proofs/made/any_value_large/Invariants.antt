@@ -1,0 +1,13 @@
+use Rattle.std.proofs.Common.{◌≡◌, [], drop}
+use Rattle.semantic_objects.specs.Tables.{with_all}
+use Rattle.type_nodes.specs.Tables.{state}
+use Rattle.declaration_ends.proofs.Sizing.{value_flags}
+use Rattle.declaration_ends.proofs.made.any_value_large.Given as goal
+
+-- what was noted so far, and the values that are left
+abbrev pub invariant-loop-named : goal.invariant-loop-named
+invariant-loop-named l = record {
+  same : l.t ≡ l.fn.t;
+  rows : with_all (value_flags (state l.fn.t).stands (drop l.named-index l.fn.values)) l.rows
+      ≡ with_all (value_flags (state l.fn.t).stands l.fn.values) [];
+}

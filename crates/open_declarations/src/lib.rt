@@ -1,0 +1,7 @@
+//! What `open` declarations bind.
+#![tactic(auto)]
+
+mod entries;
+mod names;
+
+pub use names::elab_open;

@@ -1,0 +1,17 @@
+pub mod Listing
+pub mod Marking
+pub mod Naming
+pub mod Finding
+pub mod Opening
+pub mod RealisingSteps
+pub mod Leading
+pub mod RealisingEnvs
+pub mod RealisingAll
+pub mod Covering
+pub mod Apart
+pub mod Rigid
+pub mod Reclosing
+pub mod Constructing
+pub mod EnrichingSteps
+pub mod EnrichingEnvs
+pub mod Concluding

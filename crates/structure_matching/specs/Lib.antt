@@ -1,0 +1,8 @@
+pub mod Found
+pub mod Refusals
+pub mod Admitting
+pub mod Searching
+pub mod Values
+pub mod Comparing
+pub mod Enriching
+pub mod Matches
