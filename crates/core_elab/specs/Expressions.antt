@@ -1,4 +1,5 @@
--- What a call answers for an expression or a match in a scope, and what it leaves.
+-- What a call answers for an expression or a match in a scope, and what it leaves; and the steps of these. Only private
+-- functions cite this file.
 use Rattle.std.specs.Prelude.{[], Result, Option, None, Some}
 use Rattle.std.specs.Option.{option_map}
 use Rattle.cm_base.specs.declared.fault.Fault.{Fault}
@@ -38,7 +39,7 @@ abbrev pub IsMatch : Moment → Rules → Moment → Result TyId Fault → Type 
 IsMatch old rules new result =
     Elabs old (λ sc. infer_match depth sc rules (progress_at old)) typed_as Has new result
 
--- ---- forms after their parts. Only private functions cite what follows
+-- ---- forms after their parts
 
 -- the check of the size at the end
 abbrev pub ends_sized : Scope → At → Answer (Ty × Progress) → Answer (Ty × Progress)
