@@ -6,3 +6,8 @@ pub mod Parted
 pub mod MatchSteps
 pub mod Fields
 pub mod Beginning
+pub mod Binding
+pub mod RecBinding
+pub mod Under
+pub mod WholeVal
+pub mod Readying

@@ -14,6 +14,7 @@ ghost use Rattle.core_elab.specs.Expressions.{AreLabelled, IsConstrained, ends_s
 
 use crate::rules::{applied, handled, joined, raised};
 use cm_base::Fault;
+use declaration_ends::within_let;
 use name_trails::NameTrail;
 use pattern_elab::{CoreScope, sized, written_type};
 use semantic_objects::TyId;
@@ -108,5 +109,23 @@ pub(crate) fn make_record(
         (λ sc. sized_exp sc at (record_ty (made_fields t.old rows.now), progress t.old g.now)) result }
 {
     let id = record_of(alloc, t, rows)?;
+    sized(alloc, g, t, at, id)
+}
+
+/// The end of a `let`, whose declaration made the names of the unit from one number up to below another.
+pub(crate) fn end_let(
+    alloc: Global,
+    g: &EnvGraph,
+    t: &mut TypeTable,
+    at: At,
+    from: u64,
+    to: u64,
+    id: TyId,
+) -> Result<TyId, Fault>
+    requires { Has t.old id }
+    ensures { IsRule g.now t.old t.new (λ sc. ends_sized sc at (inference.within_let sc at from to
+        (type_of t.old id, progress t.old g.now))) result }
+{
+    let id = within_let(alloc, g, t, at, from, to, id)?;
     sized(alloc, g, t, at, id)
 }

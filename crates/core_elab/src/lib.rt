@@ -2,15 +2,21 @@
 //! and the variables of rules in scope.
 #![tactic(auto)]
 
+mod binds;
+mod declared;
+mod endings;
 mod entered;
 mod exp;
 mod forms;
 mod matching;
 mod places;
 mod plain;
+mod rec_exps;
 mod rules;
+mod val;
 mod whole;
 
+pub use declared::elab_declared;
 pub use entered::enter_variables;
 pub use exp::elab_in_scope;
 pub use places::{place_of_exp, place_of_pat};

@@ -1,6 +1,6 @@
 //! The types of a match's rules, which are those of the first one.
 
-ghost use Rattle.std.specs.Prelude.{◌≡◌, IfSome};
+ghost use Rattle.std.specs.Prelude.{◌≡◌, IfOk, IfSome};
 ghost use Rattle.std.specs.Option.{option_map};
 ghost use Rattle.type_nodes.specs.Tables.{Has, type_of};
 ghost use Rattle.sml_modules.specs.Graphs.{Graph};
@@ -10,6 +10,7 @@ ghost use Rattle.type_phrases.specs.Inferred.{progress};
 ghost use Rattle.pattern_elab.specs.Scopes.{IsCoreScope};
 ghost use Rattle.core_elab.specs.Rules.{IsRule};
 ghost use Rattle.core_elab.specs.Moments.{moment};
+ghost use Rattle.core_elab.specs.Ready.{IsReadyAt, IsReadyUnder};
 ghost use Rattle.core_elab.specs.Expressions.{HasFirst, IsRulePat, as_first, match_on, sides_in};
 
 use crate::places::place_of_pat;
@@ -87,10 +88,14 @@ pub(crate) fn rule_pattern(
     ensures pattern { IsRulePat (moment g.now t.old scope.now) first (pat_phrase pat.now)
         (moment g.now t.new scope.now) result }
     ensures core { IsCoreScope g.now t.new scope.now }
+    ensures ready { IfOk result (λ made. IsReadyAt (moment g.now t.old scope.now)
+        → IsReadyUnder (moment g.now t.new scope.now) made.1) }
 {
     let mut bound = NameTrail::new(alloc);
     let id = elab_pat(alloc, g, t, scope, pat, &mut bound)?;
+    t.is_kept();
     let from = as_first(alloc, g, t, place_of_pat(pat), from_of(first), id)?;
+    t.is_kept();
     Ok((from, bound))
 }
 

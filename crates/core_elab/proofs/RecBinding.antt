@@ -20,9 +20,9 @@ use Rattle.core_elab.specs.Rules.{IsRule}
 use Rattle.core_elab.specs.Moments.{Moment, moment, scope_at, progress_at, IsCoreAt, typed_as, Passes, Elabs}
 use Rattle.core_elab.specs.Expressions.{IsExp}
 use Rattle.core_elab.proofs.Chains.{passes_table, passes_then, scope_kept, stops, goes_on, answers_stop}
-use Rattle.value_declarations.specs.Bindings.{Nothing}
-use Rattle.value_declarations.specs.RecBindings.{infer_rec_exp, infer_rec_exps_by, read_progress, IsRecExp, AreRecExps}
-use Rattle.value_declarations.proofs.Binding.{Row, joins}
+use Rattle.core_elab.specs.Bindings.{Nothing}
+use Rattle.core_elab.specs.RecBindings.{infer_rec_exp, infer_rec_exps_by, read_progress, IsRecExp, AreRecExps}
+use Rattle.core_elab.proofs.Binding.{Row, joins}
 
 -- ---- by the types of patterns
 

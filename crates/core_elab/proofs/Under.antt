@@ -31,11 +31,11 @@ use Rattle.closing_laws.specs.Variables.{val_end}
 use Rattle.value_closing.specs.Recursive.{AreRecPats}
 use Rattle.value_closing.proofs.Grouping.{bound_since}
 use Rattle.value_closing.proofs.RecPats.{length_bound}
-use Rattle.value_declarations.specs.Bindings.{Nothing, AreBinds}
-use Rattle.value_declarations.specs.RecBindings.{infer_rec_exps_by, read_progress, AreRecExps}
-use Rattle.value_declarations.specs.Values.{AreRecsUnder, end_of, behind_pats, behind_binds, read_made, ValuesAlone, IsValUnder}
-use Rattle.value_declarations.proofs.Binding.{Row}
-use Rattle.value_declarations.proofs.RecBinding.{by_types}
+use Rattle.core_elab.specs.Bindings.{Nothing, AreBinds}
+use Rattle.core_elab.specs.RecBindings.{infer_rec_exps_by, read_progress, AreRecExps}
+use Rattle.core_elab.specs.Values.{AreRecsUnder, end_of, behind_pats, behind_binds, read_made, ValuesAlone, IsValUnder}
+use Rattle.core_elab.proofs.Binding.{Row}
+use Rattle.core_elab.proofs.RecBinding.{by_types}
 
 -- ---- under the variables of patterns
 

@@ -24,8 +24,8 @@ use Rattle.core_elab.specs.Moments.{Moment, moment, scope_at, progress_at, IsCor
 use Rattle.core_elab.proofs.Chains.{passes_table, core_kept, answers_stop}
 use Rattle.closing_laws.specs.Promises.{IsOfState}
 use Rattle.value_closing.specs.OwnVariables.{EntersOwn}
-use Rattle.value_declarations.specs.Values.{val_under, read_made, IsValUnder, IsVal}
-use Rattle.value_declarations.proofs.Binding.{Row}
+use Rattle.core_elab.specs.Values.{val_under, read_made, IsValUnder, IsVal}
+use Rattle.core_elab.proofs.Binding.{Row}
 
 -- with what calls name otherwise
 pub under_as : {m new : Moment} {r : Result (Made OwnVariable) Fault} (since past : Table) (at : At) (own : Rows ℕ)

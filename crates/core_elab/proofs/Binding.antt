@@ -30,7 +30,7 @@ use Rattle.core_elab.specs.Expressions.{IsExp}
 use Rattle.core_elab.proofs.Chains.{passes_table, passes_then, scope_kept, stops, goes_on, ruled, answers_stop, memory}
 use Rattle.closing_laws.proofs.Names.{pat_once, groups_more}
 use Rattle.value_closing.proofs.RecPats.{length_bound}
-use Rattle.value_declarations.specs.Bindings.{infer_bind, read_binds, Nothing, BindsBehind, IsBind, AreBinds}
+use Rattle.core_elab.specs.Bindings.{infer_bind, read_binds, Nothing, BindsBehind, IsBind, AreBinds}
 
 -- ---- one binding and those behind it
 

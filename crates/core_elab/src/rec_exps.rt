@@ -4,12 +4,14 @@ ghost use Rattle.std.specs.Prelude.{map};
 ghost use Rattle.bare_phrases.specs.PhraseOf.{rule_phrase};
 ghost use Rattle.type_nodes.specs.Tables.{Has};
 ghost use Rattle.type_schemes.specs.Schemes.{HaveAll};
-ghost use Rattle.pattern_elab.specs.Scopes.{IsCoreScope};
 ghost use Rattle.core_elab.specs.Moments.{moment};
-ghost use Rattle.value_declarations.specs.RecBindings.{IsRecExp, AreRecExps};
+ghost use Rattle.core_elab.specs.Ready.{IsReadyAt};
+ghost use Rattle.core_elab.specs.RecBindings.{IsRecExp, AreRecExps};
 
+use crate::exp::elab_in_scope;
+use crate::places::place_of_pat;
+use crate::rules::joined;
 use cm_base::{Fault, List};
-use core_elab::{elab_in_scope, joined, place_of_pat};
 use pattern_elab::CoreScope;
 use semantic_objects::TyId;
 use sml_modules::EnvGraph;
@@ -18,6 +20,7 @@ use sml_types::TypeTable;
 use std::alloc::Global;
 
 /// One expression, whose type is made that of its pattern, at the pattern.
+#[cycle(elab_in_scope)]
 fn elab_rec_exp(
     alloc: Global,
     g: &mut EnvGraph,
@@ -26,7 +29,7 @@ fn elab_rec_exp(
     rule: &Rule,
     ty: TyId,
 ) -> Result<(), Fault>
-    requires scope { IsCoreScope g.old t.old scope.old }
+    requires scope { IsReadyAt (moment g.old t.old scope.old) }
     requires ty { Has t.old ty }
     ensures { IsRecExp (moment g.old t.old scope.old) (rule_phrase rule.now) ty (moment g.new t.new scope.new) result }
 {
@@ -37,6 +40,7 @@ fn elab_rec_exp(
 
 /// All of them, by the types of their patterns, in the scope with the variables of these. Where there are fewer types
 /// than bindings that is answered as want of memory is.
+#[cycle(elab_in_scope)]
 pub fn elab_rec_exps(
     alloc: Global,
     g: &mut EnvGraph,
@@ -45,13 +49,14 @@ pub fn elab_rec_exps(
     recs: &[Rule],
     types: &List<TyId>,
 ) -> Result<(), Fault>
-    requires scope { IsCoreScope g.old t.old scope.old }
+    requires scope { IsReadyAt (moment g.old t.old scope.old) }
     requires types { HaveAll t.old types.now }
     ensures { AreRecExps (moment g.old t.old scope.old) (map rule_phrase recs.now) types.now
         (moment g.new t.new scope.new) result }
 {
     let mut left = types.as_slice();
     for rule in recs {
+        t.is_kept();
         match left.split_first() {
             Some((ty, more)) => {
                 elab_rec_exp(alloc, g, t, scope, rule, *ty)?;

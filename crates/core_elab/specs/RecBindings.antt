@@ -11,7 +11,7 @@ use Rattle.static_semantics.specs.Inferring.{Progress, Scope, Answer, ◌>>=◌,
 use Rattle.static_semantics.specs.PatternInference.{pat_at}
 use Rattle.static_semantics.specs.CoreInference.{joined, infer_exp}
 use Rattle.core_elab.specs.Moments.{Moment, progress_at, Elabs}
-use Rattle.value_declarations.specs.Bindings.{Nothing}
+use Rattle.core_elab.specs.Bindings.{Nothing}
 
 -- one expression, whose type is made this one
 abbrev pub infer_rec_exp : Scope → PatPhrase × ExpPhrase → Ty → Progress → Answer Progress

@@ -19,8 +19,8 @@ use Rattle.pattern_elab.specs.declared.own.OwnVariable.{OwnVariable}
 use Rattle.pattern_elab.specs.Scopes.{own_entry, bound_of}
 use Rattle.core_elab.specs.Moments.{Moment, progress_at, Elabs}
 use Rattle.closing_laws.specs.Variables.{val_end}
-use Rattle.value_declarations.specs.Bindings.{Nothing}
-use Rattle.value_declarations.specs.RecBindings.{infer_rec_exps_by, read_progress}
+use Rattle.core_elab.specs.Bindings.{Nothing}
+use Rattle.core_elab.specs.RecBindings.{infer_rec_exps_by, read_progress}
 
 abbrev pub AreRecsUnder : Moment → Rows OwnVariable → List (PatPhrase × ExpPhrase) → List TyId → Moment
     → Result (Unit {0}) Fault → Type 0

@@ -1,0 +1,485 @@
+use Rattle.bare_phrases.proofs.Forms.{exp_phrase-Int, exp_phrase-Str, exp_phrase-Char, exp_phrase-Long, exp_phrase-Record, exp_phrase-App, exp_phrase-Typed, exp_phrase-Handle, exp_phrase-Raise, exp_phrase-Fn, rule_phrase-kept}
+use Rattle.bare_phrases.specs.PhraseOf.{ty_phrase, exp_phrase, exp_field_phrase, exp_fields, rule_phrase, rules_of, pat_phrase}
+use Rattle.bare_phrases.specs.Phrases.{ExpPhrase}
+use Rattle.cm_base.specs.declared.fault.Fault.TheVariants as fault
+use Rattle.core_elab.proofs.Binding.{bind_first, bind_second, bind_third, bind_memory, bind_done, bind_of, passed_on, binds_next, binds_fail}
+use Rattle.core_elab.proofs.Chains.{passed}
+use Rattle.core_elab.proofs.Entering.{front_same}
+use Rattle.core_elab.proofs.Fields.{field_first, field_second, field_done, fields_begin, fields_next, fields_fail, fields_end}
+use Rattle.core_elab.proofs.MatchSteps.{rule_first, rule_second, rule_third, rule_done, match_begin, match_next, match_fails, match_ends}
+use Rattle.core_elab.proofs.Parted.{as_phrase, plain, app_first, app_second, app_done, typed_first, typed_done, handle_first, handle_second, handle_done, raise_first, raise_done, fn_first, fn_done, record_first, record_done, under_done}
+use Rattle.core_elab.proofs.RecBinding.{rec_first, rec_second, rec_done, rec_of, recs_next, recs_fail, has_first}
+use Rattle.core_elab.proofs.Under.{recs_under, binds_alone, val_first, val_second, val_memory, val_third, val_done, val_distinct, val_front}
+use Rattle.core_elab.proofs.WholeVal.{val_stops, val_whole, under_as}
+use Rattle.core_elab.specs.Bindings.{IsBind, AreBinds}
+use Rattle.core_elab.specs.Moments.{moment, scope_at}
+use Rattle.pattern_elab.proofs.Scoping.{core_later}
+use Rattle.pattern_elab.specs.Scopes.{scope_of}
+use Rattle.sml_trees.specs.declared.exp.Rule.{out-Rule, Rule}
+use Rattle.std.proofs.Common.{rules, refl, sym, ap, ap₂, ◌∙◌, map, [], ◌∷◌, ◌++◌, List}
+use Rattle.type_nodes.specs.Tables.{state}
+use Rattle.type_phrases.proofs.PartsRead.{drop_item}
+use Rattle.value_closing.specs.Groups.{groups_of}
+use Rattle.core_elab.proofs.+elab_in_scope.Goals as goal
+
+pub elab_in_scope-returns-in-Int : goal.elab_in_scope-returns-in-Int
+elab_in_scope-returns-in-Int t c =
+    as_phrase (ap exp_phrase c.in-Int.is ∙ exp_phrase-Int c.in-Int.field-0 c.in-Int.at)
+    (plain (moment c.args.g.now c.args.t.now c.args.scope.now) c.elab_int.new.t
+    (ExpPhrase.Int c.in-Int.field-0 c.in-Int.at) c.elab_int.result c.elab_int.ensures.infers c.elab_int.ensures.has
+    c.elab_int.ensures.ids c.requires)
+
+pub elab_in_scope-returns-in-Str : goal.elab_in_scope-returns-in-Str
+elab_in_scope-returns-in-Str t c =
+    as_phrase (ap exp_phrase c.in-Str.is ∙ exp_phrase-Str c.in-Str.field-0 c.in-Str.at)
+    (plain (moment c.args.g.now c.args.t.now c.args.scope.now) c.elab_string.new.t
+    (ExpPhrase.Str c.in-Str.field-0 c.in-Str.at) c.elab_string.result c.elab_string.ensures.infers c.elab_string.ensures.has
+    c.elab_string.ensures.ids c.requires)
+
+pub elab_in_scope-returns-in-Char : goal.elab_in_scope-returns-in-Char
+elab_in_scope-returns-in-Char t c =
+    as_phrase (ap exp_phrase c.in-Char.is ∙ exp_phrase-Char c.in-Char.field-0 c.in-Char.at)
+    (plain (moment c.args.g.now c.args.t.now c.args.scope.now) c.elab_char.new.t
+    (ExpPhrase.Char c.in-Char.field-0 c.in-Char.at) c.elab_char.result c.elab_char.ensures.infers c.elab_char.ensures.has
+    c.elab_char.ensures.ids c.requires)
+
+pub elab_in_scope-returns-in-Long : goal.elab_in_scope-returns-in-Long
+elab_in_scope-returns-in-Long t c =
+    as_phrase (ap exp_phrase c.in-Long.is ∙ exp_phrase-Long c.in-Long.long c.in-Long.at)
+    (plain (moment c.args.g.now c.args.t.now c.args.scope.now) c.elab_long.new.t
+    (ExpPhrase.Long c.in-Long.long c.in-Long.at) c.elab_long.result c.elab_long.ensures.infers c.elab_long.ensures.has
+    c.elab_long.ensures.ids c.requires)
+
+pub elab_field-returns-in_err-check_label : goal.elab_field-returns-in_err-check_label
+elab_field-returns-in_err-check_label t c =
+    passed c.from_residual.result c.in_err-check_label.field-0.0 c.from_residual.ensures.1
+    (field_first {m0 = (moment c.args.g.now c.args.t.now c.args.scope.now)} c.args.field.now c.args.rows.now c.requires.scope
+    (c.in_err-check_label.ensures.check c.args.t.now (scope_of c.args.g.now c.args.scope.now) refl))
+
+pub elab_field-returns-in_err-id : goal.elab_field-returns-in_err-id
+elab_field-returns-in_err-id t c =
+    passed c.from_residual-in_err-id.result c.in_err-id.field-0.0 c.from_residual-in_err-id.ensures.1
+    (field_second c.args.field.now c.args.rows.now c.requires.scope
+    (c.in_ok-check_label.ensures.check c.args.t.now (scope_of c.args.g.now c.args.scope.now) refl)
+    c.in_err-id.ensures)
+
+pub elab_field-returns : goal.elab_field-returns
+elab_field-returns t c =
+    field_done c.args.field.now c.args.rows.now c.bind.new.self c.requires.scope
+    (c.in_ok-check_label.ensures.check c.args.t.now (scope_of c.args.g.now c.args.scope.now) refl)
+    c.in_ok-check_label.ensures.free c.requires.rows c.in_ok-id.ensures
+    (c.in_ok-bind.ensures.ok ∙ ap (λ n. c.args.rows.now ++ (n, c.in_ok-id.id) ∷ []) c.in_ok-copy.ensures)
+
+pub elab_fields-loop-field-init : goal.elab_fields-loop-field-init
+elab_fields-loop-field-init t c =
+    fields_begin (moment c.args.g.now c.args.t.now c.args.scope.now) c.args.fields.now c.new-rows.result c.requires
+    c.new-rows.ensures
+
+pub elab_fields-loop-field-preserved : goal.elab_fields-loop-field-preserved
+elab_fields-loop-field-preserved t c =
+    fields_next c.elab_field.new.rows c.loop-field.invariant c.loop-field-test.true c.field-item.is
+    c.in_ok-elab_field.ensures
+
+pub elab_fields-returns-in_err-elab_field : goal.elab_fields-returns-in_err-elab_field
+elab_fields-returns-in_err-elab_field t c =
+    passed c.from_residual.result c.in_err-elab_field.field-0.0 c.from_residual.ensures.1
+    (fields_fail c.elab_field.new.rows c.loop-field.invariant c.loop-field-test.true c.field-item.is
+    c.in_err-elab_field.ensures)
+
+pub elab_fields-returns : goal.elab_fields-returns
+elab_fields-returns t c =
+    fields_end c.loop-field.invariant c.loop-field-test.false
+
+pub elab_match-loop-rule-init : goal.elab_match-loop-rule-init
+elab_match-loop-rule-init t c =
+    match_begin (moment c.args.g.now c.args.t.now c.args.scope.now) c.args.rules.now c.requires
+
+pub elab_match-loop-rule-preserved : goal.elab_match-loop-rule-preserved
+elab_match-loop-rule-preserved t c =
+    match_next c.loop-rule.invariant c.loop-rule-test.true c.rule-item.is c.in_ok-elab_rule.ensures
+
+pub elab_match-returns-in_err-elab_rule : goal.elab_match-returns-in_err-elab_rule
+elab_match-returns-in_err-elab_rule t c =
+    passed c.from_residual.result c.in_err-elab_rule.field-0.0 c.from_residual.ensures.1
+    (match_fails c.loop-rule.invariant c.loop-rule-test.true c.rule-item.is c.in_err-elab_rule.ensures)
+
+pub elab_match-returns : goal.elab_match-returns
+elab_match-returns t c =
+    match_ends c.loop-rule.invariant c.loop-rule-test.false (c.match_type.ensures c.loop-rule.g)
+
+pub elab_under-elab_in_scope-result-requires : goal.elab_under-elab_in_scope-result-requires
+elab_under-elab_in_scope-result-requires t c =
+    (search rules, (c.in_ok-enter_variables.ensures.ok c.args.g.now).there c.args.t.now c.requires)
+
+pub elab_in_scope-returns-in_err-function-in-App : goal.elab_in_scope-returns-in_err-function-in-App
+elab_in_scope-returns-in_err-function-in-App t c =
+    passed c.from_residual-in_err-function-in-App.result c.in_err-function-in-App.field-0.0 c.from_residual-in_err-function-in-App.ensures.1
+    (as_phrase (ap exp_phrase c.in-App.is ∙ exp_phrase-App c.in-App.function c.in-App.argument c.in-App.at
+    ∙ ap (λ p. ExpPhrase.App (exp_phrase p) (exp_phrase c.in-App.argument) c.in-App.at) (sym c.get.ensures))
+    (app_first (exp_phrase c.get.result.now) (exp_phrase c.in-App.argument) c.in-App.at c.in_err-function-in-App.ensures))
+
+pub elab_in_scope-returns-in_err-argument-in-App : goal.elab_in_scope-returns-in_err-argument-in-App
+elab_in_scope-returns-in_err-argument-in-App t c =
+    passed c.from_residual-in_err-argument-in-App.result c.in_err-argument-in-App.field-0.0 c.from_residual-in_err-argument-in-App.ensures.1
+    (as_phrase (ap exp_phrase c.in-App.is ∙ exp_phrase-App c.in-App.function c.in-App.argument c.in-App.at
+    ∙ ap₂ (λ p q. ExpPhrase.App (exp_phrase p) (exp_phrase q) c.in-App.at) (sym c.get.ensures) (sym c.get-in-App.ensures))
+    (app_second (exp_phrase c.get.result.now) (exp_phrase c.get-in-App.result.now) c.in-App.at c.requires
+    c.in_ok-function-in-App.ensures c.in_err-argument-in-App.ensures))
+
+pub elab_in_scope-returns-in_ok-argument-in-App : goal.elab_in_scope-returns-in_ok-argument-in-App
+elab_in_scope-returns-in_ok-argument-in-App t c =
+    as_phrase (ap exp_phrase c.in-App.is ∙ exp_phrase-App c.in-App.function c.in-App.argument c.in-App.at
+    ∙ ap₂ (λ p q. ExpPhrase.App (exp_phrase p) (exp_phrase q) c.in-App.at) (sym c.get.ensures) (sym c.get-in-App.ensures))
+    (app_done (exp_phrase c.get.result.now) (exp_phrase c.get-in-App.result.now) c.in-App.at c.requires
+    c.in_ok-function-in-App.ensures c.in_ok-argument-in-App.ensures c.apply.ensures)
+
+pub elab_in_scope-returns-in_err-rows-in-Record : goal.elab_in_scope-returns-in_err-rows-in-Record
+elab_in_scope-returns-in_err-rows-in-Record t c =
+    passed c.from_residual.result c.in_err-rows-in-Record.field-0.0 c.from_residual.ensures.1
+    (as_phrase (ap exp_phrase c.in-Record.is ∙ exp_phrase-Record c.in-Record.fields c.in-Record.at
+    ∙ ap (λ fields. ExpPhrase.Record (exp_fields (map exp_field_phrase fields)) c.in-Record.at) (sym c.as_slice.ensures))
+    (record_first (exp_fields (map exp_field_phrase c.as_slice.result.now)) c.in-Record.at c.in_err-rows-in-Record.ensures))
+
+pub elab_in_scope-returns-in_ok-rows-in-Record : goal.elab_in_scope-returns-in_ok-rows-in-Record
+elab_in_scope-returns-in_ok-rows-in-Record t c =
+    as_phrase (ap exp_phrase c.in-Record.is ∙ exp_phrase-Record c.in-Record.fields c.in-Record.at
+    ∙ ap (λ fields. ExpPhrase.Record (exp_fields (map exp_field_phrase fields)) c.in-Record.at) (sym c.as_slice.ensures))
+    (record_done (exp_fields (map exp_field_phrase c.as_slice.result.now)) c.in-Record.at c.requires c.in_ok-rows-in-Record.ensures
+    c.make_record.ensures)
+
+pub elab_in_scope-returns-in_err-id-in-Typed : goal.elab_in_scope-returns-in_err-id-in-Typed
+elab_in_scope-returns-in_err-id-in-Typed t c =
+    passed c.from_residual-in_err-id-in-Typed.result c.in_err-id-in-Typed.field-0.0 c.from_residual-in_err-id-in-Typed.ensures.1
+    (as_phrase (ap exp_phrase c.in-Typed.is ∙ exp_phrase-Typed c.in-Typed.inner c.in-Typed.ty c.in-Typed.at
+    ∙ ap (λ p. ExpPhrase.Typed (exp_phrase p) (ty_phrase c.in-Typed.ty) c.in-Typed.at) (sym c.get-in-Typed.ensures))
+    (typed_first (exp_phrase c.get-in-Typed.result.now) (ty_phrase c.in-Typed.ty) c.in-Typed.at c.in_err-id-in-Typed.ensures))
+
+pub elab_in_scope-returns-in_ok-id-in-Typed : goal.elab_in_scope-returns-in_ok-id-in-Typed
+elab_in_scope-returns-in_ok-id-in-Typed t c =
+    as_phrase (ap exp_phrase c.in-Typed.is ∙ exp_phrase-Typed c.in-Typed.inner c.in-Typed.ty c.in-Typed.at
+    ∙ ap (λ p. ExpPhrase.Typed (exp_phrase p) (ty_phrase c.in-Typed.ty) c.in-Typed.at) (sym c.get-in-Typed.ensures))
+    (typed_done (exp_phrase c.get-in-Typed.result.now) (ty_phrase c.in-Typed.ty) c.in-Typed.at c.requires
+    c.in_ok-id-in-Typed.ensures c.constrain.ensures)
+
+pub elab_in_scope-returns-in_err-id-in-Handle : goal.elab_in_scope-returns-in_err-id-in-Handle
+elab_in_scope-returns-in_err-id-in-Handle t c =
+    passed c.from_residual-in_err-id-in-Handle.result c.in_err-id-in-Handle.field-0.0 c.from_residual-in_err-id-in-Handle.ensures.1
+    (as_phrase (ap exp_phrase c.in-Handle.is ∙ exp_phrase-Handle c.in-Handle.inner c.in-Handle.rules c.in-Handle.at
+    ∙ ap (λ p. ExpPhrase.Handle (exp_phrase p) (rules_of (map rule_phrase c.in-Handle.rules)) c.in-Handle.at)
+    (sym c.get-in-Handle.ensures))
+    (handle_first (exp_phrase c.get-in-Handle.result.now) (rules_of (map rule_phrase c.in-Handle.rules)) c.in-Handle.at
+    c.in_err-id-in-Handle.ensures))
+
+pub elab_in_scope-returns-in_err-handler-in-Handle : goal.elab_in_scope-returns-in_err-handler-in-Handle
+elab_in_scope-returns-in_err-handler-in-Handle t c =
+    passed c.from_residual-in_err-handler-in-Handle.result c.in_err-handler-in-Handle.field-0.0 c.from_residual-in_err-handler-in-Handle.ensures.1
+    (as_phrase (ap exp_phrase c.in-Handle.is ∙ exp_phrase-Handle c.in-Handle.inner c.in-Handle.rules c.in-Handle.at
+    ∙ ap₂ (λ p rules. ExpPhrase.Handle (exp_phrase p) (rules_of (map rule_phrase rules)) c.in-Handle.at)
+    (sym c.get-in-Handle.ensures) (sym c.as_slice-in-Handle.ensures))
+    (handle_second (exp_phrase c.get-in-Handle.result.now) (rules_of (map rule_phrase c.as_slice-in-Handle.result.now)) c.in-Handle.at
+    c.requires c.in_ok-id-in-Handle.ensures c.in_err-handler-in-Handle.ensures))
+
+pub elab_in_scope-returns-in_ok-handler-in-Handle : goal.elab_in_scope-returns-in_ok-handler-in-Handle
+elab_in_scope-returns-in_ok-handler-in-Handle t c =
+    as_phrase (ap exp_phrase c.in-Handle.is ∙ exp_phrase-Handle c.in-Handle.inner c.in-Handle.rules c.in-Handle.at
+    ∙ ap₂ (λ p rules. ExpPhrase.Handle (exp_phrase p) (rules_of (map rule_phrase rules)) c.in-Handle.at)
+    (sym c.get-in-Handle.ensures) (sym c.as_slice-in-Handle.ensures))
+    (handle_done (exp_phrase c.get-in-Handle.result.now) (rules_of (map rule_phrase c.as_slice-in-Handle.result.now)) c.in-Handle.at
+    c.requires c.in_ok-id-in-Handle.ensures c.in_ok-handler-in-Handle.ensures c.handle.ensures)
+
+pub elab_in_scope-returns-in_err-id-in-Raise : goal.elab_in_scope-returns-in_err-id-in-Raise
+elab_in_scope-returns-in_err-id-in-Raise t c =
+    passed c.from_residual-in_err-id-in-Raise.result c.in_err-id-in-Raise.field-0.0 c.from_residual-in_err-id-in-Raise.ensures.1
+    (as_phrase (ap exp_phrase c.in-Raise.is ∙ exp_phrase-Raise c.in-Raise.inner c.in-Raise.at
+    ∙ ap (λ p. ExpPhrase.Raise (exp_phrase p) c.in-Raise.at) (sym c.get-in-Raise.ensures))
+    (raise_first (exp_phrase c.get-in-Raise.result.now) c.in-Raise.at c.in_err-id-in-Raise.ensures))
+
+pub elab_in_scope-returns-in_ok-id-in-Raise : goal.elab_in_scope-returns-in_ok-id-in-Raise
+elab_in_scope-returns-in_ok-id-in-Raise t c =
+    as_phrase (ap exp_phrase c.in-Raise.is ∙ exp_phrase-Raise c.in-Raise.inner c.in-Raise.at
+    ∙ ap (λ p. ExpPhrase.Raise (exp_phrase p) c.in-Raise.at) (sym c.get-in-Raise.ensures))
+    (raise_done (exp_phrase c.get-in-Raise.result.now) c.in-Raise.at c.requires c.in_ok-id-in-Raise.ensures
+    c.raise.ensures)
+
+pub elab_in_scope-returns-in_err-id-in-Fn : goal.elab_in_scope-returns-in_err-id-in-Fn
+elab_in_scope-returns-in_err-id-in-Fn t c =
+    passed c.from_residual-in_err-id-in-Fn.result c.in_err-id-in-Fn.field-0.0 c.from_residual-in_err-id-in-Fn.ensures.1
+    (as_phrase (ap exp_phrase c.in-Fn.is ∙ exp_phrase-Fn c.in-Fn.rules c.in-Fn.at
+    ∙ ap (λ rules. ExpPhrase.Fn (rules_of (map rule_phrase rules)) c.in-Fn.at) (sym c.as_slice-in-Fn.ensures))
+    (fn_first (rules_of (map rule_phrase c.as_slice-in-Fn.result.now)) c.in-Fn.at c.in_err-id-in-Fn.ensures))
+
+pub elab_in_scope-returns-in_ok-id-in-Fn : goal.elab_in_scope-returns-in_ok-id-in-Fn
+elab_in_scope-returns-in_ok-id-in-Fn t c =
+    as_phrase (ap exp_phrase c.in-Fn.is ∙ exp_phrase-Fn c.in-Fn.rules c.in-Fn.at
+    ∙ ap (λ rules. ExpPhrase.Fn (rules_of (map rule_phrase rules)) c.in-Fn.at) (sym c.as_slice-in-Fn.ensures))
+    (fn_done (rules_of (map rule_phrase c.as_slice-in-Fn.result.now)) c.in-Fn.at c.requires c.in_ok-id-in-Fn.ensures
+    c.sized.ensures.answer c.sized.ensures.same)
+
+pub elab_rule-returns-in_err-from : goal.elab_rule-returns-in_err-from
+elab_rule-returns-in_err-from t c =
+    passed c.from_residual.result c.in_err-from.field-0.0 c.from_residual.ensures.1
+    (rule_first c.args.first c.args.rule.now c.in_err-from.ensures.pattern)
+
+pub elab_rule-returns-in_err-exp : goal.elab_rule-returns-in_err-exp
+elab_rule-returns-in_err-exp t c =
+    passed c.from_residual-in_err-exp.result c.in_err-exp.field-0.0 c.from_residual-in_err-exp.ensures.1
+    (rule_second c.args.first c.args.rule.now c.requires.scope c.in_ok-from.ensures.pattern c.in_err-exp.ensures)
+
+pub elab_rule-returns-in_err-to : goal.elab_rule-returns-in_err-to
+elab_rule-returns-in_err-to t c =
+    passed c.from_residual-in_err-to.result c.in_err-to.field-0.0 c.from_residual-in_err-to.ensures.1
+    (rule_third c.args.first c.args.rule.now c.requires.scope c.in_ok-from.ensures.pattern c.in_ok-exp.ensures
+    c.requires.first c.place_of_exp.ensures c.to_of.ensures c.in_err-to.ensures)
+
+pub elab_rule-returns : goal.elab_rule-returns
+elab_rule-returns t c =
+    rule_done c.args.first c.args.rule.now c.requires.scope c.in_ok-from.ensures.pattern c.in_ok-exp.ensures
+    c.requires.first c.place_of_exp.ensures c.to_of.ensures c.in_ok-to.ensures
+
+pub elab_under-returns : goal.elab_under-returns
+elab_under-returns t c =
+    under_done c.args.bound.now (exp_phrase c.args.exp.now) c.requires
+    (c.in_ok-enter_variables.ensures.ok c.args.g.now) c.elab_in_scope-result.ensures
+    (c.leave.ensures c.args.scope.now c.mark-before.ensures.is
+    (front_same c.args.scope.now c.enter_variables.new.scope c.elab_in_scope-result.new.scope
+    (c.in_ok-enter_variables.ensures.ok c.args.g.now).front c.elab_in_scope-result.ensures.left))
+
+pub elab_bind-returns-in_err-pat : goal.elab_bind-returns-in_err-pat
+elab_bind-returns-in_err-pat t c =
+    passed_on (IsBind (moment c.args.g.now c.args.t.now c.args.scope.now) (rule_phrase c.args.rule.now)
+    c.args.bound.now c.elab_pat.new.bound (groups_of c.args.groups.now) (groups_of c.args.groups.now)
+    (moment c.args.g.now c.elab_pat.new.t c.args.scope.now)) c.from_residual.result c.in_err-pat.field-0.0
+    c.from_residual.ensures.1
+    (bind_of (rule_phrase-kept c.args.rule.now)
+    (bind_first {m0 = moment c.args.g.now c.args.t.now c.args.scope.now}
+    (pat_phrase (out-Rule c.args.rule.now).pat, exp_phrase (out-Rule c.args.rule.now).exp)
+    (groups_of c.args.groups.now) c.requires c.in_err-pat.ensures))
+
+pub elab_bind-elab_in_scope-requires : goal.elab_bind-elab_in_scope-requires
+elab_bind-elab_in_scope-requires t c =
+    core_later c.args.g.now c.args.t.now c.elab_pat.new.t c.args.scope.now c.in_ok-pat.ensures.goes.ids c.requires
+
+pub elab_bind-returns-in_err-exp : goal.elab_bind-returns-in_err-exp
+elab_bind-returns-in_err-exp t c =
+    passed_on (IsBind (moment c.args.g.now c.args.t.now c.args.scope.now) (rule_phrase c.args.rule.now)
+    c.args.bound.now c.elab_pat.new.bound (groups_of c.args.groups.now) (groups_of c.args.groups.now)
+    (moment c.elab_in_scope.new.g c.elab_in_scope.new.t c.elab_in_scope.new.scope)) c.from_residual-in_err-exp.result
+    c.in_err-exp.field-0.0 c.from_residual-in_err-exp.ensures.1
+    (bind_of (rule_phrase-kept c.args.rule.now)
+    (bind_second {m0 = moment c.args.g.now c.args.t.now c.args.scope.now}
+    (pat_phrase (out-Rule c.args.rule.now).pat, exp_phrase (out-Rule c.args.rule.now).exp)
+    (groups_of c.args.groups.now) c.requires c.in_ok-pat.ensures c.in_err-exp.ensures))
+
+pub elab_bind-returns-in_err-joined : goal.elab_bind-returns-in_err-joined
+elab_bind-returns-in_err-joined t c =
+    passed_on (IsBind (moment c.args.g.now c.args.t.now c.args.scope.now) (rule_phrase c.args.rule.now)
+    c.args.bound.now c.elab_pat.new.bound (groups_of c.args.groups.now) (groups_of c.args.groups.now)
+    (moment c.elab_in_scope.new.g c.joined.new.t c.elab_in_scope.new.scope)) c.from_residual-in_err-joined.result
+    c.in_err-joined.field-0.0 c.from_residual-in_err-joined.ensures.1
+    (bind_of (rule_phrase-kept c.args.rule.now)
+    (bind_third {m0 = moment c.args.g.now c.args.t.now c.args.scope.now}
+    (pat_phrase (out-Rule c.args.rule.now).pat, exp_phrase (out-Rule c.args.rule.now).exp)
+    (groups_of c.args.groups.now) c.requires c.in_ok-pat.ensures c.in_ok-exp.ensures c.place_of_pat.ensures
+    c.in_err-joined.ensures))
+
+pub elab_bind-returns-in_err-add_binding : goal.elab_bind-returns-in_err-add_binding
+elab_bind-returns-in_err-add_binding t c =
+    passed_on (IsBind (moment c.args.g.now c.args.t.now c.args.scope.now) (rule_phrase c.args.rule.now)
+    c.args.bound.now c.elab_pat.new.bound (groups_of c.args.groups.now) (groups_of c.add_binding.new.groups)
+    (moment c.elab_in_scope.new.g c.joined.new.t c.elab_in_scope.new.scope))
+    c.from_residual-in_err-add_binding.result fault.NoMemory c.from_residual-in_err-add_binding.ensures.1
+    (bind_of (rule_phrase-kept c.args.rule.now)
+    (bind_memory {m0 = moment c.args.g.now c.args.t.now c.args.scope.now}
+    (pat_phrase (out-Rule c.args.rule.now).pat, exp_phrase (out-Rule c.args.rule.now).exp)
+    (groups_of c.args.groups.now) c.requires c.in_ok-pat.ensures c.in_ok-exp.ensures c.place_of_pat.ensures
+    c.in_ok-joined.ensures))
+
+pub elab_bind-returns : goal.elab_bind-returns
+elab_bind-returns t c =
+    bind_of (rule_phrase-kept c.args.rule.now)
+    (bind_done {m0 = moment c.args.g.now c.args.t.now c.args.scope.now}
+    (pat_phrase (out-Rule c.args.rule.now).pat, exp_phrase (out-Rule c.args.rule.now).exp)
+    (groups_of c.args.groups.now) c.len-start.result c.requires c.in_ok-pat.ensures c.in_ok-exp.ensures
+    c.place_of_pat.ensures c.in_ok-joined.ensures c.len-start.ensures c.in_ok-add_binding.ensures.ok)
+
+pub elab_binds-loop-rule-preserved : goal.elab_binds-loop-rule-preserved
+elab_binds-loop-rule-preserved t c =
+    binds_next c.loop-rule.invariant
+    (ap (λ (rules : List Rule). map rule_phrase rules)
+    (drop_item c.args.rules.now c.loop-rule.rule-index c.rule-item.result c.loop-rule-test.true c.rule-item.is))
+    c.in_ok-elab_bind.ensures
+
+pub elab_binds-returns-in_err-elab_bind : goal.elab_binds-returns-in_err-elab_bind
+elab_binds-returns-in_err-elab_bind t c =
+    passed_on (AreBinds (moment c.args.g.now c.args.t.now c.args.scope.now) (map rule_phrase c.args.rules.now)
+    c.args.bound.now c.elab_bind.new.bound (groups_of c.args.groups.now) (groups_of c.elab_bind.new.groups)
+    (moment c.elab_bind.new.g c.elab_bind.new.t c.elab_bind.new.scope)) c.from_residual.result
+    c.in_err-elab_bind.field-0.0 c.from_residual.ensures.1
+    (binds_fail c.loop-rule.invariant
+    (ap (λ (rules : List Rule). map rule_phrase rules)
+    (drop_item c.args.rules.now c.loop-rule.rule-index c.rule-item.result c.loop-rule-test.true c.rule-item.is))
+    c.in_err-elab_bind.ensures)
+
+pub elab_rec_exp-returns-in_err-exp : goal.elab_rec_exp-returns-in_err-exp
+elab_rec_exp-returns-in_err-exp t c =
+    passed c.from_residual.result c.in_err-exp.field-0.0 c.from_residual.ensures.1
+    (rec_of c.args.ty (rule_phrase-kept c.args.rule.now)
+    (rec_first (pat_phrase (out-Rule c.args.rule.now).pat, exp_phrase (out-Rule c.args.rule.now).exp) c.args.ty
+    c.in_err-exp.ensures))
+
+pub elab_rec_exp-returns-in_err-joined : goal.elab_rec_exp-returns-in_err-joined
+elab_rec_exp-returns-in_err-joined t c =
+    passed c.from_residual-in_err-joined.result c.in_err-joined.field-0.0 c.from_residual-in_err-joined.ensures.1
+    (rec_of c.args.ty (rule_phrase-kept c.args.rule.now)
+    (rec_second (pat_phrase (out-Rule c.args.rule.now).pat, exp_phrase (out-Rule c.args.rule.now).exp) c.args.ty
+    c.in_ok-exp.exp c.place_of_pat.result c.requires.scope c.requires.ty c.in_ok-exp.ensures c.place_of_pat.ensures
+    c.in_err-joined.ensures))
+
+pub elab_rec_exp-returns : goal.elab_rec_exp-returns
+elab_rec_exp-returns t c =
+    rec_of c.args.ty (rule_phrase-kept c.args.rule.now)
+    (rec_done (pat_phrase (out-Rule c.args.rule.now).pat, exp_phrase (out-Rule c.args.rule.now).exp) c.args.ty
+    c.in_ok-exp.exp c.place_of_pat.result c.requires.scope c.requires.ty c.in_ok-exp.ensures c.place_of_pat.ensures
+    c.in_ok-joined.ensures)
+
+pub elab_rec_exps-elab_rec_exp-requires-clause-ty : goal.elab_rec_exps-elab_rec_exp-requires-clause-ty
+elab_rec_exps-elab_rec_exp-requires-clause-ty t c = has_first c.loop-rule.t c.loop-rule.invariant.have c.in-Some.ensures.cases.0
+
+pub elab_rec_exps-loop-rule-preserved : goal.elab_rec_exps-loop-rule-preserved
+elab_rec_exps-loop-rule-preserved t c =
+    recs_next c.loop-rule.invariant
+    (ap (λ (rules : List Rule). map rule_phrase rules)
+    (drop_item c.args.recs.now c.loop-rule.rule-index c.rule-item.result c.loop-rule-test.true c.rule-item.is))
+    c.in-Some.ensures.cases.0 c.in_ok-elab_rec_exp-in-Some.ensures
+
+pub elab_rec_exps-returns-in_err-elab_rec_exp-in-Some : goal.elab_rec_exps-returns-in_err-elab_rec_exp-in-Some
+elab_rec_exps-returns-in_err-elab_rec_exp-in-Some t c =
+    passed c.from_residual.result c.in_err-elab_rec_exp-in-Some.field-0.0 c.from_residual.ensures.1
+    (recs_fail c.loop-rule.invariant
+    (ap (λ (rules : List Rule). map rule_phrase rules)
+    (drop_item c.args.recs.now c.loop-rule.rule-index c.rule-item.result c.loop-rule-test.true c.rule-item.is))
+    c.in-Some.ensures.cases.0 c.in_err-elab_rec_exp-in-Some.ensures)
+
+pub elab_recs_under-returns : goal.elab_recs_under-returns
+elab_recs_under-returns t c =
+    recs_under c.args.bound.now (map rule_phrase c.args.recs.now) c.args.types.now c.requires.scope
+    (c.in_ok-enter_variables.ensures.ok c.args.g.now) c.elab_rec_exps-result.ensures
+    (c.leave.ensures c.args.scope.now c.mark-before.ensures.is
+    (front_same c.args.scope.now c.enter_variables.new.scope c.elab_rec_exps-result.new.scope
+    (c.in_ok-enter_variables.ensures.ok c.args.g.now).front c.elab_rec_exps-result.ensures.left))
+
+pub elab_recs_under-elab_rec_exps-result-requires-clause-scope : goal.elab_recs_under-elab_rec_exps-result-requires-clause-scope
+elab_recs_under-elab_rec_exps-result-requires-clause-scope t c =
+    (c.in_ok-enter_variables.ensures.ok c.args.g.now).there c.args.t.now c.requires.scope
+
+pub elab_val_under-elab_rec_pats-requires : goal.elab_val_under-elab_rec_pats-requires
+elab_val_under-elab_rec_pats-requires t c = c.in_ok-elab_binds.ensures.elabs.core
+
+pub elab_val_under-returns-in_err-elab_binds : goal.elab_val_under-returns-in_err-elab_binds
+elab_val_under-returns-in_err-elab_binds t c =
+    passed c.from_residual.result c.in_err-elab_binds.field-0.0 c.from_residual.ensures.1
+    (val_first (state c.args.since.now).next c.args.at c.args.own.now (map rule_phrase c.args.binds.now)
+    (map rule_phrase c.args.recs.now)
+    (binds_alone (map rule_phrase c.args.binds.now) c.new-bound.result c.elab_binds.new.bound
+    (groups_of c.new-groups.result) (groups_of c.elab_binds.new.groups) c.new-bound.ensures
+    (ap groups_of c.new-groups.ensures) c.in_err-elab_binds.ensures))
+
+pub elab_val_under-returns-in_err-types : goal.elab_val_under-returns-in_err-types
+elab_val_under-returns-in_err-types t c =
+    passed c.from_residual-in_err-types.result c.in_err-types.field-0.0 c.from_residual-in_err-types.ensures.1
+    (val_second (state c.args.since.now).next c.args.at c.args.own.now (map rule_phrase c.args.binds.now)
+    (map rule_phrase c.args.recs.now)
+    c.in_err-types.field-0.0 c.requires.scope
+    (binds_alone (map rule_phrase c.args.binds.now) c.new-bound.result c.elab_binds.new.bound
+    (groups_of c.new-groups.result) (groups_of c.elab_binds.new.groups) c.new-bound.ensures
+    (ap groups_of c.new-groups.ensures) c.in_ok-elab_binds.ensures)
+    c.in_err-types.ensures)
+
+pub elab_val_under-close_val-requires-clause-front : goal.elab_val_under-close_val-requires-clause-front
+elab_val_under-close_val-requires-clause-front t c =
+    val_front (state c.args.since.now).next c.args.at c.args.own.now (map rule_phrase c.args.binds.now)
+    (map rule_phrase c.args.recs.now)
+    c.requires.scope
+    (binds_alone (map rule_phrase c.args.binds.now) c.new-bound.result c.elab_binds.new.bound
+    (groups_of c.new-groups.result) (groups_of c.elab_binds.new.groups) c.new-bound.ensures
+    (ap groups_of c.new-groups.ensures) c.in_ok-elab_binds.ensures)
+    c.in_ok-types.ensures c.args.since.now c.in_ok-own_bound.own_bound c.requires.front c.in_ok-elab_recs_under.ensures
+
+pub elab_val_under-close_val-requires-clause-distinct : goal.elab_val_under-close_val-requires-clause-distinct
+elab_val_under-close_val-requires-clause-distinct t c =
+    val_distinct (state c.args.since.now).next c.args.at c.args.own.now (map rule_phrase c.args.binds.now)
+    (map rule_phrase c.args.recs.now)
+    c.requires.scope
+    (binds_alone (map rule_phrase c.args.binds.now) c.new-bound.result c.elab_binds.new.bound
+    (groups_of c.new-groups.result) (groups_of c.elab_binds.new.groups) c.new-bound.ensures
+    (ap groups_of c.new-groups.ensures) c.in_ok-elab_binds.ensures)
+    c.in_ok-types.ensures
+
+pub elab_val_under-returns : goal.elab_val_under-returns
+elab_val_under-returns t c =
+    val_done (state c.args.since.now).next c.args.at c.args.own.now (map rule_phrase c.args.binds.now)
+    (map rule_phrase c.args.recs.now)
+    c.requires.scope
+    (binds_alone (map rule_phrase c.args.binds.now) c.new-bound.result c.elab_binds.new.bound
+    (groups_of c.new-groups.result) (groups_of c.elab_binds.new.groups) c.new-bound.ensures
+    (ap groups_of c.new-groups.ensures) c.in_ok-elab_binds.ensures)
+    c.in_ok-types.ensures c.in_ok-own_bound.own_bound c.len-start.result c.len-start.ensures
+    c.in_ok-own_bound.ensures c.in_ok-elab_recs_under.ensures c.close_val.ensures.same
+    (c.close_val.ensures.answer (scope_at (moment c.elab_recs_under.new.g c.elab_recs_under.new.t
+    c.elab_recs_under.new.scope)) refl) c.close_val.ensures.structures
+
+pub elab_val_under-elab_recs_under-requires-clause-scope : goal.elab_val_under-elab_recs_under-requires-clause-scope
+elab_val_under-elab_recs_under-requires-clause-scope t c =
+    core_later c.elab_binds.new.g c.elab_binds.new.t c.elab_rec_pats.new.t c.elab_binds.new.scope
+    c.in_ok-types.ensures.goes.ids c.in_ok-elab_binds.ensures.elabs.core
+
+pub elab_val_under-returns-in_err-own_bound : goal.elab_val_under-returns-in_err-own_bound
+elab_val_under-returns-in_err-own_bound t c =
+    passed c.from_residual-in_err-own_bound.result fault.NoMemory c.from_residual-in_err-own_bound.ensures.1
+    (val_memory (state c.args.since.now).next c.args.at c.args.own.now (map rule_phrase c.args.binds.now)
+    (map rule_phrase c.args.recs.now)
+    c.requires.scope
+    (binds_alone (map rule_phrase c.args.binds.now) c.new-bound.result c.elab_binds.new.bound
+    (groups_of c.new-groups.result) (groups_of c.elab_binds.new.groups) c.new-bound.ensures
+    (ap groups_of c.new-groups.ensures) c.in_ok-elab_binds.ensures)
+    c.in_ok-types.ensures)
+
+pub elab_val_under-returns-in_err-elab_recs_under : goal.elab_val_under-returns-in_err-elab_recs_under
+elab_val_under-returns-in_err-elab_recs_under t c =
+    passed c.from_residual-in_err-elab_recs_under.result c.in_err-elab_recs_under.field-0.0
+    c.from_residual-in_err-elab_recs_under.ensures.1
+    (val_third (state c.args.since.now).next c.args.at c.args.own.now (map rule_phrase c.args.binds.now)
+    (map rule_phrase c.args.recs.now)
+    c.requires.scope
+    (binds_alone (map rule_phrase c.args.binds.now) c.new-bound.result c.elab_binds.new.bound
+    (groups_of c.new-groups.result) (groups_of c.elab_binds.new.groups) c.new-bound.ensures
+    (ap groups_of c.new-groups.ensures) c.in_ok-elab_binds.ensures)
+    c.in_ok-types.ensures c.in_ok-own_bound.own_bound c.len-start.result c.len-start.ensures
+    c.in_ok-own_bound.ensures c.in_err-elab_recs_under.ensures)
+
+pub elab_val-returns-in_err-own : goal.elab_val-returns-in_err-own
+elab_val-returns-in_err-own t c =
+    passed c.from_residual.result c.in_err-own.field-0.0 c.from_residual.ensures.1
+    (val_stops c.args.tyvars.now (map rule_phrase c.args.binds.now) (map rule_phrase c.args.recs.now) c.args.at
+    c.requires.scope c.requires.ready c.in_err-own.ensures.ids c.in_err-own.field-0.0 c.in_err-own.ensures.infers
+    c.in_err-own.ensures.err)
+
+pub elab_val-elab_val_under-result-requires-clause-scope : goal.elab_val-elab_val_under-result-requires-clause-scope
+elab_val-elab_val_under-result-requires-clause-scope t c =
+    c.in_ok-own.ensures.ok.there c.own_variables.new.t c.in_ok-own.ensures.made
+    (core_later c.args.g.now c.args.t.now c.own_variables.new.t c.args.scope.now c.in_ok-own.ensures.ids
+    c.requires.scope)
+
+pub elab_val-returns : goal.elab_val-returns
+elab_val-returns t c =
+    val_whole c.args.tyvars.now (map rule_phrase c.args.binds.now) (map rule_phrase c.args.recs.now) c.args.at
+    c.requires.scope c.requires.ready c.in_ok-own.ensures.ids c.in_ok-own.own c.in_ok-own.ensures.infers
+    c.in_ok-own.ensures.ok
+    (under_as c.mark-since.result c.args.t.now c.args.at c.in_ok-own.own
+    (map rule_phrase c.as_slice.result.now) (map rule_phrase c.args.binds.now)
+    (map rule_phrase c.as_slice-2.result.now) (map rule_phrase c.args.recs.now)
+    c.mark-since.ensures (ap (map rule_phrase) c.as_slice.ensures) (ap (map rule_phrase) c.as_slice-2.ensures)
+    c.elab_val_under-result.ensures)
+    (c.leave.ensures c.args.scope.now c.mark-before.ensures.is
+    (front_same c.args.scope.now c.own_variables.new.scope c.elab_val_under-result.new.scope
+    c.in_ok-own.ensures.ok.front c.elab_val_under-result.ensures.left))

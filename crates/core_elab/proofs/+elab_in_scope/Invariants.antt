@@ -1,0 +1,29 @@
+use Rattle.bare_phrases.specs.PhraseOf.{rule_phrase}
+use Rattle.core_elab.proofs.Binding.{BindsSoFar}
+use Rattle.core_elab.proofs.Fields.{FieldsSoFar}
+use Rattle.core_elab.proofs.MatchSteps.{MatchSoFar}
+use Rattle.core_elab.proofs.RecBinding.{RecExpsSoFar}
+use Rattle.core_elab.specs.Moments.{moment}
+use Rattle.std.proofs.Common.{map, drop}
+use Rattle.value_closing.specs.Groups.{groups_of}
+use Rattle.core_elab.proofs.+elab_in_scope.Given as goal
+
+abbrev pub invariant-elab_fields-loop-field : goal.invariant-elab_fields-loop-field
+invariant-elab_fields-loop-field l =
+    FieldsSoFar (moment l.fn.g l.fn.t l.fn.scope) (moment l.g l.t l.scope) l.fields l.field-index l.rows
+
+abbrev pub invariant-elab_match-loop-rule : goal.invariant-elab_match-loop-rule
+invariant-elab_match-loop-rule l =
+    MatchSoFar (moment l.fn.g l.fn.t l.fn.scope) (moment l.g l.t l.scope) l.rules l.rule-index l.first
+
+-- what was elaborated so far, and the rules that are left
+abbrev pub invariant-elab_binds-loop-rule : goal.invariant-elab_binds-loop-rule
+invariant-elab_binds-loop-rule l =
+    BindsSoFar (moment l.fn.g l.fn.t l.fn.scope) (moment l.g l.t l.scope) (map rule_phrase l.rules)
+    (map rule_phrase (drop l.rule-index l.rules)) l.fn.bound l.bound (groups_of l.fn.groups) (groups_of l.groups)
+
+-- what was elaborated so far, and the rules and types that are left
+abbrev pub invariant-elab_rec_exps-loop-rule : goal.invariant-elab_rec_exps-loop-rule
+invariant-elab_rec_exps-loop-rule l =
+    RecExpsSoFar (moment l.fn.g l.fn.t l.fn.scope) (moment l.g l.t l.scope) (map rule_phrase l.recs)
+    (map rule_phrase (drop l.rule-index l.recs)) l.types l.left

@@ -1,4 +1,0 @@
-pub mod Binding
-pub mod RecBinding
-pub mod Under
-pub mod Whole

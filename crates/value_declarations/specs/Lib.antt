@@ -1,3 +1,0 @@
-pub mod Bindings
-pub mod RecBindings
-pub mod Values
