@@ -27,52 +27,52 @@ elab_in_scope-returns-in-Int t c =
     as_phrase (ap exp_phrase c.in-Int.is ∙ exp_phrase-Int c.in-Int.field-0 c.in-Int.at)
     (plain (moment c.args.g.now c.args.t.now c.args.scope.now) c.elab_int.new.t
     (ExpPhrase.Int c.in-Int.field-0 c.in-Int.at) c.elab_int.result c.elab_int.ensures.infers c.elab_int.ensures.has
-    c.elab_int.ensures.ids c.requires)
+    c.elab_int.ensures.ids c.requires.core)
 
 pub elab_in_scope-returns-in-Str : goal.elab_in_scope-returns-in-Str
 elab_in_scope-returns-in-Str t c =
     as_phrase (ap exp_phrase c.in-Str.is ∙ exp_phrase-Str c.in-Str.field-0 c.in-Str.at)
     (plain (moment c.args.g.now c.args.t.now c.args.scope.now) c.elab_string.new.t
     (ExpPhrase.Str c.in-Str.field-0 c.in-Str.at) c.elab_string.result c.elab_string.ensures.infers c.elab_string.ensures.has
-    c.elab_string.ensures.ids c.requires)
+    c.elab_string.ensures.ids c.requires.core)
 
 pub elab_in_scope-returns-in-Char : goal.elab_in_scope-returns-in-Char
 elab_in_scope-returns-in-Char t c =
     as_phrase (ap exp_phrase c.in-Char.is ∙ exp_phrase-Char c.in-Char.field-0 c.in-Char.at)
     (plain (moment c.args.g.now c.args.t.now c.args.scope.now) c.elab_char.new.t
     (ExpPhrase.Char c.in-Char.field-0 c.in-Char.at) c.elab_char.result c.elab_char.ensures.infers c.elab_char.ensures.has
-    c.elab_char.ensures.ids c.requires)
+    c.elab_char.ensures.ids c.requires.core)
 
 pub elab_in_scope-returns-in-Long : goal.elab_in_scope-returns-in-Long
 elab_in_scope-returns-in-Long t c =
     as_phrase (ap exp_phrase c.in-Long.is ∙ exp_phrase-Long c.in-Long.long c.in-Long.at)
     (plain (moment c.args.g.now c.args.t.now c.args.scope.now) c.elab_long.new.t
     (ExpPhrase.Long c.in-Long.long c.in-Long.at) c.elab_long.result c.elab_long.ensures.infers c.elab_long.ensures.has
-    c.elab_long.ensures.ids c.requires)
+    c.elab_long.ensures.ids c.requires.core)
 
 pub elab_field-returns-in_err-check_label : goal.elab_field-returns-in_err-check_label
 elab_field-returns-in_err-check_label t c =
     passed c.from_residual.result c.in_err-check_label.field-0.0 c.from_residual.ensures.1
-    (field_first {m0 = (moment c.args.g.now c.args.t.now c.args.scope.now)} c.args.field.now c.args.rows.now c.requires.scope
+    (field_first {m0 = (moment c.args.g.now c.args.t.now c.args.scope.now)} c.args.field.now c.args.rows.now c.requires.scope.core
     (c.in_err-check_label.ensures.check c.args.t.now (scope_of c.args.g.now c.args.scope.now) refl))
 
 pub elab_field-returns-in_err-id : goal.elab_field-returns-in_err-id
 elab_field-returns-in_err-id t c =
     passed c.from_residual-in_err-id.result c.in_err-id.field-0.0 c.from_residual-in_err-id.ensures.1
-    (field_second c.args.field.now c.args.rows.now c.requires.scope
+    (field_second c.args.field.now c.args.rows.now c.requires.scope.core
     (c.in_ok-check_label.ensures.check c.args.t.now (scope_of c.args.g.now c.args.scope.now) refl)
     c.in_err-id.ensures)
 
 pub elab_field-returns : goal.elab_field-returns
 elab_field-returns t c =
-    field_done c.args.field.now c.args.rows.now c.bind.new.self c.requires.scope
+    field_done c.args.field.now c.args.rows.now c.bind.new.self c.requires.scope.core
     (c.in_ok-check_label.ensures.check c.args.t.now (scope_of c.args.g.now c.args.scope.now) refl)
     c.in_ok-check_label.ensures.free c.requires.rows c.in_ok-id.ensures
     (c.in_ok-bind.ensures.ok ∙ ap (λ n. c.args.rows.now ++ (n, c.in_ok-id.id) ∷ []) c.in_ok-copy.ensures)
 
 pub elab_fields-loop-field-init : goal.elab_fields-loop-field-init
 elab_fields-loop-field-init t c =
-    fields_begin (moment c.args.g.now c.args.t.now c.args.scope.now) c.args.fields.now c.new-rows.result c.requires
+    fields_begin (moment c.args.g.now c.args.t.now c.args.scope.now) c.args.fields.now c.new-rows.result c.requires.core
     c.new-rows.ensures
 
 pub elab_fields-loop-field-preserved : goal.elab_fields-loop-field-preserved
@@ -92,7 +92,7 @@ elab_fields-returns t c =
 
 pub elab_match-loop-rule-init : goal.elab_match-loop-rule-init
 elab_match-loop-rule-init t c =
-    match_begin (moment c.args.g.now c.args.t.now c.args.scope.now) c.args.rules.now c.requires
+    match_begin (moment c.args.g.now c.args.t.now c.args.scope.now) c.args.rules.now c.requires.core
 
 pub elab_match-loop-rule-preserved : goal.elab_match-loop-rule-preserved
 elab_match-loop-rule-preserved t c =
@@ -109,7 +109,12 @@ elab_match-returns t c =
 
 pub elab_under-elab_in_scope-result-requires : goal.elab_under-elab_in_scope-result-requires
 elab_under-elab_in_scope-result-requires t c =
-    (search rules, (c.in_ok-enter_variables.ensures.ok c.args.g.now).there c.args.t.now c.requires)
+    (search rules, entered (moment c.args.g.now c.args.t.now c.args.scope.now)
+    (moment c.args.g.now c.args.t.now c.enter_variables.new.scope)
+    (under_bound (bound_of c.args.bound.now) (scope_at (moment c.args.g.now c.args.t.now c.args.scope.now)))
+    (c.in_ok-enter_variables.ensures.ok c.args.g.now).seen
+    ((c.in_ok-enter_variables.ensures.ok c.args.g.now).there c.args.t.now c.requires.core) c.requires.kept
+    c.requires.state)
 
 pub elab_in_scope-returns-in_err-function-in-App : goal.elab_in_scope-returns-in_err-function-in-App
 elab_in_scope-returns-in_err-function-in-App t c =
@@ -123,14 +128,14 @@ elab_in_scope-returns-in_err-argument-in-App t c =
     passed c.from_residual-in_err-argument-in-App.result c.in_err-argument-in-App.field-0.0 c.from_residual-in_err-argument-in-App.ensures.1
     (as_phrase (ap exp_phrase c.in-App.is ∙ exp_phrase-App c.in-App.function c.in-App.argument c.in-App.at
     ∙ ap₂ (λ p q. ExpPhrase.App (exp_phrase p) (exp_phrase q) c.in-App.at) (sym c.get.ensures) (sym c.get-in-App.ensures))
-    (app_second (exp_phrase c.get.result.now) (exp_phrase c.get-in-App.result.now) c.in-App.at c.requires
+    (app_second (exp_phrase c.get.result.now) (exp_phrase c.get-in-App.result.now) c.in-App.at c.requires.core
     c.in_ok-function-in-App.ensures c.in_err-argument-in-App.ensures))
 
 pub elab_in_scope-returns-in_ok-argument-in-App : goal.elab_in_scope-returns-in_ok-argument-in-App
 elab_in_scope-returns-in_ok-argument-in-App t c =
     as_phrase (ap exp_phrase c.in-App.is ∙ exp_phrase-App c.in-App.function c.in-App.argument c.in-App.at
     ∙ ap₂ (λ p q. ExpPhrase.App (exp_phrase p) (exp_phrase q) c.in-App.at) (sym c.get.ensures) (sym c.get-in-App.ensures))
-    (app_done (exp_phrase c.get.result.now) (exp_phrase c.get-in-App.result.now) c.in-App.at c.requires
+    (app_done (exp_phrase c.get.result.now) (exp_phrase c.get-in-App.result.now) c.in-App.at c.requires.core
     c.in_ok-function-in-App.ensures c.in_ok-argument-in-App.ensures c.apply.ensures)
 
 pub elab_in_scope-returns-in_err-rows-in-Record : goal.elab_in_scope-returns-in_err-rows-in-Record
@@ -144,7 +149,7 @@ pub elab_in_scope-returns-in_ok-rows-in-Record : goal.elab_in_scope-returns-in_o
 elab_in_scope-returns-in_ok-rows-in-Record t c =
     as_phrase (ap exp_phrase c.in-Record.is ∙ exp_phrase-Record c.in-Record.fields c.in-Record.at
     ∙ ap (λ fields. ExpPhrase.Record (exp_fields (map exp_field_phrase fields)) c.in-Record.at) (sym c.as_slice.ensures))
-    (record_done (exp_fields (map exp_field_phrase c.as_slice.result.now)) c.in-Record.at c.requires c.in_ok-rows-in-Record.ensures
+    (record_done (exp_fields (map exp_field_phrase c.as_slice.result.now)) c.in-Record.at c.requires.core c.in_ok-rows-in-Record.ensures
     c.make_record.ensures)
 
 pub elab_in_scope-returns-in_err-id-in-Typed : goal.elab_in_scope-returns-in_err-id-in-Typed
@@ -158,7 +163,7 @@ pub elab_in_scope-returns-in_ok-id-in-Typed : goal.elab_in_scope-returns-in_ok-i
 elab_in_scope-returns-in_ok-id-in-Typed t c =
     as_phrase (ap exp_phrase c.in-Typed.is ∙ exp_phrase-Typed c.in-Typed.inner c.in-Typed.ty c.in-Typed.at
     ∙ ap (λ p. ExpPhrase.Typed (exp_phrase p) (ty_phrase c.in-Typed.ty) c.in-Typed.at) (sym c.get-in-Typed.ensures))
-    (typed_done (exp_phrase c.get-in-Typed.result.now) (ty_phrase c.in-Typed.ty) c.in-Typed.at c.requires
+    (typed_done (exp_phrase c.get-in-Typed.result.now) (ty_phrase c.in-Typed.ty) c.in-Typed.at c.requires.core
     c.in_ok-id-in-Typed.ensures c.constrain.ensures)
 
 pub elab_in_scope-returns-in_err-id-in-Handle : goal.elab_in_scope-returns-in_err-id-in-Handle
@@ -177,7 +182,7 @@ elab_in_scope-returns-in_err-handler-in-Handle t c =
     ∙ ap₂ (λ p rules. ExpPhrase.Handle (exp_phrase p) (rules_of (map rule_phrase rules)) c.in-Handle.at)
     (sym c.get-in-Handle.ensures) (sym c.as_slice-in-Handle.ensures))
     (handle_second (exp_phrase c.get-in-Handle.result.now) (rules_of (map rule_phrase c.as_slice-in-Handle.result.now)) c.in-Handle.at
-    c.requires c.in_ok-id-in-Handle.ensures c.in_err-handler-in-Handle.ensures))
+    c.requires.core c.in_ok-id-in-Handle.ensures c.in_err-handler-in-Handle.ensures))
 
 pub elab_in_scope-returns-in_ok-handler-in-Handle : goal.elab_in_scope-returns-in_ok-handler-in-Handle
 elab_in_scope-returns-in_ok-handler-in-Handle t c =
@@ -185,7 +190,7 @@ elab_in_scope-returns-in_ok-handler-in-Handle t c =
     ∙ ap₂ (λ p rules. ExpPhrase.Handle (exp_phrase p) (rules_of (map rule_phrase rules)) c.in-Handle.at)
     (sym c.get-in-Handle.ensures) (sym c.as_slice-in-Handle.ensures))
     (handle_done (exp_phrase c.get-in-Handle.result.now) (rules_of (map rule_phrase c.as_slice-in-Handle.result.now)) c.in-Handle.at
-    c.requires c.in_ok-id-in-Handle.ensures c.in_ok-handler-in-Handle.ensures c.handle.ensures)
+    c.requires.core c.in_ok-id-in-Handle.ensures c.in_ok-handler-in-Handle.ensures c.handle.ensures)
 
 pub elab_in_scope-returns-in_err-id-in-Raise : goal.elab_in_scope-returns-in_err-id-in-Raise
 elab_in_scope-returns-in_err-id-in-Raise t c =
@@ -198,7 +203,7 @@ pub elab_in_scope-returns-in_ok-id-in-Raise : goal.elab_in_scope-returns-in_ok-i
 elab_in_scope-returns-in_ok-id-in-Raise t c =
     as_phrase (ap exp_phrase c.in-Raise.is ∙ exp_phrase-Raise c.in-Raise.inner c.in-Raise.at
     ∙ ap (λ p. ExpPhrase.Raise (exp_phrase p) c.in-Raise.at) (sym c.get-in-Raise.ensures))
-    (raise_done (exp_phrase c.get-in-Raise.result.now) c.in-Raise.at c.requires c.in_ok-id-in-Raise.ensures
+    (raise_done (exp_phrase c.get-in-Raise.result.now) c.in-Raise.at c.requires.core c.in_ok-id-in-Raise.ensures
     c.raise.ensures)
 
 pub elab_in_scope-returns-in_err-id-in-Fn : goal.elab_in_scope-returns-in_err-id-in-Fn
@@ -212,7 +217,7 @@ pub elab_in_scope-returns-in_ok-id-in-Fn : goal.elab_in_scope-returns-in_ok-id-i
 elab_in_scope-returns-in_ok-id-in-Fn t c =
     as_phrase (ap exp_phrase c.in-Fn.is ∙ exp_phrase-Fn c.in-Fn.rules c.in-Fn.at
     ∙ ap (λ rules. ExpPhrase.Fn (rules_of (map rule_phrase rules)) c.in-Fn.at) (sym c.as_slice-in-Fn.ensures))
-    (fn_done (rules_of (map rule_phrase c.as_slice-in-Fn.result.now)) c.in-Fn.at c.requires c.in_ok-id-in-Fn.ensures
+    (fn_done (rules_of (map rule_phrase c.as_slice-in-Fn.result.now)) c.in-Fn.at c.requires.core c.in_ok-id-in-Fn.ensures
     c.sized.ensures.answer c.sized.ensures.same)
 
 pub elab_rule-returns-in_err-from : goal.elab_rule-returns-in_err-from
@@ -223,22 +228,22 @@ elab_rule-returns-in_err-from t c =
 pub elab_rule-returns-in_err-exp : goal.elab_rule-returns-in_err-exp
 elab_rule-returns-in_err-exp t c =
     passed c.from_residual-in_err-exp.result c.in_err-exp.field-0.0 c.from_residual-in_err-exp.ensures.1
-    (rule_second c.args.first c.args.rule.now c.requires.scope c.in_ok-from.ensures.pattern c.in_err-exp.ensures)
+    (rule_second c.args.first c.args.rule.now c.requires.scope.core c.in_ok-from.ensures.pattern c.in_err-exp.ensures)
 
 pub elab_rule-returns-in_err-to : goal.elab_rule-returns-in_err-to
 elab_rule-returns-in_err-to t c =
     passed c.from_residual-in_err-to.result c.in_err-to.field-0.0 c.from_residual-in_err-to.ensures.1
-    (rule_third c.args.first c.args.rule.now c.requires.scope c.in_ok-from.ensures.pattern c.in_ok-exp.ensures
+    (rule_third c.args.first c.args.rule.now c.requires.scope.core c.in_ok-from.ensures.pattern c.in_ok-exp.ensures
     c.requires.first c.place_of_exp.ensures c.to_of.ensures c.in_err-to.ensures)
 
 pub elab_rule-returns : goal.elab_rule-returns
 elab_rule-returns t c =
-    rule_done c.args.first c.args.rule.now c.requires.scope c.in_ok-from.ensures.pattern c.in_ok-exp.ensures
+    rule_done c.args.first c.args.rule.now c.requires.scope.core c.in_ok-from.ensures.pattern c.in_ok-exp.ensures
     c.requires.first c.place_of_exp.ensures c.to_of.ensures c.in_ok-to.ensures
 
 pub elab_under-returns : goal.elab_under-returns
 elab_under-returns t c =
-    under_done c.args.bound.now (exp_phrase c.args.exp.now) c.requires
+    under_done c.args.bound.now (exp_phrase c.args.exp.now) c.requires.core
     (c.in_ok-enter_variables.ensures.ok c.args.g.now) c.elab_in_scope-result.ensures
     (c.leave.ensures c.args.scope.now c.mark-before.ensures.is
     (front_same c.args.scope.now c.enter_variables.new.scope c.elab_in_scope-result.new.scope
@@ -253,11 +258,11 @@ elab_bind-returns-in_err-pat t c =
     (bind_of (rule_phrase-kept c.args.rule.now)
     (bind_first {m0 = moment c.args.g.now c.args.t.now c.args.scope.now}
     (pat_phrase (out-Rule c.args.rule.now).pat, exp_phrase (out-Rule c.args.rule.now).exp)
-    (groups_of c.args.groups.now) c.requires c.in_err-pat.ensures))
+    (groups_of c.args.groups.now) c.requires.core c.in_err-pat.ensures))
 
 pub elab_bind-elab_in_scope-requires : goal.elab_bind-elab_in_scope-requires
 elab_bind-elab_in_scope-requires t c =
-    core_later c.args.g.now c.args.t.now c.elab_pat.new.t c.args.scope.now c.in_ok-pat.ensures.goes.ids c.requires
+    core_later c.args.g.now c.args.t.now c.elab_pat.new.t c.args.scope.now c.in_ok-pat.ensures.goes.ids c.requires.core
 
 pub elab_bind-returns-in_err-exp : goal.elab_bind-returns-in_err-exp
 elab_bind-returns-in_err-exp t c =
@@ -268,7 +273,7 @@ elab_bind-returns-in_err-exp t c =
     (bind_of (rule_phrase-kept c.args.rule.now)
     (bind_second {m0 = moment c.args.g.now c.args.t.now c.args.scope.now}
     (pat_phrase (out-Rule c.args.rule.now).pat, exp_phrase (out-Rule c.args.rule.now).exp)
-    (groups_of c.args.groups.now) c.requires c.in_ok-pat.ensures c.in_err-exp.ensures))
+    (groups_of c.args.groups.now) c.requires.core c.in_ok-pat.ensures c.in_err-exp.ensures))
 
 pub elab_bind-returns-in_err-joined : goal.elab_bind-returns-in_err-joined
 elab_bind-returns-in_err-joined t c =
@@ -279,7 +284,7 @@ elab_bind-returns-in_err-joined t c =
     (bind_of (rule_phrase-kept c.args.rule.now)
     (bind_third {m0 = moment c.args.g.now c.args.t.now c.args.scope.now}
     (pat_phrase (out-Rule c.args.rule.now).pat, exp_phrase (out-Rule c.args.rule.now).exp)
-    (groups_of c.args.groups.now) c.requires c.in_ok-pat.ensures c.in_ok-exp.ensures c.place_of_pat.ensures
+    (groups_of c.args.groups.now) c.requires.core c.in_ok-pat.ensures c.in_ok-exp.ensures c.place_of_pat.ensures
     c.in_err-joined.ensures))
 
 pub elab_bind-returns-in_err-add_binding : goal.elab_bind-returns-in_err-add_binding
@@ -291,7 +296,7 @@ elab_bind-returns-in_err-add_binding t c =
     (bind_of (rule_phrase-kept c.args.rule.now)
     (bind_memory {m0 = moment c.args.g.now c.args.t.now c.args.scope.now}
     (pat_phrase (out-Rule c.args.rule.now).pat, exp_phrase (out-Rule c.args.rule.now).exp)
-    (groups_of c.args.groups.now) c.requires c.in_ok-pat.ensures c.in_ok-exp.ensures c.place_of_pat.ensures
+    (groups_of c.args.groups.now) c.requires.core c.in_ok-pat.ensures c.in_ok-exp.ensures c.place_of_pat.ensures
     c.in_ok-joined.ensures))
 
 pub elab_bind-returns : goal.elab_bind-returns
@@ -299,7 +304,7 @@ elab_bind-returns t c =
     bind_of (rule_phrase-kept c.args.rule.now)
     (bind_done {m0 = moment c.args.g.now c.args.t.now c.args.scope.now}
     (pat_phrase (out-Rule c.args.rule.now).pat, exp_phrase (out-Rule c.args.rule.now).exp)
-    (groups_of c.args.groups.now) c.len-start.result c.requires c.in_ok-pat.ensures c.in_ok-exp.ensures
+    (groups_of c.args.groups.now) c.len-start.result c.requires.core c.in_ok-pat.ensures c.in_ok-exp.ensures
     c.place_of_pat.ensures c.in_ok-joined.ensures c.len-start.ensures c.in_ok-add_binding.ensures.ok)
 
 pub elab_binds-loop-rule-preserved : goal.elab_binds-loop-rule-preserved
@@ -332,14 +337,14 @@ elab_rec_exp-returns-in_err-joined t c =
     passed c.from_residual-in_err-joined.result c.in_err-joined.field-0.0 c.from_residual-in_err-joined.ensures.1
     (rec_of c.args.ty (rule_phrase-kept c.args.rule.now)
     (rec_second (pat_phrase (out-Rule c.args.rule.now).pat, exp_phrase (out-Rule c.args.rule.now).exp) c.args.ty
-    c.in_ok-exp.exp c.place_of_pat.result c.requires.scope c.requires.ty c.in_ok-exp.ensures c.place_of_pat.ensures
+    c.in_ok-exp.exp c.place_of_pat.result c.requires.scope.core c.requires.ty c.in_ok-exp.ensures c.place_of_pat.ensures
     c.in_err-joined.ensures))
 
 pub elab_rec_exp-returns : goal.elab_rec_exp-returns
 elab_rec_exp-returns t c =
     rec_of c.args.ty (rule_phrase-kept c.args.rule.now)
     (rec_done (pat_phrase (out-Rule c.args.rule.now).pat, exp_phrase (out-Rule c.args.rule.now).exp) c.args.ty
-    c.in_ok-exp.exp c.place_of_pat.result c.requires.scope c.requires.ty c.in_ok-exp.ensures c.place_of_pat.ensures
+    c.in_ok-exp.exp c.place_of_pat.result c.requires.scope.core c.requires.ty c.in_ok-exp.ensures c.place_of_pat.ensures
     c.in_ok-joined.ensures)
 
 pub elab_rec_exps-elab_rec_exp-requires-clause-ty : goal.elab_rec_exps-elab_rec_exp-requires-clause-ty
@@ -362,7 +367,7 @@ elab_rec_exps-returns-in_err-elab_rec_exp-in-Some t c =
 
 pub elab_recs_under-returns : goal.elab_recs_under-returns
 elab_recs_under-returns t c =
-    recs_under c.args.bound.now (map rule_phrase c.args.recs.now) c.args.types.now c.requires.scope
+    recs_under c.args.bound.now (map rule_phrase c.args.recs.now) c.args.types.now c.requires.scope.core
     (c.in_ok-enter_variables.ensures.ok c.args.g.now) c.elab_rec_exps-result.ensures
     (c.leave.ensures c.args.scope.now c.mark-before.ensures.is
     (front_same c.args.scope.now c.enter_variables.new.scope c.elab_rec_exps-result.new.scope
@@ -370,7 +375,7 @@ elab_recs_under-returns t c =
 
 pub elab_recs_under-elab_rec_exps-result-requires-clause-scope : goal.elab_recs_under-elab_rec_exps-result-requires-clause-scope
 elab_recs_under-elab_rec_exps-result-requires-clause-scope t c =
-    (c.in_ok-enter_variables.ensures.ok c.args.g.now).there c.args.t.now c.requires.scope
+    (c.in_ok-enter_variables.ensures.ok c.args.g.now).there c.args.t.now c.requires.scope.core
 
 pub elab_val_under-elab_rec_pats-requires : goal.elab_val_under-elab_rec_pats-requires
 elab_val_under-elab_rec_pats-requires t c = c.in_ok-elab_binds.ensures.elabs.core
@@ -389,7 +394,7 @@ elab_val_under-returns-in_err-types t c =
     passed c.from_residual-in_err-types.result c.in_err-types.field-0.0 c.from_residual-in_err-types.ensures.1
     (val_second (state c.args.since.now).next c.args.at c.args.own.now (map rule_phrase c.args.binds.now)
     (map rule_phrase c.args.recs.now)
-    c.in_err-types.field-0.0 c.requires.scope
+    c.in_err-types.field-0.0 c.requires.scope.core
     (binds_alone (map rule_phrase c.args.binds.now) c.new-bound.result c.elab_binds.new.bound
     (groups_of c.new-groups.result) (groups_of c.elab_binds.new.groups) c.new-bound.ensures
     (ap groups_of c.new-groups.ensures) c.in_ok-elab_binds.ensures)
@@ -399,7 +404,7 @@ pub elab_val_under-close_val-requires-clause-front : goal.elab_val_under-close_v
 elab_val_under-close_val-requires-clause-front t c =
     val_front (state c.args.since.now).next c.args.at c.args.own.now (map rule_phrase c.args.binds.now)
     (map rule_phrase c.args.recs.now)
-    c.requires.scope
+    c.requires.scope.core
     (binds_alone (map rule_phrase c.args.binds.now) c.new-bound.result c.elab_binds.new.bound
     (groups_of c.new-groups.result) (groups_of c.elab_binds.new.groups) c.new-bound.ensures
     (ap groups_of c.new-groups.ensures) c.in_ok-elab_binds.ensures)
@@ -409,7 +414,7 @@ pub elab_val_under-close_val-requires-clause-distinct : goal.elab_val_under-clos
 elab_val_under-close_val-requires-clause-distinct t c =
     val_distinct (state c.args.since.now).next c.args.at c.args.own.now (map rule_phrase c.args.binds.now)
     (map rule_phrase c.args.recs.now)
-    c.requires.scope
+    c.requires.scope.core
     (binds_alone (map rule_phrase c.args.binds.now) c.new-bound.result c.elab_binds.new.bound
     (groups_of c.new-groups.result) (groups_of c.elab_binds.new.groups) c.new-bound.ensures
     (ap groups_of c.new-groups.ensures) c.in_ok-elab_binds.ensures)
@@ -419,7 +424,7 @@ pub elab_val_under-returns : goal.elab_val_under-returns
 elab_val_under-returns t c =
     val_done (state c.args.since.now).next c.args.at c.args.own.now (map rule_phrase c.args.binds.now)
     (map rule_phrase c.args.recs.now)
-    c.requires.scope
+    c.requires.scope.core
     (binds_alone (map rule_phrase c.args.binds.now) c.new-bound.result c.elab_binds.new.bound
     (groups_of c.new-groups.result) (groups_of c.elab_binds.new.groups) c.new-bound.ensures
     (ap groups_of c.new-groups.ensures) c.in_ok-elab_binds.ensures)
@@ -438,7 +443,7 @@ elab_val_under-returns-in_err-own_bound t c =
     passed c.from_residual-in_err-own_bound.result fault.NoMemory c.from_residual-in_err-own_bound.ensures.1
     (val_memory (state c.args.since.now).next c.args.at c.args.own.now (map rule_phrase c.args.binds.now)
     (map rule_phrase c.args.recs.now)
-    c.requires.scope
+    c.requires.scope.core
     (binds_alone (map rule_phrase c.args.binds.now) c.new-bound.result c.elab_binds.new.bound
     (groups_of c.new-groups.result) (groups_of c.elab_binds.new.groups) c.new-bound.ensures
     (ap groups_of c.new-groups.ensures) c.in_ok-elab_binds.ensures)
@@ -450,7 +455,7 @@ elab_val_under-returns-in_err-elab_recs_under t c =
     c.from_residual-in_err-elab_recs_under.ensures.1
     (val_third (state c.args.since.now).next c.args.at c.args.own.now (map rule_phrase c.args.binds.now)
     (map rule_phrase c.args.recs.now)
-    c.requires.scope
+    c.requires.scope.core
     (binds_alone (map rule_phrase c.args.binds.now) c.new-bound.result c.elab_binds.new.bound
     (groups_of c.new-groups.result) (groups_of c.elab_binds.new.groups) c.new-bound.ensures
     (ap groups_of c.new-groups.ensures) c.in_ok-elab_binds.ensures)
@@ -461,19 +466,19 @@ pub elab_val-returns-in_err-own : goal.elab_val-returns-in_err-own
 elab_val-returns-in_err-own t c =
     passed c.from_residual.result c.in_err-own.field-0.0 c.from_residual.ensures.1
     (val_stops c.args.tyvars.now (map rule_phrase c.args.binds.now) (map rule_phrase c.args.recs.now) c.args.at
-    c.requires.scope c.requires.ready c.in_err-own.ensures.ids c.in_err-own.field-0.0 c.in_err-own.ensures.infers
+    c.requires.core c.requires.state c.in_err-own.ensures.ids c.in_err-own.field-0.0 c.in_err-own.ensures.infers
     c.in_err-own.ensures.err)
 
 pub elab_val-elab_val_under-result-requires-clause-scope : goal.elab_val-elab_val_under-result-requires-clause-scope
 elab_val-elab_val_under-result-requires-clause-scope t c =
     c.in_ok-own.ensures.ok.there c.own_variables.new.t c.in_ok-own.ensures.made
     (core_later c.args.g.now c.args.t.now c.own_variables.new.t c.args.scope.now c.in_ok-own.ensures.ids
-    c.requires.scope)
+    c.requires.core)
 
 pub elab_val-returns : goal.elab_val-returns
 elab_val-returns t c =
     val_whole c.args.tyvars.now (map rule_phrase c.args.binds.now) (map rule_phrase c.args.recs.now) c.args.at
-    c.requires.scope c.requires.ready c.in_ok-own.ensures.ids c.in_ok-own.own c.in_ok-own.ensures.infers
+    c.requires.core c.requires.state c.in_ok-own.ensures.ids c.in_ok-own.own c.in_ok-own.ensures.infers
     c.in_ok-own.ensures.ok
     (under_as c.mark-since.result c.args.t.now c.args.at c.in_ok-own.own
     (map rule_phrase c.as_slice.result.now) (map rule_phrase c.args.binds.now)
