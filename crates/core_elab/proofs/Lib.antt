@@ -11,3 +11,4 @@ pub mod RecBinding
 pub mod Under
 pub mod WholeVal
 pub mod Readying
+pub mod Declaring

@@ -43,9 +43,9 @@ taken R want x e h = subst (Given R) e h
 pub later : {old new : Moment} → IsReadyAt old → IsKept new.table → Passes old new → new.scope ≡ old.scope
     → IsReadyAt new
 later {old} {new} r k p e = record {
-  core = core_kept {old} {new} r.core p e;
+  core = core_kept {old = old} {new = new} r.core p e;
   kept = k;
-  state = subst (λ sc. IsOfState sc (progress_at new)) (sym (scope_kept {old} {new} r.core p e))
+  state = subst (λ sc. IsOfState sc (progress_at new)) (sym (scope_kept {old = old} {new = new} r.core p e))
       (stays_of_table old.graph new.graph old.table new.table (scope_at old) r.kept k p.ids r.state);
 }
 

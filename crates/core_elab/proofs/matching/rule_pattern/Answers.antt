@@ -3,6 +3,7 @@ use Rattle.core_elab.specs.Moments.{moment}
 use Rattle.core_elab.proofs.Chains.{passed}
 use Rattle.core_elab.proofs.MatchSteps.{pat_first, pat_second, pat_done, two_later}
 use Rattle.pattern_elab.proofs.Scoping.{core_later}
+use Rattle.core_elab.proofs.Readying.{pattern_under}
 use Rattle.core_elab.proofs.matching.rule_pattern.Goals as goal
 
 pub returns-in_err-id-clause-pattern : goal.returns-in_err-id-clause-pattern
@@ -38,3 +39,11 @@ pub returns-clause-core : goal.returns-clause-core
 returns-clause-core c =
     two_later c.args.g.now c.args.t.now c.elab_pat.new.t c.as_first.new.t c.args.scope.now c.requires.scope
     c.in_ok-id.ensures.goes.ids c.in_ok-from.ensures.ids
+
+pub returns-clause-ready : goal.returns-clause-ready
+returns-clause-ready c =
+    λ ready. pattern_under c.args.g.now c.args.t.now c.elab_pat.new.t c.as_first.new.t c.args.scope.now
+    (pat_phrase c.args.pat.now) c.new-bound.result c.elab_pat.new.bound c.in_ok-id.id ready c.new-bound.ensures
+    c.in_ok-id.ensures c.is_kept.ensures c.is_kept-2.ensures c.in_ok-from.ensures.ids
+    (two_later c.args.g.now c.args.t.now c.elab_pat.new.t c.as_first.new.t c.args.scope.now c.requires.scope
+    c.in_ok-id.ensures.goes.ids c.in_ok-from.ensures.ids)
