@@ -33,7 +33,7 @@ use Rattle.core_elab.specs.Expressions.{IsExp, ends_sized}
 use Rattle.core_elab.specs.Ready.{made_at}
 use Rattle.core_elab.specs.Values.{read_made, IsVal}
 use Rattle.core_elab.specs.Declarations.{Declares, IsDeclared, IsDeclaredBehind, IsBehind, Whatever, dec_sized}
-use Rattle.core_elab.proofs.Chains.{passes_table, core_kept, stops, goes_on, ruled, answers_stop, answers_go}
+use Rattle.core_elab.proofs.Chains.{passes_table, core_kept, stops, goes_on, ruled}
 
 -- ---- the end, where the table is as it was
 
@@ -116,10 +116,10 @@ module _ {m0 m1 : Moment} (hidden shown : DecPhrase) (at : At) where
       → new ≡ m2.table → IsChecked m2.graph m2.table at more r → IfOk r (λ same. same ≡ more)
       → IsDeclared m0 (DecPhrase.Local hidden shown at) (moment m2.graph new m2.scope) r
   local_done {m2} {new} {made} {more} {r} core h k e z same =
-      let ends = checked_made {m = m2} at more k.elabs.core z k.closed same in
+      let ends = checked_made {m = m2} {r = r} at more k.elabs.core z k.closed same in
       subst (λ (t : Table). IsDeclared m0 (DecPhrase.Local hidden shown at) (moment m2.graph t m2.scope) r) (sym e)
       (record {
-        elabs = goes_on (local_rest shown at) core h.elabs (goes_on (local_end at) k.elabs.core k.elabs ends.elabs);
+        elabs = goes_on (local_rest shown at) core h.elabs (goes_on (local_end at) h.elabs.core k.elabs ends.elabs);
         closed = ends.closed;
       })
 
@@ -217,13 +217,13 @@ module _ {m : Moment} (binds : List ExPhrase) (at : At) where
     closed = tt;
   })
 
-  pub exceptions_done : {made : Made OwnVariable} {r : Result (Made OwnVariable) Fault} (new last : Table)
+  pub exceptions_done : {r : Result (Made OwnVariable) Fault} (made : Made OwnVariable) (new last : Table)
       → new ≡ m.table → last ≡ new → IsCoreAt m
       → ((read : OwnVariable → ValueEntry) → AreVariables read
       → Answers (exceptions_of (scope_in m.graph m.table read m.scope) binds) (env_of_made m.graph read) (Ok made))
       → made.structures ≡ [] → IsChecked m.graph new at made r → IfOk r (λ same. same ≡ made)
       → IsDeclared m (DecPhrase.Exceptions binds at) (moment m.graph last m.scope) r
-  exceptions_done {made} {r} new last same after core h s z e =
+  exceptions_done {r} made new last same after core h s z e =
       let ends = checked_made {m = m} at made core (subst (λ (t : Table). IsChecked m.graph t at made r) same z)
       (subst (λ (zs : List NamedEnv). AreClosedEnvs m.graph zs) (sym s) tt) e in
       same_table last (after ∙ same) (record {

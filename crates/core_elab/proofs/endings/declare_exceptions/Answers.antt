@@ -23,5 +23,5 @@ returns-in_err-made c =
 pub returns : goal.returns
 returns c =
     exceptions_done {m = moment c.args.g.now c.args.t.now c.args.scope.now} (map ex_phrase c.args.binds.now) c.args.at
-    c.elab_exceptions.new.t c.check_made.new.t c.in_ok-made.ensures.same c.check_made.ensures.same c.requires
+    c.in_ok-made.made c.elab_exceptions.new.t c.check_made.new.t c.in_ok-made.ensures.same c.check_made.ensures.same c.requires
     c.in_ok-made.ensures.infers c.in_ok-made.ensures.structures c.check_made.ensures.answer c.check_made.ensures.it
