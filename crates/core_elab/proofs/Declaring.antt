@@ -1,5 +1,5 @@
 -- Declarations: what a call answers of each, from what it answers of its parts.
-use Rattle.std.proofs.Common.{◌≡◌, List, [], false, refl, sym, ap, ◌∙◌, subst, map}
+use Rattle.std.proofs.Common.{◌≡◌, ℕ, List, [], ◌∷◌, length, false, refl, sym, ap, ◌∙◌, subst, map}
 use Rattle.std.specs.Prelude.{Result, Ok, Err, IfOk}
 use Rattle.cm_base.specs.declared.fault.Fault.{Fault}
 use Rattle.cm_base.specs.declared.fault.Fault.TheVariants as fault
@@ -11,7 +11,7 @@ use Rattle.unification.specs.Types.{Ty}
 use Rattle.unification.specs.Unification.{depth}
 use Rattle.type_nodes.specs.Tables.{Table, Has}
 use Rattle.sml_modules.specs.declared.parts.NamedEnv.{NamedEnv}
-use Rattle.sml_modules.specs.Graphs.{Graph}
+use Rattle.sml_modules.specs.Graphs.{Graph, HasEnvs}
 use Rattle.bare_phrases.specs.Phrases.{ExpPhrase, DecPhrase, ExPhrase}
 use Rattle.static_semantics.specs.Inferring.{Progress, Scope, Answer, ◌>>=◌, gives, under, sized_dec}
 use Rattle.static_semantics.specs.DatatypeInference.{exceptions_of, is_exception}
@@ -34,6 +34,11 @@ use Rattle.core_elab.specs.Ready.{made_at}
 use Rattle.core_elab.specs.Values.{read_made, IsVal}
 use Rattle.core_elab.specs.Declarations.{Declares, IsDeclared, IsDeclaredBehind, IsBehind, Whatever, dec_sized}
 use Rattle.core_elab.proofs.Chains.{passes_table, core_kept, stops, goes_on, ruled}
+
+-- the structures are of the graph
+pub envs_there : (g : Graph) (entries : List NamedEnv) → AreClosedEnvs g entries → HasEnvs g entries
+envs_there g [] h = tt
+envs_there g (e ∷ entries) h = (h.0.there, envs_there g entries h.1)
 
 -- ---- the end, where the table is as it was
 
@@ -182,6 +187,19 @@ module _ {m0 m1 : Moment} (dec : DecPhrase) (body : ExpPhrase) (at : At) where
       → IsExp m0 (ExpPhrase.Let dec body at) (moment m2.graph new m2.scope) r
   let_done {m2} core h k l = goes_on (let_rest body at (progress_at m0)) core h.elabs
       (goes_on (let_last at (progress_at m0) (progress_at m1)) h.elabs.core k (ruled {m = m2} k.core l))
+
+-- with the numbers as code has them
+pub let_numbered : {m0 m1 m2 : Moment} {new : Table} {made : Made OwnVariable} {a : TyId} {r : Result TyId Fault}
+    (dec : DecPhrase) (body : ExpPhrase) (at : At) (from to : ℕ) → IsCoreAt m0 → IsDeclared m0 dec m1 (Ok made)
+    → IsBehind m1 made body m2 (Ok a) → from ≡ length m0.graph.made → to ≡ length m1.graph.made
+    → IsRule m2.graph m2.table new (λ sc. ends_sized sc at (within_let sc at from to (typed_as m2 a))) r
+    → IsExp m0 (ExpPhrase.Let dec body at) (moment m2.graph new m2.scope) r
+let_numbered {m0} {m1} {m2} {new} {made} {a} {r} dec body at from to core h k e f l =
+    let_done dec body at core h k
+    (subst (λ (x : ℕ). IsRule m2.graph m2.table new (λ sc. ends_sized sc at (within_let sc at x
+    (length m1.graph.made) (typed_as m2 a))) r) e
+    (subst (λ (y : ℕ). IsRule m2.graph m2.table new (λ sc. ends_sized sc at (within_let sc at from y (typed_as m2 a)))
+    r) f l))
 
 -- ---- `exception`
 

@@ -104,7 +104,7 @@ drop_front [] behind = refl
 drop_front (x ∷ front) behind = drop_front front behind
 
 -- the variables of `rec` patterns are those that were bound behind the others
-rec_variables : (before after own : Rows OwnVariable) (rows : RecPats) (start : ℕ)
+pub rec_variables : (before after own : Rows OwnVariable) (rows : RecPats) (start : ℕ)
     → bound_of after ≡ bound_of before ++ rec_bound rows → start ≡ length before → own ≡ drop start after
     → bound_of own ≡ rec_bound rows
 rec_variables before after own rows start h s e =

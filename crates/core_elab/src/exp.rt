@@ -49,14 +49,6 @@ pub fn elab_in_scope(
             let rows = elab_fields(alloc, g, t, scope, fields.as_slice())?;
             make_record(alloc, g, t, *at, &rows)
         }
-        Exp::Let(dec, body, at) => {
-            let from = g.made();
-            let made = elab_declared(alloc, g, t, scope, dec.get())?;
-            t.is_kept();
-            let to = g.made();
-            let id = elab_body(alloc, g, t, scope, made, body.get())?;
-            end_let(alloc, g, t, *at, from, to, id)
-        }
         Exp::App(function, argument, at) => {
             let function = elab_in_scope(alloc, g, t, scope, function.get())?;
             t.is_kept();
@@ -80,6 +72,14 @@ pub fn elab_in_scope(
         Exp::Fn(rules, at) => {
             let id = elab_match(alloc, g, t, scope, rules.as_slice())?;
             sized(alloc, g, t, *at, id)
+        }
+        Exp::Let(dec, body, at) => {
+            let from = g.made();
+            let made = elab_declared(alloc, g, t, scope, dec.get())?;
+            t.is_kept();
+            let to = g.made();
+            let id = elab_body(alloc, g, t, scope, made, body.get())?;
+            end_let(alloc, g, t, *at, from, to, id)
         }
     }
 }

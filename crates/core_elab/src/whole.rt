@@ -8,6 +8,7 @@ ghost use Rattle.bare_phrases.specs.PhraseOf.{exp_phrase};
 ghost use Rattle.static_semantics.specs.Inferring.{outermost};
 ghost use Rattle.static_semantics.specs.CoreInference.{infer_exp};
 ghost use Rattle.type_phrases.specs.Inferred.{Inferred, KeepsTypes, progress};
+ghost use Rattle.closing_laws.specs.Promises.{IsOfState};
 
 use crate::exp::elab_in_scope;
 use cm_base::Fault;
@@ -20,8 +21,8 @@ use sml_types::TypeTable;
 use std::alloc::Global;
 
 /// The type of an expression in an environment of a graph, with no type variable written around it: 30 to 35, 38 or 40
-/// where inference gives that, and the table is then as before. A `let` is answered as want of memory is. The Definition
-/// of Standard ML (Revised), rules 1 to 14.
+/// where inference gives that, and the table is then as before. What stands in the environment is of what the table
+/// knows. The Definition of Standard ML (Revised), rules 1 to 14.
 pub fn elab_exp(
     alloc: Global,
     g: &mut EnvGraph,
@@ -29,7 +30,8 @@ pub fn elab_exp(
     env: EnvId,
     exp: &Exp,
 ) -> Result<TyId, Fault>
-    requires { HasEnv g.old env }
+    requires env { HasEnv g.old env }
+    requires ready { IsOfState (outermost g.old.home (env_at g.old env)) (progress t.old g.old) }
     ensures infers { Inferred (infer_exp depth (outermost g.old.home (env_at g.old env)) (exp_phrase exp.now)
         (progress t.old g.old)) result t.new g.new }
     ensures has { IfOk result (Has t.new) }
@@ -40,6 +42,7 @@ pub fn elab_exp(
 {
     let before = t.mark();
     let mut scope: CoreScope = Scope::new(alloc, env);
+    t.is_kept();
     match elab_in_scope(alloc, g, t, &mut scope, exp) {
         Ok(id) => Ok(id),
         Err(fault) => {

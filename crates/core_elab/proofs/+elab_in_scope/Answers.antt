@@ -1,5 +1,5 @@
-use Rattle.bare_phrases.proofs.Forms.{exp_phrase-Int, exp_phrase-Str, exp_phrase-Char, exp_phrase-Long, exp_phrase-Record, exp_phrase-App, exp_phrase-Typed, exp_phrase-Handle, exp_phrase-Raise, exp_phrase-Fn, rule_phrase-kept}
-use Rattle.bare_phrases.specs.PhraseOf.{ty_phrase, exp_phrase, exp_field_phrase, exp_fields, rule_phrase, rules_of, pat_phrase}
+use Rattle.bare_phrases.proofs.Forms.{exp_phrase-Int, exp_phrase-Str, exp_phrase-Char, exp_phrase-Long, exp_phrase-Record, exp_phrase-App, exp_phrase-Typed, exp_phrase-Handle, exp_phrase-Raise, exp_phrase-Fn, exp_phrase-Let, dec_phrase-Val, dec_phrase-Local, dec_phrase-Exceptions, rule_phrase-kept}
+use Rattle.bare_phrases.specs.PhraseOf.{ty_phrase, dec_phrase, exp_phrase, exp_field_phrase, exp_fields, rule_phrase, rules_of, pat_phrase}
 use Rattle.bare_phrases.specs.Phrases.{ExpPhrase}
 use Rattle.cm_base.specs.declared.fault.Fault.TheVariants as fault
 use Rattle.core_elab.proofs.Binding.{bind_first, bind_second, bind_third, bind_memory, bind_done, bind_of, passed_on, binds_next, binds_fail}
@@ -8,13 +8,17 @@ use Rattle.core_elab.proofs.Entering.{front_same}
 use Rattle.core_elab.proofs.Fields.{field_first, field_second, field_done, fields_begin, fields_next, fields_fail, fields_end}
 use Rattle.core_elab.proofs.MatchSteps.{rule_first, rule_second, rule_third, rule_done, match_begin, match_next, match_fails, match_ends}
 use Rattle.core_elab.proofs.Parted.{as_phrase, plain, app_first, app_second, app_done, typed_first, typed_done, handle_first, handle_second, handle_done, raise_first, raise_done, fn_first, fn_done, record_first, record_done, under_done}
+use Rattle.core_elab.proofs.Readying.{later, table_later, entered, behind, own_ready, recs_ready}
+use Rattle.core_elab.proofs.Declaring.{envs_there, val_declared, local_first, local_second, local_done, shown_done, body_done, let_first, let_second, let_numbered}
+use Rattle.core_elab.specs.Ready.{made_at}
+use Rattle.static_semantics.specs.Inferring.{under, under_bound}
 use Rattle.core_elab.proofs.RecBinding.{rec_first, rec_second, rec_done, rec_of, recs_next, recs_fail, has_first}
 use Rattle.core_elab.proofs.Under.{recs_under, binds_alone, val_first, val_second, val_memory, val_third, val_done, val_distinct, val_front}
 use Rattle.core_elab.proofs.WholeVal.{val_stops, val_whole, under_as}
 use Rattle.core_elab.specs.Bindings.{IsBind, AreBinds}
 use Rattle.core_elab.specs.Moments.{moment, scope_at}
 use Rattle.pattern_elab.proofs.Scoping.{core_later}
-use Rattle.pattern_elab.specs.Scopes.{scope_of}
+use Rattle.pattern_elab.specs.Scopes.{scope_of, bound_of}
 use Rattle.sml_trees.specs.declared.exp.Rule.{out-Rule, Rule}
 use Rattle.std.proofs.Common.{rules, refl, sym, ap, ap₂, ◌∙◌, map, [], ◌∷◌, ◌++◌, List}
 use Rattle.type_nodes.specs.Tables.{state}
@@ -262,7 +266,8 @@ elab_bind-returns-in_err-pat t c =
 
 pub elab_bind-elab_in_scope-requires : goal.elab_bind-elab_in_scope-requires
 elab_bind-elab_in_scope-requires t c =
-    core_later c.args.g.now c.args.t.now c.elab_pat.new.t c.args.scope.now c.in_ok-pat.ensures.goes.ids c.requires.core
+    (search rules, table_later c.args.g.now c.args.t.now c.elab_pat.new.t c.args.scope.now c.requires c.is_kept.ensures
+    c.in_ok-pat.ensures.goes.ids)
 
 pub elab_bind-returns-in_err-exp : goal.elab_bind-returns-in_err-exp
 elab_bind-returns-in_err-exp t c =
@@ -375,7 +380,12 @@ elab_recs_under-returns t c =
 
 pub elab_recs_under-elab_rec_exps-result-requires-clause-scope : goal.elab_recs_under-elab_rec_exps-result-requires-clause-scope
 elab_recs_under-elab_rec_exps-result-requires-clause-scope t c =
-    (c.in_ok-enter_variables.ensures.ok c.args.g.now).there c.args.t.now c.requires.scope.core
+    entered (moment c.args.g.now c.args.t.now c.args.scope.now)
+    (moment c.args.g.now c.args.t.now c.enter_variables.new.scope)
+    (under_bound (bound_of c.args.bound.now) (scope_at (moment c.args.g.now c.args.t.now c.args.scope.now)))
+    (c.in_ok-enter_variables.ensures.ok c.args.g.now).seen
+    ((c.in_ok-enter_variables.ensures.ok c.args.g.now).there c.args.t.now c.requires.scope.core) c.requires.scope.kept
+    c.requires.scope.state
 
 pub elab_val_under-elab_rec_pats-requires : goal.elab_val_under-elab_rec_pats-requires
 elab_val_under-elab_rec_pats-requires t c = c.in_ok-elab_binds.ensures.elabs.core
@@ -435,8 +445,12 @@ elab_val_under-returns t c =
 
 pub elab_val_under-elab_recs_under-requires-clause-scope : goal.elab_val_under-elab_recs_under-requires-clause-scope
 elab_val_under-elab_recs_under-requires-clause-scope t c =
-    core_later c.elab_binds.new.g c.elab_binds.new.t c.elab_rec_pats.new.t c.elab_binds.new.scope
-    c.in_ok-types.ensures.goes.ids c.in_ok-elab_binds.ensures.elabs.core
+    recs_ready (map rule_phrase c.args.binds.now) (map rule_phrase c.args.recs.now) c.in_ok-own_bound.own_bound
+    c.len-start.result c.requires.scope
+    (binds_alone (map rule_phrase c.args.binds.now) c.new-bound.result c.elab_binds.new.bound
+    (groups_of c.new-groups.result) (groups_of c.elab_binds.new.groups) c.new-bound.ensures
+    (ap groups_of c.new-groups.ensures) c.in_ok-elab_binds.ensures) c.is_kept.ensures c.in_ok-types.ensures
+    c.is_kept-2.ensures c.len-start.ensures c.in_ok-own_bound.ensures
 
 pub elab_val_under-returns-in_err-own_bound : goal.elab_val_under-returns-in_err-own_bound
 elab_val_under-returns-in_err-own_bound t c =
@@ -471,9 +485,12 @@ elab_val-returns-in_err-own t c =
 
 pub elab_val-elab_val_under-result-requires-clause-scope : goal.elab_val-elab_val_under-result-requires-clause-scope
 elab_val-elab_val_under-result-requires-clause-scope t c =
-    c.in_ok-own.ensures.ok.there c.own_variables.new.t c.in_ok-own.ensures.made
+    own_ready c.args.g.now c.args.t.now c.own_variables.new.t c.args.scope.now c.own_variables.new.scope
+    c.args.tyvars.now (map rule_phrase c.args.binds.now) (map rule_phrase c.args.recs.now) c.in_ok-own.own c.requires
+    c.is_kept.ensures c.in_ok-own.ensures.infers c.in_ok-own.ensures.ok
+    (c.in_ok-own.ensures.ok.there c.own_variables.new.t c.in_ok-own.ensures.made
     (core_later c.args.g.now c.args.t.now c.own_variables.new.t c.args.scope.now c.in_ok-own.ensures.ids
-    c.requires.core)
+    c.requires.core))
 
 pub elab_val-returns : goal.elab_val-returns
 elab_val-returns t c =
@@ -488,3 +505,106 @@ elab_val-returns t c =
     (c.leave.ensures c.args.scope.now c.mark-before.ensures.is
     (front_same c.args.scope.now c.own_variables.new.scope c.elab_val_under-result.new.scope
     c.in_ok-own.ensures.ok.front c.elab_val_under-result.ensures.left))
+
+pub elab_in_scope-elab_in_scope-in-App-requires : goal.elab_in_scope-elab_in_scope-in-App-requires
+elab_in_scope-elab_in_scope-in-App-requires t c =
+    (search rules, later c.requires c.is_kept.ensures c.in_ok-function-in-App.ensures.goes
+    c.in_ok-function-in-App.ensures.left)
+
+pub elab_in_scope-elab_match-requires : goal.elab_in_scope-elab_match-requires
+elab_in_scope-elab_match-requires t c =
+    (search rules, later c.requires c.is_kept-in-Handle.ensures c.in_ok-id-in-Handle.ensures.goes
+    c.in_ok-id-in-Handle.ensures.left)
+
+pub elab_in_scope-elab_body-requires : goal.elab_in_scope-elab_body-requires
+elab_in_scope-elab_body-requires t c =
+    (search rules, behind (dec_phrase c.get-in-Let.result.now) c.in_ok-made-in-Let.made c.requires
+    c.is_kept-in-Let.ensures c.in_ok-made-in-Let.ensures)
+
+pub elab_fields-elab_field-requires-clause-scope : goal.elab_fields-elab_field-requires-clause-scope
+elab_fields-elab_field-requires-clause-scope t c =
+    later {old = moment c.args.g.now c.args.t.now c.args.scope.now} c.requires c.is_kept.ensures
+    c.loop-field.invariant.goes c.loop-field.invariant.same
+
+pub elab_match-elab_rule-requires-clause-scope : goal.elab_match-elab_rule-requires-clause-scope
+elab_match-elab_rule-requires-clause-scope t c =
+    later {old = moment c.args.g.now c.args.t.now c.args.scope.now} c.requires c.is_kept.ensures
+    c.loop-rule.invariant.goes c.loop-rule.invariant.same
+
+pub elab_binds-elab_bind-requires : goal.elab_binds-elab_bind-requires
+elab_binds-elab_bind-requires t c =
+    (search rules, later {old = moment c.args.g.now c.args.t.now c.args.scope.now} c.requires c.is_kept.ensures
+    c.loop-rule.invariant.goes c.loop-rule.invariant.same)
+
+pub elab_rec_exps-elab_rec_exp-requires-clause-scope : goal.elab_rec_exps-elab_rec_exp-requires-clause-scope
+elab_rec_exps-elab_rec_exp-requires-clause-scope t c =
+    later {old = moment c.args.g.now c.args.t.now c.args.scope.now} c.requires.scope c.is_kept.ensures
+    c.loop-rule.invariant.goes c.loop-rule.invariant.same
+
+pub elab_rule-elab_under-requires : goal.elab_rule-elab_under-requires
+elab_rule-elab_under-requires t c =
+    (search rules, c.in_ok-from.ensures.ready c.requires.scope)
+
+pub elab_body-elab_in_scope-result-requires : goal.elab_body-elab_in_scope-result-requires
+elab_body-elab_in_scope-result-requires t c =
+    (search rules, entered (moment c.args.g.now c.args.t.now c.args.scope.now)
+    (moment c.args.g.now c.args.t.now c.enter_made.new.scope)
+    (under (made_at (moment c.args.g.now c.args.t.now c.args.scope.now) c.args.made)
+    (scope_at (moment c.args.g.now c.args.t.now c.args.scope.now)))
+    (c.in_ok-enter_made.ensures.ok c.args.g.now (envs_there c.args.g.now c.args.made.structures c.requires.closed)).seen
+    ((c.in_ok-enter_made.ensures.ok c.args.g.now (envs_there c.args.g.now c.args.made.structures
+    c.requires.closed)).there c.args.t.now c.requires.core) c.requires.kept c.requires.state)
+
+pub elab_body-returns : goal.elab_body-returns
+elab_body-returns t c =
+    body_done c.args.made (exp_phrase c.args.exp.now) c.requires.core
+    (c.in_ok-enter_made.ensures.ok c.args.g.now (envs_there c.args.g.now c.args.made.structures c.requires.closed))
+    c.elab_in_scope-result.ensures
+    (c.leave.ensures c.args.scope.now c.mark-before.ensures.is
+    (front_same c.args.scope.now c.enter_made.new.scope c.elab_in_scope-result.new.scope
+    (c.in_ok-enter_made.ensures.ok c.args.g.now (envs_there c.args.g.now c.args.made.structures
+    c.requires.closed)).front c.elab_in_scope-result.ensures.left))
+
+pub elab_shown-elab_declared-result-requires : goal.elab_shown-elab_declared-result-requires
+elab_shown-elab_declared-result-requires t c =
+    (search rules, entered (moment c.args.g.now c.args.t.now c.args.scope.now)
+    (moment c.args.g.now c.args.t.now c.enter_made.new.scope)
+    (under (made_at (moment c.args.g.now c.args.t.now c.args.scope.now) c.args.made)
+    (scope_at (moment c.args.g.now c.args.t.now c.args.scope.now)))
+    (c.in_ok-enter_made.ensures.ok c.args.g.now (envs_there c.args.g.now c.args.made.structures c.requires.closed)).seen
+    ((c.in_ok-enter_made.ensures.ok c.args.g.now (envs_there c.args.g.now c.args.made.structures
+    c.requires.closed)).there c.args.t.now c.requires.core) c.requires.kept c.requires.state)
+
+pub elab_shown-returns : goal.elab_shown-returns
+elab_shown-returns t c =
+    shown_done c.args.made (dec_phrase c.args.dec.now) c.requires.core
+    (c.in_ok-enter_made.ensures.ok c.args.g.now (envs_there c.args.g.now c.args.made.structures c.requires.closed))
+    c.elab_declared-result.ensures
+    (c.leave.ensures c.args.scope.now c.mark-before.ensures.is
+    (front_same c.args.scope.now c.enter_made.new.scope c.elab_declared-result.new.scope
+    (c.in_ok-enter_made.ensures.ok c.args.g.now (envs_there c.args.g.now c.args.made.structures
+    c.requires.closed)).front c.elab_declared-result.ensures.elabs.left))
+
+pub elab_in_scope-returns-in_err-made-in-Let : goal.elab_in_scope-returns-in_err-made-in-Let
+elab_in_scope-returns-in_err-made-in-Let t c =
+    passed c.from_residual-in_err-made-in-Let.result c.in_err-made-in-Let.field-0.0 c.from_residual-in_err-made-in-Let.ensures.1
+    (as_phrase (ap exp_phrase c.in-Let.is ∙ exp_phrase-Let c.in-Let.dec c.in-Let.body c.in-Let.at
+    ∙ ap (λ p. ExpPhrase.Let (dec_phrase p) (exp_phrase c.in-Let.body) c.in-Let.at) (sym c.get-in-Let.ensures))
+    (let_first (dec_phrase c.get-in-Let.result.now) (exp_phrase c.in-Let.body) c.in-Let.at c.in_err-made-in-Let.ensures))
+
+pub elab_in_scope-returns-in_err-id-in-Let : goal.elab_in_scope-returns-in_err-id-in-Let
+elab_in_scope-returns-in_err-id-in-Let t c =
+    passed c.from_residual-in_err-id-in-Let.result c.in_err-id-in-Let.field-0.0 c.from_residual-in_err-id-in-Let.ensures.1
+    (as_phrase (ap exp_phrase c.in-Let.is ∙ exp_phrase-Let c.in-Let.dec c.in-Let.body c.in-Let.at
+    ∙ ap₂ (λ p q. ExpPhrase.Let (dec_phrase p) (exp_phrase q) c.in-Let.at) (sym c.get-in-Let.ensures) (sym c.get-in-Let-2.ensures))
+    (let_second (dec_phrase c.get-in-Let.result.now) (exp_phrase c.get-in-Let-2.result.now) c.in-Let.at c.requires.core
+    c.in_ok-made-in-Let.ensures c.in_err-id-in-Let.ensures))
+
+pub elab_in_scope-returns-in_ok-id-in-Let : goal.elab_in_scope-returns-in_ok-id-in-Let
+elab_in_scope-returns-in_ok-id-in-Let t c =
+    (as_phrase (ap exp_phrase c.in-Let.is ∙ exp_phrase-Let c.in-Let.dec c.in-Let.body c.in-Let.at
+    ∙ ap₂ (λ p q. ExpPhrase.Let (dec_phrase p) (exp_phrase q) c.in-Let.at) (sym c.get-in-Let.ensures) (sym c.get-in-Let-2.ensures))
+    (let_numbered (dec_phrase c.get-in-Let.result.now) (exp_phrase c.get-in-Let-2.result.now) c.in-Let.at
+    c.made-from-in-Let.result c.made-to-in-Let.result c.requires.core c.in_ok-made-in-Let.ensures
+    c.in_ok-id-in-Let.ensures c.made-from-in-Let.ensures c.made-to-in-Let.ensures c.end_let.ensures))
+
