@@ -1,6 +1,6 @@
 -- Declarations: what a call answers of each, from what it answers of its parts.
 use Rattle.std.proofs.Common.{◌≡◌, ℕ, List, [], ◌∷◌, length, false, refl, sym, ap, ◌∙◌, subst, map}
-use Rattle.std.specs.Prelude.{Result, Ok, Err, IfOk}
+use Rattle.std.specs.Prelude.{Result, Ok, Err, IfOk, IsErrAnd}
 use Rattle.cm_base.specs.declared.fault.Fault.{Fault}
 use Rattle.cm_base.specs.declared.fault.Fault.TheVariants as fault
 use Rattle.sml_trees.specs.declared.name.At.{At}
@@ -81,6 +81,31 @@ pub declared_passed : {old new : Moment} {want : Scope → Answer (Env × Progre
     {x : Result (Made OwnVariable) Fault} (r : Result (Made OwnVariable) Fault) → r ≡ x
     → Declares old want new x → Declares old want new r
 declared_passed {old} {new} {want} {x} r e h = subst (λ z. Declares old want new z) (sym e) h
+
+-- a phrase as it is written
+pub as_dec : {old new : Moment} {p q : DecPhrase} {r : Result (Made OwnVariable) Fault} → p ≡ q
+    → IsDeclared old q new r → IsDeclared old p new r
+as_dec {old} {new} {p} {q} {r} e h = subst (λ z. IsDeclared old z new r) (sym e) h
+
+-- an error that is passed on
+pub dec_passed : {old new : Moment} {want : Scope → Answer (Env × Progress)} (r : Result (Made OwnVariable) Fault)
+    (e : Fault) → IsErrAnd r (λ f. f ≡ e) → Declares old want new (Err e) → Declares old want new r
+dec_passed {old} {new} {want} (Ok x) e h k = absurd h
+dec_passed {old} {new} {want} (Err f) e h k = subst (λ (z : Fault). Declares old want new (Err z)) (sym h) k
+
+-- want of memory
+pub dec_memory : {m : Moment} {want : Scope → Answer (Env × Progress)} → IsCoreAt m
+    → Declares m want m (Err fault.NoMemory)
+dec_memory {m} core = record {
+  elabs = record {
+    infers = tt;
+    has = tt;
+    goes = passes_table m m.table m.scope (keeps_all m.table);
+    left = refl;
+    core = core;
+  };
+  closed = tt;
+}
 
 -- ---- `val`
 

@@ -40,9 +40,9 @@ pub fn elab_declared(
             declare_exceptions(alloc, g, t, scope, binds.as_slice(), *at)
         }
         Dec::Local(hidden, shown, at) => {
-            let made = elab_declared(alloc, g, t, scope, hidden.get())?;
+            let before = elab_declared(alloc, g, t, scope, hidden.get())?;
             t.is_kept();
-            let made = elab_shown(alloc, g, t, scope, made, shown.get())?;
+            let made = elab_shown(alloc, g, t, scope, before, shown.get())?;
             check_made(alloc, g, t, *at, made)
         }
         Dec::Open(_, _) => Err(Fault::NoMemory),

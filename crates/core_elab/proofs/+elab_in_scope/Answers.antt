@@ -1,15 +1,15 @@
 use Rattle.bare_phrases.proofs.Forms.{exp_phrase-Int, exp_phrase-Str, exp_phrase-Char, exp_phrase-Long, exp_phrase-Record, exp_phrase-App, exp_phrase-Typed, exp_phrase-Handle, exp_phrase-Raise, exp_phrase-Fn, exp_phrase-Let, dec_phrase-Val, dec_phrase-Local, dec_phrase-Exceptions, rule_phrase-kept}
-use Rattle.bare_phrases.specs.PhraseOf.{ty_phrase, dec_phrase, exp_phrase, exp_field_phrase, exp_fields, rule_phrase, rules_of, pat_phrase}
-use Rattle.bare_phrases.specs.Phrases.{ExpPhrase}
+use Rattle.bare_phrases.specs.PhraseOf.{ty_phrase, ex_phrase, dec_phrase, exp_phrase, exp_field_phrase, exp_fields, rule_phrase, rules_of, pat_phrase}
+use Rattle.bare_phrases.specs.Phrases.{ExpPhrase, DecPhrase}
 use Rattle.cm_base.specs.declared.fault.Fault.TheVariants as fault
-use Rattle.core_elab.proofs.Binding.{bind_first, bind_second, bind_third, bind_memory, bind_done, bind_of, passed_on, binds_next, binds_fail}
+use Rattle.core_elab.proofs.Binding.{binds_begin, binds_end, bind_first, bind_second, bind_third, bind_memory, bind_done, bind_of, passed_on, binds_next, binds_fail}
 use Rattle.core_elab.proofs.Chains.{passed}
 use Rattle.core_elab.proofs.Entering.{front_same}
 use Rattle.core_elab.proofs.Fields.{field_first, field_second, field_done, fields_begin, fields_next, fields_fail, fields_end}
 use Rattle.core_elab.proofs.MatchSteps.{rule_first, rule_second, rule_third, rule_done, match_begin, match_next, match_fails, match_ends}
 use Rattle.core_elab.proofs.Parted.{as_phrase, plain, app_first, app_second, app_done, typed_first, typed_done, handle_first, handle_second, handle_done, raise_first, raise_done, fn_first, fn_done, record_first, record_done, under_done}
 use Rattle.core_elab.proofs.Readying.{later, table_later, entered, behind, own_ready, recs_ready}
-use Rattle.core_elab.proofs.Declaring.{envs_there, val_declared, local_first, local_second, local_done, shown_done, body_done, let_first, let_second, let_numbered}
+use Rattle.core_elab.proofs.Declaring.{as_dec, dec_passed, dec_memory, envs_there, val_declared, local_first, local_second, local_done, shown_done, body_done, let_first, let_second, let_numbered}
 use Rattle.core_elab.specs.Ready.{made_at}
 use Rattle.static_semantics.specs.Inferring.{under, under_bound}
 use Rattle.core_elab.proofs.RecBinding.{rec_first, rec_second, rec_done, rec_of, recs_next, recs_fail, has_first}
@@ -22,6 +22,7 @@ use Rattle.pattern_elab.specs.Scopes.{scope_of, bound_of}
 use Rattle.sml_trees.specs.declared.exp.Rule.{out-Rule, Rule}
 use Rattle.std.proofs.Common.{rules, refl, sym, ap, ap₂, ◌∙◌, map, [], ◌∷◌, ◌++◌, List}
 use Rattle.type_nodes.specs.Tables.{state}
+use Rattle.sml_types.proofs.Frames.{drop_past}
 use Rattle.type_phrases.proofs.PartsRead.{drop_item}
 use Rattle.value_closing.specs.Groups.{groups_of}
 use Rattle.core_elab.proofs.+elab_in_scope.Goals as goal
@@ -608,3 +609,79 @@ elab_in_scope-returns-in_ok-id-in-Let t c =
     c.made-from-in-Let.result c.made-to-in-Let.result c.requires.core c.in_ok-made-in-Let.ensures
     c.in_ok-id-in-Let.ensures c.made-from-in-Let.ensures c.made-to-in-Let.ensures c.end_let.ensures))
 
+pub elab_declared-returns-in-Types : goal.elab_declared-returns-in-Types
+elab_declared-returns-in-Types t c = dec_memory {m = moment c.args.g.now c.args.t.now c.args.scope.now} c.requires.core
+
+pub elab_declared-returns-in-Datatypes : goal.elab_declared-returns-in-Datatypes
+elab_declared-returns-in-Datatypes t c = dec_memory {m = moment c.args.g.now c.args.t.now c.args.scope.now} c.requires.core
+
+pub elab_declared-returns-in-Replication : goal.elab_declared-returns-in-Replication
+elab_declared-returns-in-Replication t c = dec_memory {m = moment c.args.g.now c.args.t.now c.args.scope.now} c.requires.core
+
+pub elab_declared-returns-in-Open : goal.elab_declared-returns-in-Open
+elab_declared-returns-in-Open t c = dec_memory {m = moment c.args.g.now c.args.t.now c.args.scope.now} c.requires.core
+
+pub elab_declared-returns-in-Sequence : goal.elab_declared-returns-in-Sequence
+elab_declared-returns-in-Sequence t c = dec_memory {m = moment c.args.g.now c.args.t.now c.args.scope.now} c.requires.core
+
+pub elab_declared-returns-in-Structures : goal.elab_declared-returns-in-Structures
+elab_declared-returns-in-Structures t c = dec_memory {m = moment c.args.g.now c.args.t.now c.args.scope.now} c.requires.core
+
+pub elab_declared-returns-in-Val : goal.elab_declared-returns-in-Val
+elab_declared-returns-in-Val t c =
+    as_dec (ap dec_phrase c.in-Val.is ∙ dec_phrase-Val c.in-Val.tyvars c.in-Val.binds c.in-Val.recs c.in-Val.at
+    ∙ ap (λ names. DecPhrase.Val names (rules_of (map rule_phrase c.in-Val.binds)) (rules_of (map rule_phrase
+    c.in-Val.recs)) c.in-Val.at) (sym c.as_slice.ensures))
+    (val_declared (DecPhrase.Val c.as_slice.result.now (rules_of (map rule_phrase c.in-Val.binds))
+    (rules_of (map rule_phrase c.in-Val.recs)) c.in-Val.at) c.elab_val.ensures)
+
+pub elab_declared-returns-in-Exceptions : goal.elab_declared-returns-in-Exceptions
+elab_declared-returns-in-Exceptions t c =
+    as_dec (ap dec_phrase c.in-Exceptions.is ∙ dec_phrase-Exceptions c.in-Exceptions.binds c.in-Exceptions.at
+    ∙ ap (λ binds. DecPhrase.Exceptions (map ex_phrase binds) c.in-Exceptions.at) (sym c.as_slice-in-Exceptions.ensures))
+    c.declare_exceptions.ensures
+
+pub elab_declared-returns-in_err-before-in-Local : goal.elab_declared-returns-in_err-before-in-Local
+elab_declared-returns-in_err-before-in-Local t c =
+    dec_passed c.from_residual.result c.in_err-before-in-Local.field-0.0 c.from_residual.ensures.1
+    (as_dec (ap dec_phrase c.in-Local.is ∙ dec_phrase-Local c.in-Local.hidden c.in-Local.shown c.in-Local.at
+    ∙ ap (λ p. DecPhrase.Local (dec_phrase p) (dec_phrase c.in-Local.shown) c.in-Local.at) (sym c.get.ensures))
+    (local_first (dec_phrase c.get.result.now) (dec_phrase c.in-Local.shown) c.in-Local.at
+    c.in_err-before-in-Local.ensures))
+
+pub elab_declared-elab_shown-requires : goal.elab_declared-elab_shown-requires
+elab_declared-elab_shown-requires t c =
+    (search rules, behind (dec_phrase c.get.result.now) c.in_ok-before-in-Local.before c.requires c.is_kept.ensures
+    c.in_ok-before-in-Local.ensures)
+
+pub elab_declared-returns-in_err-made-in-Local : goal.elab_declared-returns-in_err-made-in-Local
+elab_declared-returns-in_err-made-in-Local t c =
+    dec_passed c.from_residual-in_err-made-in-Local.result c.in_err-made-in-Local.field-0.0
+    c.from_residual-in_err-made-in-Local.ensures.1
+    (as_dec (ap dec_phrase c.in-Local.is ∙ dec_phrase-Local c.in-Local.hidden c.in-Local.shown c.in-Local.at
+    ∙ ap₂ (λ p q. DecPhrase.Local (dec_phrase p) (dec_phrase q) c.in-Local.at) (sym c.get.ensures)
+    (sym c.get-in-Local.ensures))
+    (local_second (dec_phrase c.get.result.now) (dec_phrase c.get-in-Local.result.now) c.in-Local.at c.requires.core
+    c.in_ok-before-in-Local.ensures c.in_err-made-in-Local.ensures))
+
+pub elab_declared-check_made-requires : goal.elab_declared-check_made-requires
+elab_declared-check_made-requires t c = c.in_ok-made-in-Local.ensures.closed
+
+pub elab_declared-returns-in_ok-made-in-Local : goal.elab_declared-returns-in_ok-made-in-Local
+elab_declared-returns-in_ok-made-in-Local t c =
+    as_dec (ap dec_phrase c.in-Local.is ∙ dec_phrase-Local c.in-Local.hidden c.in-Local.shown c.in-Local.at
+    ∙ ap₂ (λ p q. DecPhrase.Local (dec_phrase p) (dec_phrase q) c.in-Local.at) (sym c.get.ensures)
+    (sym c.get-in-Local.ensures))
+    (local_done (dec_phrase c.get.result.now) (dec_phrase c.get-in-Local.result.now) c.in-Local.at c.requires.core
+    c.in_ok-before-in-Local.ensures c.in_ok-made-in-Local.ensures c.check_made.ensures.same
+    c.check_made.ensures.answer c.check_made.ensures.it)
+
+pub elab_binds-loop-rule-init : goal.elab_binds-loop-rule-init
+elab_binds-loop-rule-init t c =
+    binds_begin (moment c.args.g.now c.args.t.now c.args.scope.now) (map rule_phrase c.args.rules.now) c.args.bound.now
+    (groups_of c.args.groups.now) c.requires.core
+
+pub elab_binds-returns : goal.elab_binds-returns
+elab_binds-returns t c =
+    binds_end c.loop-rule.invariant (ap (λ (rules : List Rule). map rule_phrase rules)
+    (drop_past c.args.rules.now c.loop-rule.rule-index c.loop-rule-test.false))
