@@ -11,3 +11,4 @@ pub mod Made
 pub mod Binding
 pub mod Bounding
 pub mod Finishing
+pub mod Enclosing

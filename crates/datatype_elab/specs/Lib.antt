@@ -7,3 +7,4 @@ pub mod Declaring
 pub mod Making
 pub mod Binding
 pub mod Leaving
+pub mod Nothing

@@ -5,6 +5,7 @@ mod checks;
 mod choice;
 mod cons;
 mod dats;
+mod declared;
 mod entries;
 mod environment;
 mod making;
@@ -16,4 +17,5 @@ mod trees;
 mod wants;
 mod whole;
 
+pub use declared::datatypes;
 pub use whole::datatypes_in;

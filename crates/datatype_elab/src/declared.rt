@@ -1,0 +1,118 @@
+//! A `datatype` declaration in an environment.
+
+ghost use Rattle.std.specs.Prelude.{◌≡◌, map, IfOk, OnErr};
+ghost use Rattle.sml_modules.specs.Graphs.{env_at, value_rows, HasEnv};
+ghost use Rattle.bare_phrases.specs.PhraseOf.{dat_phrase};
+ghost use Rattle.static_semantics.specs.BasicTypes.{reserved_constructors};
+ghost use Rattle.static_semantics.specs.Inferring.{outermost};
+ghost use Rattle.static_semantics.specs.DatatypeInference.{datatypes_of};
+ghost use Rattle.core_scopes.specs.Marks.{value_rows as rows_read};
+ghost use Rattle.type_phrases.specs.Inferred.{Answers, KeepsTypes, progress};
+ghost use Rattle.datatype_elab.specs.Leaving.{KeepsIds, LeftByDiag};
+ghost use Rattle.datatype_elab.specs.Nothing.{nobody_entry};
+
+use crate::whole::datatypes_in;
+use cm_base::{Fault, List, NoMemory, Text};
+use core_scopes::{Made, NamedInScope, Scope, ValueInScope};
+use sml_modules::{EnvGraph, EnvId, NamedValue};
+use sml_trees::DatBind;
+use sml_types::TypeTable;
+use std::alloc::Global;
+
+/// A value whose scheme isn't closed yet: a declaration of datatypes in an environment has none in scope.
+#[derive(Clone, Copy)]
+pub(crate) enum Nobody {}
+
+/// The names that no constructor may have.
+fn reserved(alloc: Global) -> Result<List<Text>, NoMemory>
+    ensures { IfOk result (λ names. names ≡ reserved_constructors) }
+{
+    let mut names = List::new(alloc);
+    names.add(Text::from_bytes(alloc, b"it")?)?;
+    names.add(Text::from_bytes(alloc, b"true")?)?;
+    names.add(Text::from_bytes(alloc, b"false")?)?;
+    names.add(Text::from_bytes(alloc, b"nil")?)?;
+    names.add(Text::from_bytes(alloc, b"::")?)?;
+    names.add(Text::from_bytes(alloc, b"ref")?)?;
+    Ok(names)
+}
+
+/// Values in scope as entries of an environment.
+fn values_of(
+    alloc: Global,
+    entries: List<NamedInScope<Nobody>>,
+) -> Result<List<NamedValue>, NoMemory>
+    ensures { IfOk result (λ values. value_rows values ≡ rows_read nobody_entry entries) }
+{
+    let mut values = List::new(alloc);
+    for named in entries.into_vec() {
+        let NamedInScope { name, entry } = named;
+        match entry {
+            ValueInScope::Entry(entry) => values.add(NamedValue { name, entry })?,
+            ValueInScope::Own(own) => match own {},
+        }
+    }
+    Ok(values)
+}
+
+/// The environment of a `datatype` declaration in an environment. The table may have more after a refusal.
+fn declare_in(
+    alloc: Global,
+    g: &mut EnvGraph,
+    t: &mut TypeTable,
+    env: EnvId,
+    binds: &List<DatBind>,
+) -> Result<EnvId, Fault>
+    requires { HasEnv g.old env }
+    ensures infers { Answers (datatypes_of (outermost g.old.home (env_at g.old env)) reserved_constructors
+        (map dat_phrase binds.now) (progress t.old g.old)) (λ id. (env_at g.new id, progress t.new g.new)) result }
+    ensures has { IfOk result (HasEnv g.new) }
+    ensures ids { KeepsTypes t.old t.new }
+    ensures keeps { KeepsIds g.old g.new }
+    ensures graph { LeftByDiag result g.old g.new }
+{
+    let mut scope: Scope<Nobody> = Scope::new(alloc, env);
+    let names = reserved(alloc)?;
+    let refused = names.as_slice();
+    let phrases = binds.as_slice();
+    let made = datatypes_in(alloc, g, t, &mut scope, refused, phrases)?;
+    let Made {
+        structures,
+        types,
+        values,
+    } = made;
+    let entries = values_of(alloc, values)?;
+    let id = g.make_env(&structures, types, entries)?;
+    Ok(id)
+}
+
+/// The environment of a `datatype` declaration in an environment: its types with their constructors, and the
+/// constructors as values. It answers as `datatypes_in` does, with 34 at a constructor that is called `true`, `false`,
+/// `nil`, `::`, `ref` or `it`. The table is as it was after a refusal, and the graph after a diagnostic; where memory
+/// lacks, the graph may have more, and all its ids stand for what they stood for. The Definition of Standard ML
+/// (Revised), rules 17, 28 and 29, and sections 2.9 and 4.9.
+pub fn datatypes(
+    g: &mut EnvGraph,
+    t: &mut TypeTable,
+    env: EnvId,
+    binds: &List<DatBind>,
+) -> Result<EnvId, Fault>
+    requires { HasEnv g.old env }
+    ensures infers { Answers (datatypes_of (outermost g.old.home (env_at g.old env)) reserved_constructors
+        (map dat_phrase binds.now) (progress t.old g.old)) (λ id. (env_at g.new id, progress t.new g.new)) result }
+    ensures has { IfOk result (HasEnv g.new) }
+    ensures ids { KeepsTypes t.old t.new }
+    ensures refused { OnErr result (t.new ≡ t.old) }
+    ensures keeps { KeepsIds g.old g.new }
+    ensures graph { LeftByDiag result g.old g.new }
+{
+    let alloc = g.alloc();
+    let before = t.mark();
+    match declare_in(alloc, g, t, env, binds) {
+        Ok(id) => Ok(id),
+        Err(fault) => {
+            t.undo(&before);
+            Err(fault)
+        }
+    }
+}
