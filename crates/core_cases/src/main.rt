@@ -2,30 +2,39 @@
 #![tactic(auto)]
 
 mod kind;
-mod pattern_words;
-mod stacks;
+mod phrase;
+mod reading;
 mod typing;
-mod words;
 
 use case_files::{Case, CaseFault, Kinds, Report, Wrong, run_cases};
-use case_texts::{Answers, try_texts};
+use case_texts::{Answers, refusal, try_texts};
 use cm_base::Text;
 use kind::{Kind, kind_of};
+use phrase::expression_of;
+use reading::unit_of;
 use std::alloc::Global;
 use std::process::ExitCode;
 use typing::typed;
-use words::expression_of;
 
 /// The kinds of cases of this program.
 struct CoreKinds;
 
+/// The type of the expression that a text is, or the refusal of the text.
+fn answer_of(alloc: Global, case: &Case, text: &Text) -> Result<Vec<u8>, CaseFault> {
+    let is_brief = case.find(b"briefly")?.is_some();
+    match unit_of(alloc, text) {
+        Ok(unit) => match expression_of(&unit) {
+            Some(exp) => Ok(typed(alloc, exp, is_brief)?),
+            None => Err(CaseFault::Wrong(case.line, Wrong::Words)),
+        },
+        Err(fault) => Ok(refusal(alloc, &fault)?),
+    }
+}
+
 impl Answers for Kind {
     fn answer(&self, alloc: Global, case: &Case, text: &Text) -> Result<Vec<u8>, CaseFault> {
         match *self {
-            Kind::Expression => match expression_of(alloc, text.as_bytes())? {
-                Some(exp) => Ok(typed(alloc, &exp)?),
-                None => Err(CaseFault::Wrong(case.line, Wrong::Words)),
-            },
+            Kind::ExpressionType => answer_of(alloc, case, text),
         }
     }
 }
@@ -33,7 +42,7 @@ impl Answers for Kind {
 impl Kinds for CoreKinds {
     fn try_case(&self, alloc: Global, case: &Case, report: &mut Report) -> Result<(), CaseFault> {
         match kind_of(case.kind.as_bytes()) {
-            Some(kind) => try_texts(alloc, &kind, (b"", b""), case, report),
+            Some(kind) => try_texts(alloc, &kind, (b"briefly", b""), case, report),
             None => Err(CaseFault::Wrong(case.line, Wrong::Kind)),
         }
     }
