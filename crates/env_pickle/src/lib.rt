@@ -1,6 +1,8 @@
-//! Interfaces are written: the unit that stands in a table of nodes becomes its interface.
+//! Interfaces are written: the unit that stands in a graph, or in a table of nodes, becomes its interface.
 #![tactic(auto)]
 
+mod pickling;
 mod writing;
 
-pub use writing::{INTERFACE_LIMIT, write_interface};
+pub use pickling::pickle;
+pub use writing::{INTERFACE_LIMIT, write_interface, write_top};

@@ -22,7 +22,7 @@ use Rattle.sml_modules.proofs.Keeping.{keeps}
 use Rattle.realisation.specs.Environments.{Change, changed_type, changed_value, changed, changed_structures, each_row}
 use Rattle.environment_walks.specs.declared.places.Images.{Images}
 use Rattle.environment_walks.proofs.Mapping.{mapped_name, mapped_image, mapped_rest}
-use Rattle.environment_walks.specs.Changing.{image_in, IsChanged, AreChanged, AreMapped, MakesOf, MakesNode, MakesTables}
+use Rattle.environment_walks.specs.Changing.{image_in, IsChanged, AreChanged, AreMapped, MakesOf, MakesNode, MakesTables, IsChangedEnv}
 
 -- ---- items
 
@@ -66,7 +66,7 @@ some_env (Item.TopItem x) h = absurd h
 
 -- ---- more nodes
 
-images_later : (by : Change) (old new : Graph) (images : Images) → Extends old new
+pub images_later : (by : Change) (old new : Graph) (images : Images) → Extends old new
     → AreChanged by old.items images → AreChanged by new.items images
 images_later by old new images e h = record {
   each = λ p q i. later (at old.items p) (at old.items q) (at new.items p) (at new.items q) (h.each p q i)
@@ -289,3 +289,25 @@ pub no_images : (by : Change) (items : List Item) (images : Images) → ((p : �
     → AreChanged by items images
 no_images by items images h =
     record { each = λ p q e. absurd (none_some q (image_in images p) (h p) e) }
+
+-- the environment that was changed, and the id for it
+pub env_made : (by : Change) (old new : Graph) (images : Images) (id made : EnvId) → HasEnv old id → Extends old new
+    → AreChanged by new.items images → image_in images id.place ≡ Some made.place → IsChangedEnv by old id new made
+env_made by old new images id made h e c i =
+    let given : GivesEnv old new (changed by (env_at old id)) made = env_given by old new images id made h e c i in
+    record { there = given.there; stands = given.stands }
+
+pub env_kept : (by : Change) (old new : Graph) (id made : EnvId) → Extends old new → IsChangedEnv by old id new made
+    → GivesEnv old new (changed by (env_at old id)) made
+env_kept by old new id made e h = record {
+  there = h.there;
+  stands = h.stands;
+  keeps = keeps old new e;
+  home = e.home;
+  made = e.made;
+}
+
+pub env_kept_ok : {E : Type 0} (by : Change) (old new : Graph) (id : EnvId) (r : Result EnvId E) → Extends old new
+    → IfOk r (IsChangedEnv by old id new) → IfOk r (GivesEnv old new (changed by (env_at old id)))
+env_kept_ok by old new id (Ok made) e h = env_kept by old new id made e h
+env_kept_ok by old new id (Err fault) e h = tt

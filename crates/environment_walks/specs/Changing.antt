@@ -7,6 +7,8 @@ use Rattle.env_parts.specs.declared.tables.EnvTables.{EnvTables}
 use Rattle.sml_modules.specs.declared.node.Node.{Node}
 use Rattle.sml_modules.specs.Items.{Item, at}
 use Rattle.sml_modules.specs.Nodes.{node_item, IsNodeAfter, env_of_tables, AreEnvTables}
+use Rattle.sml_modules.specs.declared.id.EnvId.{EnvId}
+use Rattle.sml_modules.specs.Graphs.{Graph, env_at, HasEnv}
 use Rattle.realisation.specs.Environments.{Change, changed_type, changed_value, changed}
 use Rattle.environment_walks.specs.declared.places.Images.{Images}
 
@@ -59,3 +61,8 @@ abbrev pub MakesTables : Change → List Item → ℕ → Option EnvTables → T
 MakesTables by items place None = IsChanged by (at items place) (at items place)
 MakesTables by items place (Some tables) =
     AreEnvTables items tables × IsChanged by (at items place) (Item.EnvItem (env_of_tables items tables))
+
+-- an id stands for what an environment of an older graph becomes
+pub record IsChangedEnv (by : Change) (old : Graph) (env : EnvId) (new : Graph) (made : EnvId) : Type 0 where
+  pub there : HasEnv new made
+  pub stands : env_at new made ≡ changed by (env_at old env)

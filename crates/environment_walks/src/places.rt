@@ -9,13 +9,13 @@ use std::alloc::Global;
 
 /// Some places of a graph, each with another one, its image.
 #[derive(Drop)]
-pub(crate) struct Images {
+pub struct Images {
     places: IndexMap<usize, usize>,
 }
 
 impl Images {
     /// No place has an image.
-    pub(crate) fn new(alloc: Global) -> Images
+    pub fn new(alloc: Global) -> Images
         ensures { (p : ℕ) → image_in result p ≡ None }
     {
         Images {
@@ -24,7 +24,7 @@ impl Images {
     }
 
     /// The image of a place.
-    pub(crate) fn of(&self, place: usize) -> Option<usize>
+    pub fn of(&self, place: usize) -> Option<usize>
         ensures { result ≡ image_in self.now place }
     {
         match self.places.get(&place) {
@@ -34,7 +34,7 @@ impl Images {
     }
 
     /// An image for a place.
-    pub(crate) fn set(&mut self, place: usize, image: usize) -> Result<(), NoMemory>
+    pub fn set(&mut self, place: usize, image: usize) -> Result<(), NoMemory>
         ensures { OnOk result (
             (p : ℕ) → image_in self.new p ≡ cond (nat_eq place p) (Some image) (image_in self.old p)
             ) }

@@ -23,7 +23,7 @@ fn image_at(images: &Images, places: &List<usize>, at: usize) -> Result<usize, N
 }
 
 /// Rows with the images in place of their places.
-pub(crate) fn mapped_rows(alloc: Global, images: &Images, rows: &Rows) -> Result<Rows, NoMemory>
+pub fn mapped_rows(alloc: Global, images: &Images, rows: &Rows) -> Result<Rows, NoMemory>
     ensures { IfOk result (AreMapped images.now rows.now) }
 {
     let names = rows.names(alloc)?;

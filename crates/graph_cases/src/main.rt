@@ -8,6 +8,7 @@ mod printed_types;
 mod read_types;
 mod scene;
 mod steps_of_envs;
+mod steps_of_interfaces;
 mod steps_of_names;
 mod steps_of_tops;
 mod steps_of_walks;

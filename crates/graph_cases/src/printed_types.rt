@@ -6,11 +6,13 @@ use semantic_objects::{Owner, Symbol, TyName, TypeNode, TypeTree};
 use std::alloc::Global;
 
 /// The letter of a type name, and a question mark where it has none.
-fn name_letter(name: &TyName) -> &'static [u8] {
+pub fn name_letter(name: &TyName) -> &'static [u8] {
     match &name.owner {
         Owner::Basis => match name.number {
+            0 => b"n",
             1 => b"i",
             4 => b"l",
+            7 => b"x",
             _ => b"?",
         },
         Owner::Unit(_) => match name.number {
@@ -28,6 +30,7 @@ fn name_letter(name: &TyName) -> &'static [u8] {
 fn symbol_letter(symbol: &Symbol) -> &'static [u8] {
     match symbol {
         Symbol::Arrow => b">",
+        Symbol::Record(labels) if labels.len() == 2 => b"*",
         Symbol::Record(_) => b"?",
         Symbol::Name(name) => name_letter(name),
     }

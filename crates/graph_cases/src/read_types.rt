@@ -1,29 +1,22 @@
 //! Types as a case writes them, the parts before what stands over them: `0` to `9` for the variables of a scheme, `a`
-//! to `h` for those of a table, `i`, `m` and `u` for type names of the basis, of a binder and of a unit, `l` for
-//! lists of one, `k` for another name of the unit over one, `p` for another one of the binder over two, `>` for
-//! functions of two.
+//! to `h` for those of a table, `n`, `i` and `x` for `int`, `bool` and `exn`, `m` for a name of a binder, `u` and `w`
+//! for the first and the third name of a unit and `o` for the first one of another, `l` for lists of one, `k` for the
+//! second name of the unit over one, `p` for another one of the binder over two, `>` for functions of two, and `*` for
+//! pairs of two.
 
-ghost use Rattle.std.specs.Prelude.{IsTrue};
+ghost use Rattle.std.specs.Prelude.{◌≡◌, IsTrue, IfOk};
 ghost use Rattle.semantic_objects.specs.Trees.{BindsBelow};
 ghost use Rattle.graph_cases.specs.Below.{IsNodeBelow};
 
 use cm_base::{List, NoMemory, Text};
-use semantic_objects::{Owner, TreePart, TyId, TyName, TypeNode, TypeTree};
+use semantic_objects::{Owner, TreeField, TreePart, TyId, TyName, TypeNode, TypeTree};
 use std::alloc::Global;
 
-/// The unit that owns the names written as `u`.
-pub const UNIT: &[u8] = b"a.sml";
+/// The unit that owns the names written as `u`, `k` and `w`.
+const UNIT: &[u8] = b"a.sml";
 
-/// A type name without arguments.
-fn name_tree(alloc: Global, owner: Owner, number: u64) -> Result<TypeTree, NoMemory> {
-    let name = TyName {
-        owner,
-        number,
-        arity: 0,
-        eq: true,
-    };
-    TypeTree::make(alloc, TreePart::Named(name, List::new(alloc)))
-}
+/// The unit that owns the name written as `o`.
+const OTHER: &[u8] = b"b.sml";
 
 /// A type name over one type.
 fn over_one(
@@ -64,38 +57,67 @@ fn over_two(alloc: Global, stack: &mut List<TypeTree>) -> Result<Option<TypeTree
 
 /// The name that a letter writes, if it writes one.
 pub fn name_of(alloc: Global, letter: u8) -> Result<Option<TyName>, NoMemory> {
-    let unit = Text::from_bytes(alloc, UNIT)?;
+    let unit = Text::from_bytes(alloc, if letter == b'o' { OTHER } else { UNIT })?;
     let (owner, number, arity) = match letter {
+        b'n' => (Owner::Basis, 0, 0),
         b'i' => (Owner::Basis, 1, 0),
         b'l' => (Owner::Basis, 4, 1),
+        b'x' => (Owner::Basis, 7, 0),
         b'm' => (Owner::Bound, 0, 0),
         b'p' => (Owner::Bound, 1, 2),
-        b'u' => (Owner::Unit(unit), 0, 0),
+        b'u' | b'o' => (Owner::Unit(unit), 0, 0),
         b'k' => (Owner::Unit(unit), 1, 1),
+        b'w' => (Owner::Unit(unit), 2, 0),
         _ => return Ok(None),
     };
     Ok(Some(TyName {
         owner,
         number,
         arity,
-        eq: true,
+        eq: letter != b'x',
     }))
+}
+
+/// The type name that a letter writes, if it writes one without arguments.
+fn name_tree(alloc: Global, letter: u8) -> Result<Option<TypeTree>, NoMemory> {
+    match name_of(alloc, letter)? {
+        Some(name) if name.arity == 0 => {
+            let part = TreePart::Named(name, List::new(alloc));
+            Ok(Some(TypeTree::make(alloc, part)?))
+        }
+        _ => Ok(None),
+    }
 }
 
 /// A type of one letter.
 fn leaf_tree(alloc: Global, letter: u8) -> Result<Option<TypeTree>, NoMemory> {
-    let tree = match letter {
-        b'0'..=b'9' => TypeTree::make(alloc, TreePart::Bound(u32::from(letter - b'0')))?,
-        b'a'..=b'h' => {
-            let variable = TyId::Variable(usize::from(letter - b'a'));
-            TypeTree::make(alloc, TreePart::Free(variable))?
-        }
-        b'i' => name_tree(alloc, Owner::Basis, 1)?,
-        b'm' => name_tree(alloc, Owner::Bound, 0)?,
-        b'u' => name_tree(alloc, Owner::Unit(Text::from_bytes(alloc, UNIT)?), 0)?,
-        _ => return Ok(None),
+    let part = match letter {
+        b'0'..=b'9' => TreePart::Bound(u32::from(letter - b'0')),
+        b'a'..=b'h' => TreePart::Free(TyId::Variable(usize::from(letter - b'a'))),
+        _ => return name_tree(alloc, letter),
     };
-    Ok(Some(tree))
+    Ok(Some(TypeTree::make(alloc, part)?))
+}
+
+/// A field of a record type.
+fn field_of(alloc: Global, label: &[u8], part: TypeTree) -> Result<TreeField, NoMemory>
+    ensures { IfOk result (λ field. field.label ≡ label.now) }
+{
+    let label = Text::from_bytes(alloc, label)?;
+    Ok(TreeField { label, part })
+}
+
+/// A pair of the last two types: a record type whose labels are `1` and `2`.
+fn pair_tree(alloc: Global, stack: &mut List<TypeTree>) -> Result<Option<TypeTree>, NoMemory> {
+    match (stack.pop(), stack.pop()) {
+        (Some(second), Some(first)) => {
+            let mut fields = List::new(alloc);
+            fields.add(field_of(alloc, b"1", first)?)?;
+            fields.add(field_of(alloc, b"2", second)?)?;
+            Ok(Some(TypeTree::make(alloc, TreePart::Record(fields))?))
+        }
+        _ => Ok(None),
+    }
 }
 
 /// A function type of the last two types.
@@ -114,6 +136,7 @@ fn letter_tree(
 ) -> Result<Option<TypeTree>, NoMemory> {
     match letter {
         b'>' => arrow_tree(alloc, stack),
+        b'*' => pair_tree(alloc, stack),
         b'l' => match stack.pop() {
             Some(item) => Ok(Some(over_one(alloc, Owner::Basis, 4, item)?)),
             None => Ok(None),

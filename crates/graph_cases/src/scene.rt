@@ -178,6 +178,9 @@ impl Scene for GraphScene {
         if let Some(out) = self.walk_step(step, words)? {
             return Ok(Some(out));
         }
+        if let Some(out) = self.interface_step(step, words)? {
+            return Ok(Some(out));
+        }
         self.growth_step(step, words)
     }
 }

@@ -1,11 +1,14 @@
 //! Steps that walk whole environments, and steps that make deep and shared ones.
 
 use crate::entries::{read_function, read_value};
+use crate::printed_types::name_letter;
 use crate::read_types::name_of;
-use crate::scene::{GraphScene, env_of};
-use case_files::number_of;
+use crate::scene::{GraphScene, env_of, top_of};
+use canonical_walks::canon;
+use case_files::{Part, number_of, push_parts};
 use cm_base::{List, NoMemory, Text};
 use environment_walks::{Realisation, Replace, realise};
+use name_walks::names_of;
 use sml_modules::EnvId;
 use std::alloc::Global;
 
@@ -46,6 +49,31 @@ impl GraphScene {
         };
         let id = realise(&mut self.graph, env, &by)?;
         self.number_of_env(id)
+    }
+
+    /// The letters of the type names that occur in an environment.
+    fn names_of(&self, env: &Text) -> Result<Option<Vec<u8>>, NoMemory> {
+        let Some(env) = env_of(&self.graph, &self.envs, env) else {
+            return Ok(None);
+        };
+        let names = names_of(&self.graph, env)?;
+        let mut out = Vec::new(self.alloc);
+        push_parts(self.alloc, &mut out, &[Part::Text(b"names")])?;
+        for name in names.as_slice() {
+            let parts = [Part::Text(b" "), Part::Text(name_letter(name))];
+            push_parts(self.alloc, &mut out, &parts)?;
+        }
+        push_parts(self.alloc, &mut out, &[Part::Text(b"\n")])?;
+        Ok(Some(out))
+    }
+
+    /// The canonical form of a top.
+    fn canon(&mut self, top: &Text) -> Result<Option<Vec<u8>>, NoMemory> {
+        let Some(top) = top_of(&self.graph, &self.tops, top) else {
+            return Ok(None);
+        };
+        let id = canon(&mut self.graph, top)?;
+        self.keep_top(id)
     }
 
     /// An environment with one structure more, and the same one where an id is none of the graph.
@@ -96,6 +124,8 @@ impl GraphScene {
     pub fn walk_step(&mut self, step: &[u8], words: &[Text]) -> Result<Option<Vec<u8>>, NoMemory> {
         match (step, words) {
             (b"realise", [env, words @ ..]) => self.realise(env, words),
+            (b"names-of", [env]) => self.names_of(env),
+            (b"canon", [top]) => self.canon(top),
             (b"doubled", [count]) => match number_of(count.as_bytes()) {
                 Some(count) => self.doubled(count),
                 None => Ok(None),

@@ -1,15 +1,11 @@
-use Rattle.std.proofs.Common.{sym, ◌∙◌}
-use Rattle.sml_modules.specs.declared.id.EnvId.{EnvId}
 use Rattle.type_walks.specs.Replaced.{replacing}
-use Rattle.environment_walks.proofs.Changes.{no_images, env_given}
+use Rattle.environment_walks.proofs.Changes.{no_images, env_kept_ok}
 use Rattle.environment_walks.proofs.realising.walked.Goals as goal
 
-pub walk-requires : goal.walk-requires
-walk-requires c =
+pub change_env-requires-clause-changed : goal.change_env-requires-clause-changed
+change_env-requires-clause-changed c =
     no_images (replacing c.args.by.now) c.args.graph.now.items c.new-images.result (λ p. c.new-images.ensures p)
 
-pub returns-in-Some-clause-gives : goal.returns-in-Some-clause-gives
-returns-in-Some-clause-gives c =
-    let made : EnvId = record { place = c.in-Some.place } in
-    env_given (replacing c.args.by.now) c.args.graph.now c.walk.new.graph c.walk.new.images c.args.env made c.requires
-    c.walk.ensures.extends c.in_ok-walk.ensures.changed (sym c.of.ensures ∙ c.in-Some.is)
+pub returns-clause-gives : goal.returns-clause-gives
+returns-clause-gives c = env_kept_ok (replacing c.args.by.now) c.args.graph.now c.change_env.new.graph c.args.env
+    c.change_env.result c.change_env.ensures.extends c.change_env.ensures.env

@@ -1,0 +1,3 @@
+pub mod Orders
+pub mod Variables
+pub mod Canonicals

@@ -1,0 +1,13 @@
+pub mod OwnTypes
+pub mod Naming
+pub mod Consing
+pub mod Dating
+pub mod Wanting
+pub mod Choosing
+pub mod Declaring
+pub mod Settling
+pub mod Entering
+pub mod Made
+pub mod Binding
+pub mod Bounding
+pub mod Finishing

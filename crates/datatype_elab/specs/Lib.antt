@@ -1,0 +1,9 @@
+pub mod OwnTypes
+pub mod Reading
+pub mod Listing
+pub mod Wants
+pub mod Choosing
+pub mod Declaring
+pub mod Making
+pub mod Binding
+pub mod Leaving

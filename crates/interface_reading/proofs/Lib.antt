@@ -1,0 +1,5 @@
+pub mod Bounds
+pub mod Inside
+pub mod Moves
+pub mod Named
+pub mod Awaited

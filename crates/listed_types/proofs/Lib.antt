@@ -1,0 +1,4 @@
+pub mod Mapping
+pub mod Closing
+pub mod Firmness
+pub mod FirmPhrases

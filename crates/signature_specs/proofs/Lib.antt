@@ -1,0 +1,5 @@
+pub mod Specifying
+pub mod Listing
+pub mod Valuing
+pub mod Excepting
+pub mod Typing

@@ -1,0 +1,25 @@
+use Rattle.std.specs.Option.{is_some}
+use Rattle.semantic_objects.specs.Environments.{empty_env, with_value}
+use Rattle.name_trails.specs.Trails.{last_entry}
+use Rattle.static_semantics.specs.Inferring.{name_at}
+use Rattle.signature_specs.specs.Specs.{signature_so_far, env_so_far}
+use Rattle.signature_specs.proofs.Specifying.{not_specified, is_specified, value_is, value_set}
+use Rattle.signature_specs.proofs.specified.specify_value.Goals as goal
+
+pub returns-in_err-check_new-clause-infers : goal.returns-in_err-check_new-clause-infers
+returns-in_err-check_new-clause-infers c = λ inner home.
+    let name = c.args.name.now.text in
+    not_specified inner (name_at c.args.name.now) (with_value name c.args.entry empty_env)
+    (signature_so_far c.args.g.now c.args.made.now) (is_some (last_entry c.args.made.now.values name)) _
+    c.in_err-check_new.field-0.0 c.from_residual.result c.from_residual.ensures.1
+    (value_is c.args.g.now c.args.made.now name c.args.entry) (c.in_err-check_new.ensures inner home)
+
+pub returns-clause-infers : goal.returns-clause-infers
+returns-clause-infers c = λ inner home.
+    let name = c.args.name.now.text in
+    is_specified inner (name_at c.args.name.now) (with_value name c.args.entry empty_env)
+    (signature_so_far c.args.g.now c.args.made.now) (is_some (last_entry c.args.made.now.values name))
+    (env_so_far c.args.g.now (record c.args.made.now { values = c.bind.new.self }))
+    (value_is c.args.g.now c.args.made.now name c.args.entry) (c.in_ok-check_new.ensures inner home)
+    (value_set c.args.g.now c.args.made.now name c.args.entry c.in_ok-text.text c.bind.new.self c.in_ok-text.ensures
+    c.in_ok-bind.ensures.ok)

@@ -1,0 +1,4 @@
+pub mod Specs
+pub mod Variables
+pub mod Steps
+pub mod Types

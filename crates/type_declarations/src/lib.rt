@@ -1,0 +1,8 @@
+//! What `type` declarations bind.
+#![tactic(auto)]
+
+mod bindings;
+mod functions;
+mod lists;
+
+pub use bindings::elab_types;
