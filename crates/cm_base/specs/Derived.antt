@@ -6,6 +6,10 @@ use Rattle.std.specs.List.{before_first, after_last, slice_split, join_with_byte
 use Rattle.std.specs.Option.{option_map_or}
 use Rattle.cm_base.specs.ByteClasses.{between, is_letter, is_identifier_byte, capital}
 
+-- the classes and rules of the tools of a box, in its order: what a project depends on beside its files
+abbrev pub ToolRules : Type 0
+ToolRules = List (List ℕ × List ℕ)
+
 -- a name that begins with a capital: its first letter made one, or `X` before it where it begins with none
 abbrev pub with_capital : List ℕ → List ℕ
 with_capital [] = 88 ∷ []

@@ -21,8 +21,9 @@ use Rattle.group_loader.specs.declared.fault.LoadFault.{LoadFault}
 use Rattle.group_loader.specs.declared.fault.LoadFault.TheVariants as plain
 use Rattle.group_loader.proofs.Fronts.{by_front}
 use Rattle.std.specs.Option.{option_map}
+use Rattle.cm_base.specs.Derived.{ToolRules}
 use Rattle.tool_deriving.specs.Deriving.{ToolState, ToolUse, tool_use}
-use Rattle.tool_deriving.specs.Toolboxes.{ToolRules, is_built_in, rules_of}
+use Rattle.tool_deriving.specs.Toolboxes.{is_built_in, rules_of}
 use Rattle.member_deriving.specs.Classes.{IsToolOf, rule_named}
 use Rattle.member_deriving.proofs.Naming.{built_in_none}
 use Rattle.member_deriving.specs.Sources.{Texts, source_by, texts_over_stores, used_within}

@@ -3,6 +3,7 @@ use Rattle.std.proofs.Common.{◌≡◌, ◌∙◌, ap, sym, subst, refl, ℕ, s
 use Rattle.std.specs.Prelude.{IsErrAnd, filter, not, slice_get}
 use Rattle.std.specs.List.{filter_map, cons_option}
 use Rattle.std.proofs.lemmas.List.{drop_all}
+use Rattle.cm_base.specs.Derived.{ToolRules}
 use Rattle.cm_base.specs.Calls.{Gives}
 use Rattle.cm_base.specs.Causes.{HasCause}
 use Rattle.cm_base.specs.Files.{Files, Told}
@@ -22,7 +23,7 @@ use Rattle.group_loader.specs.StepsInARow.{with_source_of}
 use Rattle.group_loader.specs.declared.fault.LoadFault.{LoadFault}
 use Rattle.group_loader.specs.declared.fault.LoadFault.TheVariants as plain
 use Rattle.tool_deriving.specs.Deriving.{ToolState}
-use Rattle.tool_deriving.specs.Toolboxes.{ToolRules, is_built_in, rules_of}
+use Rattle.tool_deriving.specs.Toolboxes.{is_built_in, rules_of}
 use Rattle.member_deriving.specs.Uses.{Outcome, Work, outcome, ◌>>◌}
 use Rattle.box_deriving.specs.Boxes.{InStep, Origin, rules_in}
 use Rattle.tool_loading.specs.Projects.{Entering, entered_within, tool_of, with_classed, with_member, with_member_of, with_members, with_plain_member, with_tool_member}

@@ -1,12 +1,13 @@
 -- What a loading that uses tools answers and leaves, from any point of it on.
 use Rattle.std.specs.Prelude.{ℕ, ◌≡◌, List, Option, Some, map, slice_get, Result, Err}
+use Rattle.cm_base.specs.Derived.{ToolRules}
 use Rattle.cm_base.specs.Causes.{HasCause, Rose, one_more}
 use Rattle.cm_base.specs.Files.{Files}
 use Rattle.cm_base.specs.declared.diag.Diag.{Diag}
 use Rattle.cm_base.specs.declared.record.Def.{Def}
 use Rattle.path_anchors.specs.Names.{Bindings}
 use Rattle.tool_deriving.specs.Deriving.{ToolState, tool_state}
-use Rattle.tool_deriving.specs.Toolboxes.{ToolRules, rules_of}
+use Rattle.tool_deriving.specs.Toolboxes.{rules_of}
 use Rattle.member_deriving.specs.Uses.{Outcome, Work, ran_more}
 use Rattle.box_deriving.specs.Boxes.{CutOff, InStep, Origin, Went, World, rules_in, world_of}
 use Rattle.tool_loading.specs.Projects.{Setting, setting_by, store_means}

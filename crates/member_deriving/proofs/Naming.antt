@@ -3,7 +3,8 @@ use Rattle.std.proofs.Common.{◌≡◌, ◌≢◌, ◌∙◌, ap, sym, refl, �
 use Rattle.std.specs.Prelude.{nat_eq, slice_get, MatchOption}
 use Rattle.std.specs.Cmp.Lexicographic.{pointwise, nat_list_eq_equiv, same_text}
 use Rattle.std.proofs.lemmas.List.Elements.{All-head, All-tail}
-use Rattle.tool_deriving.specs.Toolboxes.{ToolRules, is_built_in, rules_of, NoneHas, IsPlaceOf}
+use Rattle.cm_base.specs.Derived.{ToolRules}
+use Rattle.tool_deriving.specs.Toolboxes.{is_built_in, rules_of, NoneHas, IsPlaceOf}
 use Rattle.member_deriving.specs.Classes.{rule_named, IsToolOf}
 use Rattle.member_deriving.specs.Laws.{BuiltInHaveNoTool}
 

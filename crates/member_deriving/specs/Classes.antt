@@ -1,7 +1,8 @@
 -- Which tool a class of members has.
 use Rattle.std.specs.Prelude.{ℕ, ◌≡◌, nat_eq, if◌then◌else◌, List, [], ◌∷◌, Option, None, Some}
 use Rattle.std.specs.Cmp.Lexicographic.{pointwise}
-use Rattle.tool_deriving.specs.Toolboxes.{ToolRules, rules_of, IsPlaceOf}
+use Rattle.cm_base.specs.Derived.{ToolRules}
+use Rattle.tool_deriving.specs.Toolboxes.{rules_of, IsPlaceOf}
 
 -- the rule of the tool of a class, among the classes and rules of a box; none where no tool has it
 abbrev pub rule_named : ToolRules → List ℕ → Option (List ℕ)

@@ -25,8 +25,9 @@ pub enum FullStrExp {
     Opaque(Boxed<FullStrExp>, FullSigExp, At),
     /// A functor with a structure expression as its argument.
     Functor(Name, Boxed<FullStrExp>, At),
-    /// A functor with declarations as its argument.
-    FunctorOfDecs(Name, List<FullStrDec>, At),
+    /// A functor with declarations as its argument, with the place of their first word, a semicolon too (where there is
+    /// none, that of the functor), and the place of the whole.
+    FunctorOfDecs(Name, List<FullStrDec>, At, At),
     Within(List<FullStrDec>, Boxed<FullStrExp>, At),
 }
 

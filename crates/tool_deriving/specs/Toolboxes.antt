@@ -1,10 +1,7 @@
 -- A box of tools, over the list of its tools and what class and rule each of them has.
 use Rattle.std.specs.Prelude.{ℕ, ◌≡◌, ◌≢◌, ◌||◌, Bool, not, nat_eq, List, ◌∷◌, [], ◌++◌, take, map, filter, codes, slice_get, set, Option, None, Some, Result, Ok, Err, All}
 use Rattle.std.specs.Cmp.Lexicographic.{pointwise}
-
--- the classes and rules of a box, in its order
-abbrev pub ToolRules : Type 0
-ToolRules = List (List ℕ × List ℕ)
+use Rattle.cm_base.specs.Derived.{ToolRules}
 
 -- the classes of sources and of descriptions, which are no tool's whatever a box has
 unfoldable pub is_built_in : List ℕ → Bool

@@ -1,6 +1,7 @@
 -- Loadings that go alike: by two means that read the same of the names that loading goes by, and give the same texts.
 use Rattle.std.proofs.Common.{◌≡◌, ◌∙◌, ap, ap₂, refl, ℕ, zero, suc, List, [], ◌∷◌, length, Bool, true, false, Option, Some, None, Result, Ok, Err, if◌then◌else◌}
 use Rattle.std.specs.Prelude.{is_some}
+use Rattle.cm_base.specs.Derived.{ToolRules}
 use Rattle.cm_base.specs.Diags.{whole_file, ◌>>=◌}
 use Rattle.cm_base.specs.declared.diag.Diag.{Diag}
 use Rattle.cm_base.specs.declared.diag.Place.{Place}
@@ -18,7 +19,6 @@ use Rattle.project_loading.specs.declared.found.Found.{Found}
 use Rattle.project_loading.proofs.Levels.{went_on}
 use Rattle.loading_laws.proofs.Outside.{goes_by_names}
 use Rattle.tool_deriving.specs.Deriving.{ToolUse, tool_use}
-use Rattle.tool_deriving.specs.Toolboxes.{ToolRules}
 use Rattle.member_deriving.specs.Sources.{if_within, source_by, used_within, within_source}
 use Rattle.member_deriving.specs.Uses.{Outcome, Work, outcome, with_use}
 use Rattle.tool_loading.specs.Projects.{Entering, Means, Setting, described, entered, entered_within, file_in, no_options, reached_from, setting_by, tool_member_name, tool_of, with_chosen, with_classed, with_derived, with_described, with_entered, with_member, with_member_of, with_members, with_met, with_plain_member, with_root, with_tool_member, with_use_of, without_options}

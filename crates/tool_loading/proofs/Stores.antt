@@ -1,6 +1,7 @@
 -- The store is never read, and over true records loading over the store is loading by rules.
 use Rattle.std.proofs.Common.{◌≡◌, ◌≢◌, ◌∙◌, ap, sym, refl, ℕ, List, [], ◌∷◌, ◌++◌, Bool, true, false, Result, if◌then◌else◌}
 use Rattle.std.specs.FinMap.{get}
+use Rattle.cm_base.specs.Derived.{ToolRules}
 use Rattle.cm_base.specs.Diags.{◌>>=◌}
 use Rattle.cm_base.specs.Files.{Files, is_stored, project_part}
 use Rattle.cm_base.specs.declared.diag.Diag.{Diag}
@@ -18,7 +19,6 @@ use Rattle.project_loading.specs.Projects.{bound_by, frozen}
 use Rattle.loading_laws.specs.Laws.{SameProjectFiles}
 use Rattle.loading_laws.proofs.Outside.{anchors_bound, config_outside, names_outside, part_same}
 use Rattle.tool_deriving.specs.Deriving.{ToolUse, record_of_use, uses, after_use}
-use Rattle.tool_deriving.specs.Toolboxes.{ToolRules}
 use Rattle.tool_deriving.proofs.Runs.{text_is}
 use Rattle.tool_deriving.proofs.Truth.{use_keeps_true}
 use Rattle.member_deriving.specs.Laws.{HasTrueRecords}

@@ -1,5 +1,6 @@
 -- Without tools, loading is that of folders whose members are of no tool's class.
 use Rattle.std.proofs.Common.{◌≡◌, ◌∙◌, ap, sym, refl, ℕ, zero, suc, List, [], ◌∷◌, length, Bool, true, false, cond, Option, Some, None, Result, Ok, Err, if◌then◌else◌}
+use Rattle.cm_base.specs.Derived.{ToolRules}
 use Rattle.cm_base.specs.Diags.{whole_file, ◌>>=◌}
 use Rattle.cm_base.specs.Files.{Files}
 use Rattle.cm_base.specs.declared.diag.Diag.{Diag}
@@ -18,7 +19,7 @@ use Rattle.project_loading.specs.declared.classes.Class.{Class}
 use Rattle.project_loading.specs.declared.classes.Class.TheVariants as classes
 use Rattle.project_loading.specs.declared.found.Found.{Found}
 use Rattle.project_loading.proofs.Levels.{none_left, one_level}
-use Rattle.tool_deriving.specs.Toolboxes.{ToolRules, is_built_in}
+use Rattle.tool_deriving.specs.Toolboxes.{is_built_in}
 use Rattle.member_deriving.specs.Uses.{Outcome, Work, outcome, work_of}
 use Rattle.tool_loading.specs.Laws.{LoadingWithoutTools}
 use Rattle.tool_loading.specs.Projects.{Entering, Setting, entered, entered_within, file_in, plain_means, reached_from, reached_in, setting_by, tool_of, tool_of_class, with_chosen, with_classed, with_described, with_entered, with_member, with_member_of, with_members, with_met, with_plain_member, with_root}

@@ -1,12 +1,12 @@
 -- The laws of loading with tools.
 use Rattle.std.specs.Prelude.{ℕ, ◌≡◌, ◌≤◌, Bool, List, []}
+use Rattle.cm_base.specs.Derived.{ToolRules}
 use Rattle.cm_base.specs.Files.{Files, project_part}
 use Rattle.cm_base.specs.declared.diag.Place.{Place}
 use Rattle.cm_base.specs.declared.record.Def.{Def}
 use Rattle.loading_laws.specs.Laws.{SameProjectFiles}
 use Rattle.project_checks.specs.declared.progress.Progress.{Progress}
 use Rattle.project_loading.specs.Projects as plain
-use Rattle.tool_deriving.specs.Toolboxes.{ToolRules}
 use Rattle.member_deriving.specs.Laws.{HasTrueRecords}
 use Rattle.member_deriving.specs.Uses.{Work, after_uses, outcome, work_of}
 use Rattle.tool_loading.specs.Projects.{Setting, entered, entered_within, loaded_over, project_of, tool_uses, with_entered}

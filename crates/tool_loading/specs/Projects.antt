@@ -14,6 +14,7 @@
 use Rattle.std.specs.Prelude.{ℕ, zero, suc, Bool, false, is_some, List, [], ◌∷◌, length, Option, None, Some, Result, Ok, Err, if◌then◌else◌}
 use Rattle.std.specs.FinMap.{get}
 use Rattle.std.specs.Option.{option_map}
+use Rattle.cm_base.specs.Derived.{ToolRules}
 use Rattle.cm_base.specs.Diags.{whole_file, ◌>>=◌}
 use Rattle.cm_base.specs.Files.{Files}
 use Rattle.cm_base.specs.declared.diag.Diag.{Diag}
@@ -34,7 +35,7 @@ use Rattle.project_loading.specs.declared.classes.Class.{Class}
 use Rattle.project_loading.specs.declared.classes.Class.TheVariants as classes
 use Rattle.project_loading.specs.declared.found.Found.{Found}
 use Rattle.tool_deriving.specs.Deriving.{ToolUse, tool_use}
-use Rattle.tool_deriving.specs.Toolboxes.{ToolRules, is_built_in}
+use Rattle.tool_deriving.specs.Toolboxes.{is_built_in}
 use Rattle.member_deriving.specs.Classes.{rule_named}
 use Rattle.member_deriving.specs.Sources.{Texts, source_by, texts_by_rules, texts_over_stores}
 use Rattle.member_deriving.specs.Uses.{Outcome, Work, outcome, work_of, ◌>>◌}
