@@ -123,8 +123,11 @@ module _ (q : Nodes) where
 
   one_listed : (name m : TyName) (k : ℕ) → q (symbol.Name m) k ≡ true → is_listed name (m ∷ []) ≡ true → Stands name
   one_listed name m k h l = or_either (Rattle.semantic_objects.specs.Symbols.same_name name m) (is_listed name []) l
-      (λ e. (k, Rattle.std.proofs.Common.subst (λ z. q (symbol.Name z) k ≡ true)
-      (Rattle.std.proofs.Common.sym (name_is name m e)) h))
+      (λ e. (
+        k,
+        Rattle.std.proofs.Common.subst (λ z. q (symbol.Name z) k ≡ true)
+            (Rattle.std.proofs.Common.sym (name_is name m e)) h,
+      ))
       (λ e. nothing_listed name e)
 
   symbol_stands : (name : TyName) (c : Symbol) (k : ℕ) → q c k ≡ true → is_listed name (names_of_symbol c) ≡ true

@@ -67,8 +67,12 @@ pub record IsUnitFrom (home : List ℕ) (from to : ℕ) (name : TyName) : Type 0
   pub below : name.number < to
 
 unit_later : (home : List ℕ) (k to : ℕ) (n : TyName) → IsUnitFrom home (suc k) to n → IsUnitFrom home k to n
-unit_later home k to n h = record { owner = h.owner; from_on = (let l : suc k ≤ n.number = h.from_on in
-      omega (arith, l)); below = h.below }
+unit_later home k to n h = record {
+  owner = h.owner;
+  from_on = (let l : suc k ≤ n.number = h.from_on in
+      omega (arith, l));
+  below = h.below;
+}
 
 is_first : (home : List ℕ) (k : ℕ) (x : TyName) (xs : List TyName) (n : TyName)
     → n ≡ own_name home k x.arity x.eq → IsUnitFrom home k (k + length (x ∷ xs)) n
@@ -154,7 +158,10 @@ came [] news names n h = absurd (cc)
 came (old ∷ olds) [] names n h = absurd (cc)
 came (old ∷ olds) (new ∷ news) names n h =
     or_either (same_name n new && is_listed old names) (comes_from olds news names n) h
-    (λ e. (old, inl (refl, name_is n new (and_left (same_name n new) (is_listed old names) e)),
-    and_right (same_name n new) (is_listed old names) e))
+    (λ e. (
+      old,
+      inl (refl, name_is n new (and_left (same_name n new) (is_listed old names) e)),
+      and_right (same_name n new) (is_listed old names) e,
+    ))
     (λ e. let i : (m : TyName) × ArePaired olds news m n × (is_listed m names ≡ true) = came olds news names n e in
     (i.0, inr i.1, i.2))

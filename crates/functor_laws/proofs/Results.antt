@@ -137,7 +137,7 @@ module _ (home : List ℕ) (before : ℕ) (bound : List TyName) (names : List Ty
           ∙ (let a : length (bound_names (length bound) more) ≡ length more = bound_length (length bound) more in
           let b : length (unit_names home before bound) ≡ length bound = unit_length home before bound in
           let c : length bound + length (bound_names (length bound) more)
-              ≡ length (unit_names home before bound) + length more = omega (arith, a, b) in c)
+          ≡ length (unit_names home before bound) + length more = omega (arith, a, b) in c)
           ∙ sym (length-append (unit_names home before bound) more)
 
   out_realises : (more allowed : List TyName) → AreBoundFrom 0 bound → IsBeside allowed more

@@ -72,11 +72,14 @@ scope_inside good home top st s name h k =
     let f : More (open_below home s.1.names) q = open_inside home s.1.names (s.1.names + length s.0.bound) s.0.bound
     (unit_names home s.1.names s.0.bound) (names_in_env s.0.env) s.1.names (omega arith) in
     with_param good q top name s.0 (opened home s.0 s.1) st
-    (is_more good (open_below home s.1.names) q top st f a (h.open_ s.1.names (rises good home top st s k)))
-    (signature_more (open_below home s.1.names) q f s.0 p.1,
-    ((λ n. ty_both (open_below home s.1.names) (open_below home s.1.names) q (λ c parts i j. f c parts i)
-    (s.1.types.stands n) (p.0 n) (p.0 n)),
-    param_inside home s.1.names s.0 p.1.env))
+    (is_more good (open_below home s.1.names) q top st f a (h.open_ s.1.names (rises good home top st s k))) (
+      signature_more (open_below home s.1.names) q f s.0 p.1,
+      (
+        (λ n. ty_both (open_below home s.1.names) (open_below home s.1.names) q (λ c parts i j. f c parts i)
+            (s.1.types.stands n) (p.0 n) (p.0 n)),
+        param_inside home s.1.names s.0 p.1.env,
+      ),
+    )
 
 -- ---- functors
 
