@@ -1,5 +1,5 @@
 -- Environments that can be written.
-use Rattle.std.proofs.Common.{◌≡◌, ℕ, List, [], ◌∷◌, length, map, refl, ap, subst, Bool, true, ◌&&◌}
+use Rattle.std.proofs.Common.{◌≡◌, ℕ, List, [], ◌∷◌, length, map, refl, ap, subst, Bool, true}
 use Rattle.std.specs.Prelude.{All}
 use Rattle.std.proofs.lemmas.List.Elements.{All-nil, All-cons}
 use Rattle.semantic_objects.specs.declared.entry.ConEntry.{ConEntry}
@@ -11,7 +11,7 @@ use Rattle.semantic_objects.specs.Environments.{Env, Structures, table_of}
 use Rattle.unification.proofs.Walking.{and_left, and_right}
 use Rattle.static_semantics.specs.Holding.{AllItems, AllRows, ConHas, TypeHas, ValueHas, StructuresHave}
 use Rattle.inference_laws.specs.Nodes.{Nodes, SchemeOf, FunctionOf, EnvOf, IsGood}
-use Rattle.inference_laws.specs.Naming.{RowsWith, EnvWith, StructuresWith, NamedType, NamedValue, NamedEnv}
+use Rattle.inference_laws.specs.Naming.{RowsWith, StructuresWith, NamedType, NamedValue, NamedEnv}
 use Rattle.unit_semantics.specs.Promises.{IsClosedScheme, IsClosedFunction, IsClosedEnv}
 use Rattle.table_laws.specs.Rising.{con_table, RisingType, RisingEnv, RisingStructures}
 use Rattle.interface_format.specs.Rules.{IsNumber, IsName, AreNames}

@@ -1,5 +1,5 @@
 -- The type names that occur in what a unit defines: known ones, those that it made, and bound ones.
-use Rattle.std.proofs.Common.{◌≡◌, ℕ, suc, List, [], ◌∷◌, ◌++◌, length, filter, refl, sym, ap, ◌∙◌, subst, Bool, true, false, ◌||◌, ◌&&◌, not, cond, eqb, ◌⊎◌, inl, inr}
+use Rattle.std.proofs.Common.{◌≡◌, ℕ, suc, List, [], ◌∷◌, ◌++◌, length, filter, refl, sym, ap, ◌∙◌, subst, Bool, true, false, ◌&&◌, not, cond, eqb, ◌⊎◌, inl, inr}
 use Rattle.semantic_objects.proofs.Same.{text_same}
 use Rattle.semantic_objects.specs.declared.name.Owner.TheVariants as owner
 use Rattle.semantic_objects.specs.declared.name.TyName.{TyName}

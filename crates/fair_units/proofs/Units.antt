@@ -1,40 +1,37 @@
 -- What a unit defines is a fair top.
-use Rattle.std.proofs.Common.{◌≡◌, ℕ, List, [], ◌∷◌, ◌++◌, refl, ap, Some, None, Bool, true, false, ◌||◌, ◌&&◌, not, eqb, ◌⊎◌, inl, inr}
+use Rattle.std.proofs.Common.{◌≡◌, ℕ, List, [], ◌∷◌, ◌++◌, refl, ap, Some, None, Bool, true, ◌||◌, not, eqb, ◌⊎◌, inl, inr}
 use Rattle.std.specs.Prelude.{Ok, Err, All, ltb}
 use Rattle.std.proofs.lemmas.List.Elements.{All-nil, All-cons}
 use Rattle.semantic_objects.specs.declared.name.TyName.{TyName}
 use Rattle.semantic_objects.specs.declared.symbol.Symbol.TheVariants as symbol
 use Rattle.semantic_objects.specs.Tables.{Table}
-use Rattle.semantic_objects.specs.Environments.{Env, Signature, Functor, Top}
+use Rattle.semantic_objects.specs.Environments.{Signature, Functor, Top}
 use Rattle.unification.proofs.Walking.{and_right, and_both, not_both}
 use Rattle.realisation.specs.Names.{names_in_env, names_in_top, is_listed}
 use Rattle.realisation.specs.Canonical.{is_bound_name}
 use Rattle.static_semantics.specs.Inferring.{Progress, Answer}
 use Rattle.static_semantics.specs.DatatypeInference.{same_as_home}
-use Rattle.static_semantics.specs.Holding.{Given, AllItems, AllRows}
+use Rattle.static_semantics.specs.Holding.{Given, AllRows}
 use Rattle.static_semantics.proofs.TypesGrow.{given_more}
-use Rattle.inference_laws.specs.Nodes.{Nodes, IsGood}
+use Rattle.inference_laws.specs.Nodes.{IsGood}
 use Rattle.inference_laws.specs.Naming.{RowsWith}
 use Rattle.inference_laws.specs.WellFormed.{well_formed}
 use Rattle.inference_laws.specs.Promises.{GivesWellFormed}
 use Rattle.unit_semantics.specs.Promises.{IsClosedSignature, IsClosedFunctor, IsClosedTop, DefinesStructures}
-use Rattle.unit_semantics.specs.UnitPhrases.{TopPhrase}
 use Rattle.unit_semantics.specs.UnitInference.{with_given, infer_unit}
 use Rattle.unit_semantics.proofs.Promised.{define_structures, are_closed}
-use Rattle.unit_laws.specs.Naming.{TopNamed, NamedSignature, NamedFunctor, NamedTop}
+use Rattle.unit_laws.specs.Naming.{NamedSignature, NamedFunctor, NamedTop}
 use Rattle.unit_laws.specs.Parts.{allowing, SignatureOf, FunctorOf, TopOf}
-use Rattle.unit_laws.specs.Spelling.{TopSpelt}
 use Rattle.unit_laws.proofs.Promised.{More, is_more, known_below, units_keep_well_formed}
 use Rattle.unit_laws.proofs.Named.{units_keep_names}
 use Rattle.table_laws.specs.Rising.{RisingSignature, RisingFunctor, RisingTop}
 use Rattle.table_laws.proofs.Units.{units_keep_tables}
-use Rattle.interface_format.specs.Rules.{IsName}
 use Rattle.canonical_interfaces.specs.Fair.{IsFairSignatureRow, IsFairFunctor, IsFairFunctorRow, IsFairTop}
 use Rattle.functor_laws.specs.Promises.{open_below, TakesFromParameter, TakeFromParameters}
 use Rattle.functor_laws.proofs.Nodes.{open_admits}
 use Rattle.functor_laws.proofs.Units.{functors_take_from_parameters}
 use Rattle.fair_units.specs.Counts.{CountedSignature, CountedFunctor, CountedTop}
-use Rattle.fair_units.specs.Promises.{CanBeWritten, AreWritable, IsFairGiven, UnitsAreFair}
+use Rattle.fair_units.specs.Promises.{CanBeWritten, AreWritable, UnitsAreFair}
 use Rattle.fair_units.proofs.Shapes.{AreShaped, well_formed_shaped, allowing_shaped}
 use Rattle.fair_units.proofs.Envs.{table_names, env_fair}
 use Rattle.fair_units.proofs.Names.{known_in, listed_or_known, in_top, AreLater, later_names, fair_name, others_agree, none_kept}
