@@ -1,5 +1,12 @@
 pub mod Bounds
 pub mod Inside
 pub mod Moves
-pub mod Named
 pub mod Awaited
+pub mod Around
+pub mod Opens
+pub mod Moving
+pub mod Closing
+pub mod Weighing
+pub mod Advancing
+pub mod Added
+pub mod Beginning

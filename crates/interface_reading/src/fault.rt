@@ -2,7 +2,7 @@
 
 use cm_base::NoMemory;
 use cm_bytes::Short;
-use std::alloc::AllocError;
+use std::alloc::{AllocError, AllocFailed};
 use thiserror::Error;
 
 /// Why bytes aren't read as an interface.
@@ -43,6 +43,17 @@ impl From<AllocError> for RestoreFault {
     ghost from_gives = { λ _ fault. fault ≡ memory };
 
     fn from(_error: AllocError) -> Self {
+        RestoreFault::NoMemory
+    }
+}
+
+impl<T: Drop> From<AllocFailed<T>> for RestoreFault {
+    ghost use Rattle.std.specs.Prelude.{◌≡◌};
+    ghost use Rattle.interface_reading.specs.declared.fault.RestoreFault.TheVariants.{NoMemory as memory};
+
+    ghost from_gives = { λ _ fault. fault ≡ memory };
+
+    fn from(_error: AllocFailed<T>) -> Self {
         RestoreFault::NoMemory
     }
 }

@@ -1,11 +1,12 @@
-//! The bytes of an interface as a list of nodes, and what is asked of each of them.
+//! The bytes of an interface are read as a table of nodes.
 #![tactic(auto)]
 
 mod fault;
 pub mod laws;
-mod names;
 mod needs;
 mod open;
+mod reading;
+mod rows;
 
 pub use fault::RestoreFault;
-pub use names::{are_names, is_name};
+pub use rows::read_rows;

@@ -1,8 +1,9 @@
 //! What is awaited in a node behind what was read of it.
 
-ghost use Rattle.std.specs.Prelude.{◌≡◌, [], ◌∷◌, length, IfOk};
+ghost use Rattle.std.specs.Prelude.{◌≡◌, ◌<◌, [], ◌∷◌, length, IfOk};
 ghost use Rattle.node_bytes.specs.Shapes.{number};
 ghost use Rattle.interface_reading.specs.Needs.{NoBad, HasNeeds, TakesPiece};
+ghost use Rattle.interface_reading.specs.Weights.{needs_weight};
 
 use crate::fault::RestoreFault;
 use cm_base::{List, NoMemory, Text};
@@ -39,7 +40,8 @@ fn needs_from(alloc: Global, needs: &[Need]) -> Result<List<Need>, RestoreFault>
 
 /// What is awaited behind a tag. It is refused exactly where no node has that tag.
 pub(crate) fn needs_of(alloc: Global, tag: u8) -> Result<List<Need>, RestoreFault>
-    ensures { HasNeeds tag result }
+    ensures shape { HasNeeds tag result }
+    ensures few { IfOk result (λ needs. needs_weight needs < 64) }
 {
     match tag {
         1 => needs_from(alloc, &[Need::Raw(4)]),

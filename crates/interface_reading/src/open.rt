@@ -1,7 +1,8 @@
 //! Nodes that are open, and how what is awaited in them is met.
 
-ghost use Rattle.std.specs.Prelude.{OnOk};
+ghost use Rattle.std.specs.Prelude.{◌≤◌, ◌+◌, ℕ, List, OnOk};
 ghost use Rattle.interface_reading.specs.Meeting.{TakesByte, TakesCount, Meets, MeetsAtOnce, AwaitsItem};
+ghost use Rattle.interface_reading.specs.Weights.{IsLighter, needs_weight};
 ghost use Rattle.interface_reading.specs.declared.needs.Need.TheVariants as need;
 
 use crate::fault::RestoreFault;
@@ -39,7 +40,8 @@ pub(crate) fn meet_raw(
     reader: &mut Reader<'_>,
     top: &mut Open,
 ) -> Result<(), RestoreFault>
-    ensures { Meets (need.Raw n) result top.old top.new reader.old reader.new }
+    ensures goes { Meets (need.Raw n) result top.old top.new reader.old reader.new }
+    ensures less { OnOk result (IsLighter (need.Raw n) reader.old top.old.needs reader.new top.new.needs) }
 {
     read_piece(alloc, n, reader, &mut top.items)?;
     Ok(())
@@ -51,7 +53,8 @@ pub(crate) fn meet_text(
     reader: &mut Reader<'_>,
     top: &mut Open,
 ) -> Result<(), RestoreFault>
-    ensures { Meets need.Text result top.old top.new reader.old reader.new }
+    ensures goes { Meets need.Text result top.old top.new reader.old reader.new }
+    ensures less { OnOk result (IsLighter need.Text reader.old top.old.needs reader.new top.new.needs) }
 {
     let len = read_count(alloc, reader, &mut top.items)?;
     Ok(top.needs.add(Need::Raw(len))?)
@@ -64,7 +67,8 @@ pub(crate) fn meet_list(
     reader: &mut Reader<'_>,
     top: &mut Open,
 ) -> Result<(), RestoreFault>
-    ensures { Meets (need.List listed) result top.old top.new reader.old reader.new }
+    ensures goes { Meets (need.List listed) result top.old top.new reader.old reader.new }
+    ensures less { OnOk result (IsLighter (need.List listed) reader.old top.old.needs reader.new top.new.needs) }
 {
     let count = read_count(alloc, reader, &mut top.items)?;
     Ok(top.needs.add(Need::Items(listed, count))?)
@@ -72,7 +76,8 @@ pub(crate) fn meet_list(
 
 /// What an item of a list has is awaited.
 fn add_item(listed: Listed, needs: &mut List<Need>) -> Result<(), NoMemory>
-    ensures { OnOk result (AwaitsItem listed needs.old needs.new) }
+    ensures awaits { OnOk result (AwaitsItem listed needs.old needs.new) }
+    ensures few { OnOk result (needs_weight needs.new ≤ needs_weight needs.old + 3) }
 {
     needs.add(Need::Part)?;
     match listed {
@@ -87,7 +92,8 @@ fn add_item(listed: Listed, needs: &mut List<Need>) -> Result<(), NoMemory>
 
 /// So many items were awaited: one of them, and the others behind it.
 pub(crate) fn meet_items(listed: Listed, n: u32, top: &mut Open) -> Result<(), RestoreFault>
-    ensures { MeetsAtOnce (need.Items listed n) result top.old top.new }
+    ensures goes { MeetsAtOnce (need.Items listed n) result top.old top.new }
+    ensures less { (bytes : List ℕ) → OnOk result (IsLighter (need.Items listed n) bytes top.old.needs bytes top.new.needs) }
 {
     if n == 0 {
         return Ok(());
@@ -114,7 +120,8 @@ pub(crate) fn meet_owner(
     reader: &mut Reader<'_>,
     top: &mut Open,
 ) -> Result<(), RestoreFault>
-    ensures { Meets need.Owner result top.old top.new reader.old reader.new }
+    ensures goes { Meets need.Owner result top.old top.new reader.old reader.new }
+    ensures less { OnOk result (IsLighter need.Owner reader.old top.old.needs reader.new top.new.needs) }
 {
     let kind = read_byte(alloc, reader, &mut top.items)?;
     if kind == 2 {

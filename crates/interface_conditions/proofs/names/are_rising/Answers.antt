@@ -1,8 +1,8 @@
 use Rattle.std.proofs.Common.{◌≡◌, ◌<◌, ◌≤◌, ◌-◌, suc, refl, rules, arith, length, Some, subst}
 use Rattle.std.specs.Prelude.{slice_get}
 use Rattle.std.proofs.lemmas.Option.{slice_get_read}
-use Rattle.interface_reading.proofs.Named.{rises_all, rises_at, not_both}
-use Rattle.interface_reading.proofs.names.are_rising.Goals as goal
+use Rattle.interface_conditions.proofs.Named.{rises_all, rises_at, not_both}
+use Rattle.interface_conditions.proofs.names.are_rising.Goals as goal
 
 pub returns-then-not-is_before : goal.returns-then-not-is_before
 returns-then-not-is_before c = (

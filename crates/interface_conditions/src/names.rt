@@ -7,7 +7,7 @@ ghost use Rattle.std.specs.declared.cmp.Ordering.TheVariants.{Less};
 ghost use Rattle.std.specs.Cmp.Lexicographic.{slice_cmp};
 ghost use Rattle.semantic_objects.specs.Symbols.{AreRising};
 ghost use Rattle.interface_format.specs.Rules.{IsName, AreNames};
-ghost use Rattle.interface_reading.specs.Names.{is_graph};
+ghost use Rattle.interface_conditions.specs.Names.{is_graph};
 
 use cm_base::Text;
 use std::cmp::Ordering;

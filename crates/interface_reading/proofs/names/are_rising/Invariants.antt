@@ -1,5 +1,0 @@
-use Rattle.interface_reading.proofs.Named.{RisesTo}
-use Rattle.interface_reading.proofs.names.are_rising.Given as goal
-
-abbrev pub invariant-loop-at : goal.invariant-loop-at
-invariant-loop-at l = RisesTo l.at l.fn.names
