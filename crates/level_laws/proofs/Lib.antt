@@ -1,0 +1,14 @@
+pub mod DecLevels
+pub mod ExpForms
+pub mod ExpLevels
+pub mod HeadLevels
+pub mod Keeping
+pub mod PatForms
+pub mod PatLevels
+pub mod SigForms
+pub mod SigLevels
+pub mod StrForms
+pub mod StrLevels
+pub mod TyForms
+pub mod TyLevels
+pub mod UnitLevels
