@@ -101,9 +101,9 @@ module _ (large : ℕ → Bool) where
   -- it is known at once of what is met
   pub finished : (done next : Images) (before : List Step) (p : ℕ) (known found : Bool) → known ≡ large p
       → IsFinished done next p known found → IsTaken large (step.Enter p) done next before before found
-  finished done next before p known true e f any h = sym h.finds ∙ met_append before (step.Enter p ∷ [])
+  finished done next before p known true e f = λ any h. sym h.finds ∙ met_append before (step.Enter p ∷ [])
       ∙ or_right (any_met large before) (large p || false) (or_left (large p) false (sym e ∙ f))
-  finished done next before p known false e f any h = walk_ends any next before
+  finished done next before p known false e f = λ any h. walk_ends any next before
       (moved any done next before (step.Enter p ∷ []) [] (or_false (large p) ∙ (sym e ∙ f.0)) tt
       (small_set done next p h.small (sym e ∙ f.0) f.1) h)
 

@@ -40,7 +40,6 @@ use Rattle.type_phrases.specs.Inferred.{Answers, Refuses, home_scope}
 use Rattle.type_phrases.proofs.Steps.{refused}
 use Rattle.pattern_elab.specs.declared.own.OwnVariable.{OwnVariable}
 use Rattle.pattern_elab.specs.Scopes.{own_entry}
-use Rattle.declaration_ends.specs.Closed.{IsClosedEnv, AreClosedEnvs}
 use Rattle.declaration_ends.specs.Sizes.{AreAll, is_large_in, any_large, large_value, large_type, flag, any_flag}
 
 -- ---- one tree

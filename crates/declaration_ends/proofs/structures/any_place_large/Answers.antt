@@ -18,22 +18,22 @@ pub loop-preserved : goal.loop-preserved
 loop-preserved c =
     let large = large_at (state c.args.t.now).stands c.args.g.now.items in
     record {
-      same = c.in_ok-found.ensures.same ∙ c.loop.invariant.same;
-      walk = goes_on large (list_any large c.args.places.now) c.in_ok-found.found c.loop.done c.take.new.done
+      same = c.in_ok-found-in-Some.ensures.same ∙ c.loop.invariant.same;
+      walk = goes_on large (list_any large c.args.places.now) c.in_ok-found-in-Some.found c.loop.done c.take.new.done
           c.loop.steps c.pop.new.self c.take.new.steps c.in-Some.step c.in-Some.ensures
           (subst (λ t. IsTaken (large_at (state t).stands c.args.g.now.items) c.in-Some.step c.loop.done
-          c.take.new.done c.pop.new.self c.take.new.steps c.in_ok-found.found) c.loop.invariant.same
-          c.in_ok-found.ensures.taken) c.if-found.false c.loop.invariant.walk;
+          c.take.new.done c.pop.new.self c.take.new.steps c.in_ok-found-in-Some.found) c.loop.invariant.same
+          c.in_ok-found-in-Some.ensures.taken) c.if-found.false c.loop.invariant.walk;
     }
 
 pub returns-then-found-clause-large : goal.returns-then-found-clause-large
 returns-then-found-clause-large c =
     let large = large_at (state c.args.t.now).stands c.args.g.now.items in
-    finds large (list_any large c.args.places.now) c.in_ok-found.found c.loop.done c.take.new.done
+    finds large (list_any large c.args.places.now) c.in_ok-found-in-Some.found c.loop.done c.take.new.done
     c.loop.steps c.pop.new.self c.take.new.steps c.in-Some.step c.in-Some.ensures
     (subst (λ t. IsTaken (large_at (state t).stands c.args.g.now.items) c.in-Some.step c.loop.done
-    c.take.new.done c.pop.new.self c.take.new.steps c.in_ok-found.found) c.loop.invariant.same
-    c.in_ok-found.ensures.taken) c.if-found.true c.loop.invariant.walk
+    c.take.new.done c.pop.new.self c.take.new.steps c.in_ok-found-in-Some.found) c.loop.invariant.same
+    c.in_ok-found-in-Some.ensures.taken) c.if-found.true c.loop.invariant.walk
 
 pub returns-in-None-clause-large : goal.returns-in-None-clause-large
 returns-in-None-clause-large c =

@@ -5,9 +5,9 @@ use Rattle.declaration_ends.proofs.Meeting.{finished}
 use Rattle.declaration_ends.proofs.Nesting.{facts_tell}
 use Rattle.declaration_ends.proofs.structures.enter.Goals as goal
 
-pub returns-else-has_free-clause-taken : goal.returns-else-has_free-clause-taken
-returns-else-has_free-clause-taken c = if_ok c.finish.result _ _
+pub returns-else-facts-clause-taken : goal.returns-else-facts-clause-taken
+returns-else-facts-clause-taken c = if_ok c.finish.result _ _
     (λ found h. finished (large_at (state c.args.t.now).stands c.args.g.now.items) c.args.done.now c.finish.new.done
     c.args.steps.now c.args.place _ found
-    (facts_tell (state c.args.t.now).stands c.args.g.now.items c.args.place c.facts_at.result c.facts_at.ensures
-    c.if-has_free.false) h) c.finish.ensures
+    (facts_tell (state c.args.t.now).stands c.args.g.now.items c.args.place c.facts_at-facts.result c.facts_at-facts.ensures
+    c.if-facts.false) h) c.finish.ensures

@@ -17,8 +17,8 @@ returns-in-None-clause-taken c = if_ok c.enter.result _ _
     c.args.done.now c.enter.new.done c.args.steps.now c.enter.new.steps found) (sym c.in-Enter.is) h)
     c.enter.ensures.taken
 
-pub returns-in_ok-set-clause-taken : goal.returns-in_ok-set-clause-taken
-returns-in_ok-set-clause-taken c = subst (λ s. IsTaken (large_at (state c.args.t.now).stands c.args.g.now.items) s
+pub returns-in_ok-set-in-Leave-clause-taken : goal.returns-in_ok-set-in-Leave-clause-taken
+returns-in_ok-set-in-Leave-clause-taken c = subst (λ s. IsTaken (large_at (state c.args.t.now).stands c.args.g.now.items) s
     c.args.done.now c.set.new.self c.args.steps.now c.args.steps.now false) (sym c.in-Leave.is)
     (parts_done (large_at (state c.args.t.now).stands c.args.g.now.items) c.args.done.now c.set.new.self
-    c.args.steps.now c.in-Leave.place c.in_ok-set.ensures)
+    c.args.steps.now c.in-Leave.place c.in_ok-set-in-Leave.ensures)
