@@ -21,12 +21,9 @@ use Rattle.type_nodes.specs.Tables.{Table, Has, state, type_of, whole}
 use Rattle.type_schemes.specs.Schemes.{HaveAll}
 use Rattle.type_functions.specs.Applied.{with_types}
 use Rattle.sml_modules.specs.Items.{map_rows}
-use Rattle.env_parts.specs.declared.facts.Facts.{Facts}
 use Rattle.env_parts.specs.Types.{tree_size, trees_size, holds_free, any_holds_free, facts_of, types_in, types_in_structures, types_in_types, types_in_values}
 use Rattle.env_parts.specs.Types as parts
-use Rattle.sml_modules.specs.declared.id.EnvId.{EnvId}
-use Rattle.sml_modules.specs.declared.parts.NamedEnv.{NamedEnv}
-use Rattle.sml_modules.specs.Graphs.{Graph, env_at, structure_rows, type_rows}
+use Rattle.sml_modules.specs.Graphs.{Graph, structure_rows, type_rows}
 use Rattle.sml_modules.specs.declared.parts.NamedType.{NamedType}
 use Rattle.sml_modules.proofs.Setting.{all_map}
 use Rattle.static_semantics.specs.BasicTypes.{unit_ty, int_ty}

@@ -1,4 +1,4 @@
-use Rattle.std.proofs.Common.{refl, sym, ap, ◌++◌, ◌∙◌, subst}
+use Rattle.std.proofs.Common.{refl, ap, ◌++◌, ◌∙◌, subst}
 use Rattle.std.specs.List.{list_any}
 use Rattle.type_nodes.specs.Tables.{state}
 use Rattle.environment_walks.specs.Stepping.{entered}
