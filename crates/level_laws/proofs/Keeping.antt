@@ -1,7 +1,7 @@
 -- What holds of the value of each phrase of a grammar, form by form, and what heights are of trees that are put together.
-use Rattle.std.proofs.Common.{◌≡◌, ℕ, zero, suc, ◌+◌, max, List, [], ◌∷◌, ◌++◌, Option, Some, None, Bool, true, false, map, nat_lt, ◌<◌, ◌≤◌, refl, sym, ap, ap₂, ◌∙◌, arith, rules, add-one}
+use Rattle.std.proofs.Common.{◌≡◌, ℕ, suc, ◌+◌, max, List, [], ◌∷◌, ◌++◌, Option, Some, None, Bool, true, false, map, nat_lt, ◌<◌, ◌≤◌, refl, sym, ap, ap₂, ◌∙◌, arith, rules, add-one}
 use Rattle.std.proofs.lemmas.List.{map-append}
-use Rattle.grammars.specs.Grammar.{Grammar, Phrase}
+use Rattle.grammars.specs.Grammar.{Grammar}
 use Rattle.grammars.specs.Laws.{Gives}
 use Rattle.grammars.proofs.Values.{gives_pure, gives_refuse, gives_bind, gives_on, gives_within, gives_many}
 use Rattle.sml_lexer.specs.declared.lexeme.Lexeme.{Lexeme}

@@ -1,6 +1,5 @@
 -- The height of each phrase of the grammar of patterns is that of its tree, and within the limit.
 use Rattle.std.proofs.Common.{◌≡◌, ℕ, zero, suc, ◌-◌, ◌≤◌, max, List, [], ◌∷◌, ◌++◌, Option, None, Some, Bool, true, false, nat_lt, refl, sym, ap, ap₂, ◌∙◌, arith, add-one}
-use Rattle.grammars.specs.Grammar.{Grammar}
 use Rattle.sml_lexer.specs.declared.lexeme.Lexeme.{Lexeme}
 use Rattle.sml_lexer.specs.declared.lexeme.LexemeKind.{LexemeKind}
 use Rattle.sml_lexer.specs.declared.lexeme.LexemeKind.TheVariants as k
@@ -15,22 +14,20 @@ use Rattle.sml_trees.specs.declared.full_pat.FullPat.{FullPat}
 use Rattle.sml_trees.specs.declared.full_pat.FullPat.TheVariants as p
 use Rattle.sml_trees.specs.declared.full_pat.FullPatItem.{FullPatItem}
 use Rattle.sml_trees.specs.declared.full_pat.FullPatItem.TheVariants as i
-use Rattle.sml_trees.specs.declared.full_pat.FullPatField.{FullPatField}
 use Rattle.infix_names.specs.Fixities.{Fixities, joining}
 use Rattle.core_types.specs.Types.{ty}
-use Rattle.core_patterns.specs.Patterns.{PatLevel, leaf_id, plain, items_of, in_brackets, tuple_of, behind_first, inside_parens, in_parens, labelled, named_field, if_name, field_behind, field, fields_of, record_of, other, behind_op, atpat_word, atpat_kind, atpat_after, start, with_argument, with_operand, operator, goes_on, operand_joined, operand_behind, argument, by_operator, run_step, run_on, whole_run, constraint, constrained, typed, layered, layer, some_type, no_type, id_under, behind_typed, typed_id, behind_name, behind_id, alone, run_rest, run_from, behind_operand, pat_after, level_of, no_level, pat_level, pat, pat_behind, atpat}
+use Rattle.core_patterns.specs.Patterns.{PatLevel, plain, items_of, in_brackets, tuple_of, behind_first, inside_parens, in_parens, labelled, named_field, if_name, field_behind, field, fields_of, record_of, other, behind_op, atpat_word, atpat_kind, start, with_argument, with_operand, operator, operand_joined, operand_behind, argument, by_operator, run_step, run_on, whole_run, constrained, typed, layered, layer, some_type, no_type, id_under, behind_typed, typed_id, behind_name, behind_id, alone, run_rest, behind_operand, pat_after, pat_level, pat, pat_behind, atpat}
 use Rattle.core_patterns.specs.declared.operand.Operand.{Operand}
 use Rattle.core_patterns.specs.declared.operand.Operand.TheVariants as o
 use Rattle.core_patterns.specs.declared.operand.Run.{Run}
-use Rattle.phrase_reading.specs.Sized.{leaf, over, over_two, part, one, more, maybe}
-use Rattle.phrase_reading.specs.Words.{g, is, at, named, long_named, word_of, given}
-use Rattle.phrase_reading.specs.declared.lexemes.Label.{Label}
+use Rattle.phrase_reading.specs.Sized.{more}
+use Rattle.phrase_reading.specs.Words.{g, is, at, word_of, given}
 use Rattle.phrase_reading.specs.declared.tall.Tall.{Tall}
 use Rattle.phrase_reading.specs.declared.words.Word.{Word}
 use Rattle.phrase_reading.specs.declared.words.Word.TheVariants as w
 use Rattle.level_laws.specs.Levels.{all_levels, if_levels, ty_levels, pat_levels, pat_item_levels, pat_field_levels}
 use Rattle.level_laws.specs.Promises.{IsMeasured, PatternsHaveTheirLevels}
-use Rattle.level_laws.proofs.Keeping.{Keeps, keep_pure, keep_refuse, keep_bind, keep_then, keep_on, keep_within, keep_many, keep_none, leaf_is, over_is, over_two_is, part_is, lowered, raised, below_limit, one_is, more_is, all-one, all-more, further_keeps, maybe_keeps, two_is}
+use Rattle.level_laws.proofs.Keeping.{Keeps, keep_pure, keep_refuse, keep_bind, keep_then, keep_on, keep_within, keep_many, keep_none, leaf_is, over_is, over_two_is, part_is, lowered, below_limit, one_is, more_is, all-one, all-more, further_keeps, maybe_keeps, two_is}
 use Rattle.level_laws.proofs.PatForms.{pat-Wild, pat-Constant, pat-Long, pat-Record, pat-Unit, pat-Tuple, pat-Paren, pat-List, pat-Run, pat-Typed, pat-As, item-Atom, item-Operator, field-Labelled, field-Named}
 use Rattle.level_laws.proofs.TyLevels.{Ty, ty_keeps}
 

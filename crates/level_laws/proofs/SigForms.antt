@@ -1,5 +1,5 @@
 -- The levels of each form of a signature expression or a specification, by those of its parts.
-use Rattle.std.proofs.Common.{◌≡◌, ℕ, suc, max, List, sym, ap, ◌∙◌}
+use Rattle.std.proofs.Common.{◌≡◌, suc, max, List, sym, ap, ◌∙◌}
 use Rattle.sml_trees.specs.declared.name.At.{At}
 use Rattle.sml_trees.specs.declared.name.Name.{Name}
 use Rattle.sml_trees.specs.declared.name.LongName.{LongName}

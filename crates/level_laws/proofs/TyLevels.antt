@@ -1,24 +1,21 @@
 -- The height of each phrase of the grammar of types is that of its tree, and within the limit.
 use Rattle.std.proofs.Common.{ℕ, zero, suc, List, [], Option, None, Some}
-use Rattle.grammars.specs.Grammar.{Grammar}
 use Rattle.sml_lexer.specs.declared.lexeme.Lexeme.{Lexeme}
 use Rattle.sml_lexer.specs.declared.lexeme.LexemeKind.{LexemeKind}
 use Rattle.sml_lexer.specs.declared.lexeme.LexemeKind.TheVariants as k
 use Rattle.sml_trees.specs.declared.name.At.{At}
 use Rattle.sml_trees.specs.declared.name.Name.{Name}
-use Rattle.sml_trees.specs.declared.name.LongName.{LongName}
 use Rattle.sml_trees.specs.declared.full_ty.FullTy.{FullTy}
 use Rattle.sml_trees.specs.declared.full_ty.FullTy.TheVariants as t
-use Rattle.sml_trees.specs.declared.full_ty.FullTyField.{FullTyField}
-use Rattle.core_types.specs.Types.{TyLevel, field, fields_of, record_of, applied_all, behind_first, in_parens, atom_word, atom_kind, atom_after, apply, constructor_after, applied, part_after, starred, tuple_of, tuple, arrow_of, arrow, ty_after, level_of, no_level, ty_level, ty}
-use Rattle.phrase_reading.specs.Sized.{leaf, more, one}
+use Rattle.core_types.specs.Types.{TyLevel, field, fields_of, record_of, applied_all, behind_first, in_parens, atom_word, atom_kind, apply, constructor_after, applied, part_after, starred, tuple_of, tuple, arrow_of, arrow, ty_after, ty_level, ty}
+use Rattle.phrase_reading.specs.Sized.{more, one}
 use Rattle.phrase_reading.specs.Words.{g, is, tycon_of, made, at, named, long_named, word_of}
 use Rattle.phrase_reading.specs.declared.tall.Tall.{Tall}
 use Rattle.phrase_reading.specs.declared.words.Word.{Word}
 use Rattle.phrase_reading.specs.declared.words.Word.TheVariants as w
 use Rattle.level_laws.specs.Levels.{all_levels, ty_levels, ty_field_levels}
 use Rattle.level_laws.specs.Promises.{IsMeasured, TypesHaveTheirLevels}
-use Rattle.level_laws.proofs.Keeping.{Keeps, keep_pure, keep_refuse, keep_bind, keep_then, keep_on, keep_within, keep_many, keep_none, leaf_is, over_is, over_two_is, part_is, lowered, raised, one_is, more_is, further_keeps}
+use Rattle.level_laws.proofs.Keeping.{Keeps, keep_pure, keep_refuse, keep_bind, keep_then, keep_on, keep_within, keep_many, keep_none, leaf_is, over_is, over_two_is, part_is, lowered, one_is, more_is, further_keeps}
 use Rattle.level_laws.proofs.TyForms.{ty-Var, ty-Record, ty-Con, ty-Applied, ty-AppliedAll, ty-Tuple, ty-Arrow, ty-Paren, ty-field}
 
 -- a type of at most so many levels
