@@ -66,7 +66,8 @@ then_some f (Some a) b h = (a, h)
 
 -- ---- lexemes of which something is known
 
-keep_made_by : {A B : Type 0} (make : A → B) {P : B → Type 0} (found : Option A) → ((a : A) → found ≡ Some a → P (make a))
+keep_made_by : {A B : Type 0} (make : A → B) {P : B → Type 0} (found : Option A)
+    → ((a : A) → found ≡ Some a → P (make a))
     → Keeps (made make found) P
 keep_made_by make None each = keep_refuse
 keep_made_by make (Some a) each = keep_pure (make a) (each a refl)
@@ -237,7 +238,8 @@ module _ (n : ℕ) (fs : Fixities) (wanted : Wanted) where
 
   word_keeps : (x : Lexeme) (found : Option Word) → Keeps (head_word n fs wanted x found) (HeadIs fs wanted)
   unfolding op_head
-  word_keeps x (Some w.Op) = keep_then (λ long. named_keeps true (at x) long (prefix_name fs wanted true long.parts) refl)
+  word_keeps x (Some w.Op) =
+      keep_then (λ long. named_keeps true (at x) long (prefix_name fs wanted true long.parts) refl)
   word_keeps x (Some w.Open) = parens_keep (at x)
   word_keeps x _ = atom_keeps x
 
@@ -274,7 +276,8 @@ record AreClauses (fs : Fixities) (wanted : Wanted) (found : Tall (List FullClau
 
 one_clause : (fs : Fixities) (wanted : Wanted) (first : Tall FullClause) → ClauseIs fs wanted first
     → AreClauses fs wanted (one first)
-one_clause fs wanted first is = record { some = omega arith; each = All-cons (IsClauseHead fs wanted) (head_of first.tree) [] is (All-nil (IsClauseHead fs wanted)) }
+one_clause fs wanted first is =
+    record { some = omega arith; each = All-cons (IsClauseHead fs wanted) (head_of first.tree) [] is (All-nil (IsClauseHead fs wanted)) }
 
 more_clauses : (fs : Fixities) (wanted : Wanted) (found : Tall (List FullClause)) (next : Tall FullClause)
     → AreClauses fs wanted found → ClauseIs fs wanted next → AreClauses fs wanted (more found next)
@@ -315,13 +318,17 @@ module _ (n : ℕ) (parts : Level) (fs : Fixities) where
       keep_pure _ (more_clauses fs _ found next are too))) _ (one_clause fs _ first (so.0, refl)))
       (λ clauses are. keep_pure _ (record {
         wanted = wanted_by (head_of first.tree);
-        some = subst (λ (clauses : List FullClause). 0 < length (map head_of clauses)) (sym (clauses_of (at x) clauses.tree)) are.some;
-        each = subst (λ (clauses : List FullClause). All (IsClauseHead fs (wanted_by (head_of first.tree))) (map head_of clauses))
+        some =
+            subst (λ (clauses : List FullClause). 0 < length (map head_of clauses)) (sym (clauses_of (at x) clauses.tree)) are.some;
+        each =
+            subst (λ (clauses : List FullClause). All (IsClauseHead fs (wanted_by (head_of first.tree))) (map head_of clauses))
             (sym (clauses_of (at x) clauses.tree)) are.each;
       })))))
     where
-      clauses_of : (start : At) (clauses : List FullClause) → (out-FullFunBind (fun_bind start clauses)).clauses ≡ clauses
-      clauses_of start clauses = ap (λ bind. bind.clauses) (out-roll-FullFunBind (record { clauses = clauses; at = start }))
+      clauses_of : (start : At) (clauses : List FullClause)
+          → (out-FullFunBind (fun_bind start clauses)).clauses ≡ clauses
+      clauses_of start clauses =
+          ap (λ bind. bind.clauses) (out-roll-FullFunBind (record { clauses = clauses; at = start }))
 
 pub clauses_of_one : ClausesAreOfOneFunction
 clauses_of_one n fs = (function_keeps n (level n) fs).gives

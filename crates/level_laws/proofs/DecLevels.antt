@@ -76,7 +76,8 @@ module _ (n : ℕ) (tys : g (Tall FullTy)) (it : Keeps tys (Ty n)) where
   unfolding dat_bind
   dat_bind_keeps = keep_then (λ vars. keep_then (λ called. keep_then (λ _. dat_bind_of_keeps vars called)))
 
-  datatypes_keep : (place : At) (vars : List Name) (called : Name) → Keeps (datatypes tys place vars called) (Dec (suc n))
+  datatypes_keep : (place : At) (vars : List Name) (called : Name)
+      → Keeps (datatypes tys place vars called) (Dec (suc n))
   unfolding datatypes
   datatypes_keep place vars called =
       keep_bind (dat_bind_of_keeps vars called) (λ first is. keep_bind (further_keeps _ dat_bind_keeps (one_is is))

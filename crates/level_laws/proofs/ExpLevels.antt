@@ -1,5 +1,5 @@
--- The height of each phrase of the grammar of expressions is that of its tree, and within the limit, over phrases of one
--- level less of which the same holds.
+-- The height of each phrase of the grammar of expressions is that of its tree, and within the limit, over phrases of
+-- one level less of which the same holds.
 use Rattle.std.proofs.Common.{◌≡◌, ℕ, suc, ◌≤◌, max, List, [], Option, None, Some, Bool, true, false, sym, ap, ap₂, ◌∙◌, arith, add-one}
 use Rattle.sml_lexer.specs.declared.lexeme.Lexeme.{Lexeme}
 use Rattle.sml_lexer.specs.declared.lexeme.LexemeKind.{LexemeKind}
@@ -66,7 +66,8 @@ run_is first is = record {
   low = is.low;
 }
 
-atom_is : {most : ℕ} (run : Run) (next : Tall FullExp) → IsRun most run → Exp most next → IsRun most (with_atom run next)
+atom_is : {most : ℕ} (run : Run) (next : Tall FullExp) → IsRun most run → Exp most next
+    → IsRun most (with_atom run next)
 atom_is run next so is = record {
   exact = ap₂ max so.exact (is.exact ∙ sym (item-Atom next.tree))
       ∙ sym (all-more exp_item_levels run.items (item.Atom next.tree));
@@ -239,7 +240,8 @@ module _ (n : ℕ) (parts : Level) (it : LevelIs n parts) where
         low = let one = is.low in let two = so.low in let three = too.low in omega arith;
       }))))
 
-  prefix_keeps : (fs : Fixities) (place : At) (found : Option Word) → Keeps (prefix_word parts fs place found) (Exp (suc n))
+  prefix_keeps : (fs : Fixities) (place : At) (found : Option Word)
+      → Keeps (prefix_word parts fs place found) (Exp (suc n))
   unfolding raise_exp while_exp case_exp rules_behind
   prefix_keeps fs place (Some w.Raise) =
       keep_bind (it.exp fs) (λ inner is. keep_pure _ (over_is _ (λ inner. exp-Raise inner place) is))
@@ -253,7 +255,8 @@ module _ (n : ℕ) (parts : Level) (it : LevelIs n parts) where
   prefix_keeps fs place (Some w.Fn) = fn_keeps fs place
   prefix_keeps fs place _ = keep_refuse
 
-  operand_by_keeps : (fs : Fixities) (x : Lexeme) (prefix : Bool) → Keeps (operand_by (suc n) parts fs x prefix) (Exp (suc n))
+  operand_by_keeps : (fs : Fixities) (x : Lexeme) (prefix : Bool)
+      → Keeps (operand_by (suc n) parts fs x prefix) (Exp (suc n))
   operand_by_keeps fs x true = keep_within (λ _. prefix_keeps fs (at x) (word x))
   operand_by_keeps fs x false = typed_keeps fs x
 

@@ -76,7 +76,8 @@ module _ (n : ℕ) (fs : Fixities) (wanted : Wanted) where
 
   prefix_keeps : (called : OpName) → Keeps (prefix_head n fs wanted called) (Head n)
   unfolding prefix_head
-  prefix_keeps called = keep_bind (arguments_keep 0) (λ args are. keep_pure _ (record { exact = are.exact; low = are.low }))
+  prefix_keeps called =
+      keep_bind (arguments_keep 0) (λ args are. keep_pure _ (record { exact = are.exact; low = are.low }))
 
   long_is : (op : Bool) (start : At) (long : LongName) → nat_lt 0 n ≡ true → Pat n (long_pat op start long)
   long_is op start long room = record {

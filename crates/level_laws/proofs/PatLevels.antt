@@ -105,7 +105,8 @@ module _ (n : ℕ) (tys : g (Tall FullTy)) (it : Keeps tys (Ty n)) (below : g (T
       (keep_bind pats (λ first is. keep_bind (further_keeps _ pats (one_is is))
       (λ items are. keep_then (λ _. keep_pure _ (over_is _ (λ items. pat-List items place) are)))))
 
-  pub first_keeps : (place : At) (first : Tall FullPat) → Pat n first → Keeps (behind_first below place first) (Pat (suc n))
+  pub first_keeps : (place : At) (first : Tall FullPat) → Pat n first
+      → Keeps (behind_first below place first) (Pat (suc n))
   unfolding behind_first tuple_of
   first_keeps place first is =
       keep_on
@@ -161,7 +162,8 @@ module _ (n : ℕ) (tys : g (Tall FullTy)) (it : Keeps tys (Ty n)) (below : g (T
   atpat_keeps x (k.Str text) = keep_pure _ (λ _. leaf_is (p.Constant (c.Str text) (at x)) (pat-Constant _ _))
   atpat_keeps x (k.Char byte) = keep_pure _ (λ _. leaf_is (p.Constant (c.Char byte) (at x)) (pat-Constant _ _))
 
-  pub typed_keeps : (place : At) (left : Tall FullPat) → Pat (suc n) left → Keeps (typed (suc n) tys place left) (Pat (suc n))
+  pub typed_keeps : (place : At) (left : Tall FullPat) → Pat (suc n) left
+      → Keeps (typed (suc n) tys place left) (Pat (suc n))
   unfolding typed constrained
   typed_keeps place left is =
       keep_many (λ left x so. keep_within (λ room. keep_bind it (λ ty too.
@@ -173,7 +175,8 @@ module _ (n : ℕ) (tys : g (Tall FullTy)) (it : Keeps tys (Ty n)) (below : g (T
   layer_keeps place called ty is =
       keep_bind pats (λ inner so. keep_pure _ (over_two_is _ (λ ty inner. pat-As called ty inner place) is so))
 
-  layered_keeps : (place : At) (called : Option OpName) (ty : Tall (Option FullTy)) → IsMeasured (if_levels ty_levels) n ty
+  layered_keeps : (place : At) (called : Option OpName) (ty : Tall (Option FullTy))
+      → IsMeasured (if_levels ty_levels) n ty
       → Keeps (given (λ called. layer below place called ty) called) (Pat (suc n))
   layered_keeps place None ty is = keep_refuse
   layered_keeps place (Some called) ty is = layer_keeps place called ty is
@@ -216,7 +219,8 @@ module _ (n : ℕ) (tys : g (Tall FullTy)) (it : Keeps tys (Ty n)) (below : g (T
             keep_on (λ y. keep_bind (each y) (λ operand it. keep_pure _ (operand_is run _ f (at y) operand so it)))
             keep_refuse
 
-    pub rest_keeps : (place : At) (run : Run) → IsRun n run → Keeps (run_rest fs (suc n) tys parts place run) (Pat (suc n))
+    pub rest_keeps : (place : At) (run : Run) → IsRun n run
+        → Keeps (run_rest fs (suc n) tys parts place run) (Pat (suc n))
     unfolding run_rest run_on
     rest_keeps place run is =
         keep_bind (keep_many (λ run x so. step_keeps run x (raised_run run so)) run is)

@@ -121,7 +121,8 @@ module _ (n : ℕ) (parts : SigLevel) (it : SigLevelIs n parts) where
       keep_on (λ x. keep_within (λ _. rw same (keep_bind (sig_atom_keeps x) (λ first is. wheres_keep n (at x) (apart first) is))))
       keep_refuse
 
-  pub sig_bind_keeps : (mark : Word) (called : Name) → Keeps (sig_bind parts.sig mark called) (IsJoined sig_bind_levels n)
+  pub sig_bind_keeps : (mark : Word) (called : Name)
+      → Keeps (sig_bind parts.sig mark called) (IsJoined sig_bind_levels n)
   unfolding sig_bind
   sig_bind_keeps mark called =
       keep_then (λ _. keep_bind it.sig (λ found is. keep_pure _ (part_is _ (λ inner. sig_bind-is called inner) is)))
@@ -248,7 +249,8 @@ module _ (n most : ℕ) (parts : SigLevel) (each : (x : Lexeme) → Keeps (spec_
       keep_either (is w.Semicolon x) (λ _. keep_pure found are)
       (keep_bind (each x) (λ next so. keep_pure _ (more_is are so)))
 
-  pub specs_from_keeps : (found : Tall (List FullSpec)) → Specs most found → Keeps (specs_from n parts found) (Specs most)
+  pub specs_from_keeps : (found : Tall (List FullSpec)) → Specs most found
+      → Keeps (specs_from n parts found) (Specs most)
   unfolding specs_from
   specs_from_keeps found are = keep_many (λ found x are. round_keeps found x are) found are
 

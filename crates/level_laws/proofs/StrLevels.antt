@@ -120,7 +120,8 @@ module _ (n : ℕ) (parts : StrLevel) (it : StrLevelIs n parts) where
         low = let low = are.low in omega arith;
       })))
 
-  argument_keeps : (fs : Fixities) (called : Name) (place : At) → Keeps (argument parts fs called place) (StrTree (suc n))
+  argument_keeps : (fs : Fixities) (called : Name) (place : At)
+      → Keeps (argument parts fs called place) (StrTree (suc n))
   unfolding argument of_str of_strdec
   argument_keeps fs called place =
       keep_on (λ x. keep_bind (alone_keeps (it.str_after fs x)) (λ found is. keep_then (λ _.
@@ -128,7 +129,8 @@ module _ (n : ℕ) (parts : StrLevel) (it : StrLevelIs n parts) where
       (keep_on (λ x. of_decs_keeps (parts.decs_behind fs x) (it.decs_behind fs x) called _ place)
       (of_decs_keeps _ (keep_pure _ (no_decs n fs)) called _ place))
 
-  named_keeps : (fs : Fixities) (x : Lexeme) (found : Option (List ℕ)) → Keeps (str_named parts fs x found) (StrTree (suc n))
+  named_keeps : (fs : Fixities) (x : Lexeme) (found : Option (List ℕ))
+      → Keeps (str_named parts fs x found) (StrTree (suc n))
   named_keeps fs x None = keep_made (str_name x) (λ parts. leaf_is _ (str-Named _ (at x))) (strid_of x)
   named_keeps fs x (Some text) =
       keep_if_mark _ (argument_keeps fs _ (at x)) (keep_pure _ (leaf_is _ (str-Named _ (at x))))
@@ -150,7 +152,8 @@ module _ (n : ℕ) (parts : StrLevel) (it : StrLevelIs n parts) where
       keep_bind (maybe_seal_keeps n) (λ given is. keep_then (λ _. keep_bind (str_keeps fs) (λ body so.
       keep_pure _ (two_is (str_bind-is called given.tree body.made.tree) is so))))
 
-  structures_keep : (fs : Fixities) (place : At) → Keeps (structures n parts fs place) (IsMeasured str_dec_levels (suc n))
+  structures_keep : (fs : Fixities) (place : At)
+      → Keeps (structures n parts fs place) (IsMeasured str_dec_levels (suc n))
   unfolding structures
   structures_keep fs place =
       keep_bind (bindings_keep (str_bind_keeps fs)) (λ found are.
@@ -166,7 +169,8 @@ module _ (n : ℕ) (parts : StrLevel) (it : StrLevelIs n parts) where
         low = let low = is.low in let lower = so.low in omega arith;
       }))))))
 
-  structure_word : (fs : Fixities) (place : At) → Keeps (plain fs (structures (suc n - 1) parts fs place)) (StrDecs (suc n))
+  structure_word : (fs : Fixities) (place : At)
+      → Keeps (plain fs (structures (suc n - 1) parts fs place)) (StrDecs (suc n))
   structure_word fs place =
       let same : suc n - 1 ≡ n = omega arith in rw same (plain_keeps fs (structures_keep fs place))
 

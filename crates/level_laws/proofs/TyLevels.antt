@@ -40,7 +40,8 @@ module _ (n : ℕ) (below : g (Tall FullTy)) (it : Keeps below (Ty n)) where
       (keep_bind field_keeps (λ first is. keep_bind (further_keeps _ field_keeps (one_is is))
       (λ fields are. keep_then (λ _. keep_pure _ (over_is _ (λ fields. ty-Record fields place) are)))))
 
-  applied_all_keeps : (place : At) (first : Tall FullTy) → Ty n first → Keeps (applied_all below place first) (Ty (suc n))
+  applied_all_keeps : (place : At) (first : Tall FullTy) → Ty n first
+      → Keeps (applied_all below place first) (Ty (suc n))
   unfolding applied_all
   applied_all_keeps place first is =
       keep_bind it (λ second so. keep_bind (further_keeps _ it (more_is (one_is is) so)) (λ args are. keep_then (λ _.
@@ -59,7 +60,8 @@ module _ (n : ℕ) (below : g (Tall FullTy)) (it : Keeps below (Ty n)) where
 
   atom_keeps : (x : Lexeme) (kind : LexemeKind) → Keeps (atom_kind below x kind) (Ty (suc n))
   atom_keeps x (k.Reserved text) = atom_word_keeps x (word_of text)
-  atom_keeps x (k.Name parts) = keep_pure _ (leaf_is (t.Con (long_named x parts) (at x)) (ty-Con (long_named x parts) (at x)))
+  atom_keeps x (k.Name parts) =
+      keep_pure _ (leaf_is (t.Con (long_named x parts) (at x)) (ty-Con (long_named x parts) (at x)))
   atom_keeps x (k.TyVar text) = keep_pure _ (leaf_is (t.Var (named x text) (at x)) (ty-Var (named x text) (at x)))
   atom_keeps x (k.Int value ok) = keep_refuse
   atom_keeps x (k.Str text) = keep_refuse
@@ -89,7 +91,8 @@ module _ (n : ℕ) (below : g (Tall FullTy)) (it : Keeps below (Ty n)) where
       (λ found are. keep_pure _ (over_is _ (λ parts. ty-Tuple parts place) are)))))
       (keep_pure first is)
 
-  arrow_keeps : (place : At) (left : Tall FullTy) → Ty (suc n) left → Keeps (arrow (suc n) below place left) (Ty (suc n))
+  arrow_keeps : (place : At) (left : Tall FullTy) → Ty (suc n) left
+      → Keeps (arrow (suc n) below place left) (Ty (suc n))
   unfolding arrow arrow_of
   arrow_keeps place left is =
       keep_on (λ _. keep_within (λ room. keep_bind it (λ right so.
