@@ -1,48 +1,40 @@
 -- The height of each declaration of the core is that of its tree, and within the limit; and so are all phrases of the
 -- core, level by level.
-use Rattle.std.proofs.Common.{◌≡◌, ℕ, zero, suc, ◌+◌, ◌-◌, ◌≤◌, max, List, [], ◌∷◌, Option, None, Some, Bool, true, false, nat_lt, refl, sym, ap, ap₂, ◌∙◌, arith, add-one}
-use Rattle.grammars.specs.Grammar.{Grammar}
+use Rattle.std.proofs.Common.{◌≡◌, ℕ, zero, suc, ◌-◌, max, List, [], ◌∷◌, Option, Some, Bool, true, false, nat_lt, refl, sym, ap₂, ◌∙◌, arith, add-one}
 use Rattle.sml_lexer.specs.declared.lexeme.Lexeme.{Lexeme}
-use Rattle.sml_trees.specs.declared.full_exp.FullClause.{FullClause, out-FullClause}
+use Rattle.sml_trees.specs.declared.full_exp.FullClause.{out-FullClause}
 use Rattle.sml_trees.specs.declared.full_exp.FullDec.{FullDec}
-use Rattle.sml_trees.specs.declared.full_exp.FullDec.TheVariants as d
 use Rattle.sml_trees.specs.declared.full_exp.FullExp.{FullExp}
-use Rattle.sml_trees.specs.declared.full_exp.FullExp.TheVariants as e
 use Rattle.sml_trees.specs.declared.full_exp.FullFunBind.{FullFunBind}
 use Rattle.sml_trees.specs.declared.full_exp.FullHead.{FullHead}
-use Rattle.sml_trees.specs.declared.full_exp.FullValBind.{FullValBind, out-FullValBind}
+use Rattle.sml_trees.specs.declared.full_exp.FullValBind.{FullValBind}
 use Rattle.sml_trees.specs.declared.full_pat.FullPat.{FullPat}
 use Rattle.sml_trees.specs.declared.full_ty.FullTy.{FullTy}
-use Rattle.sml_trees.specs.declared.full_ty.FullConBind.{FullConBind}
-use Rattle.sml_trees.specs.declared.full_ty.FullDatBind.{FullDatBind}
-use Rattle.sml_trees.specs.declared.full_ty.FullExBody.{FullExBody}
 use Rattle.sml_trees.specs.declared.full_ty.FullExBody.TheVariants as body
-use Rattle.sml_trees.specs.declared.full_ty.FullTypBind.{FullTypBind}
 use Rattle.sml_trees.specs.declared.name.At.{At}
 use Rattle.sml_trees.specs.declared.name.Name.{Name}
 use Rattle.infix_names.specs.Fixities.{Fixities}
 use Rattle.core_bindings.specs.Bindings.{typ_bind, type_dec, con_bind, dat_bind_of, dat_bind, datatypes, replication, has_none, datatype_from, datatype_dec, ex_body, ex_bind, exception_dec, open_dec, infix_tree, infix_dec, nonfix_dec}
-use Rattle.core_bindings.specs.Decs.{Decs}
 use Rattle.clause_heads.specs.Heads.{wanted_by}
 use Rattle.clause_heads.specs.declared.heads.Wanted.{Wanted}
 use Rattle.clause_heads.specs.declared.heads.Wanted.TheVariants as wanted
 use Rattle.core_expressions.specs.Level.{Level}
-use Rattle.core_expressions.specs.Levels.{level_of, no_level, below, level, exp, dec}
-use Rattle.core_expressions.specs.Clauses.{clause_of, clause, fun_bind, function_by, function_from, function_of, function, fun_from, fun_of, fun_vars, fun_head, fun_parens, fun_dec}
-use Rattle.core_expressions.specs.Declarations.{local_dec, dec_word, dec_of, next_dec, round, decs_from, decs_of}
-use Rattle.core_expressions.specs.Expressions.{atexp_of, typed_of, prefix_after, operand_by, operand_after, conjunction_after, disjunction_after, operand_of, conjunction_of, exp_of}
-use Rattle.core_expressions.specs.Values.{right_side, bound_exp, val_bind_of, val_bind, with_bind, val_binds_from, val_from, val_of, val_vars, val_pat, val_parens, val_dec, fn_parens, fn_exp_of}
+use Rattle.core_expressions.specs.Levels.{no_level, below, level, exp, dec}
+use Rattle.core_expressions.specs.Clauses.{clause_of, clause, function_by, function_from, function_of, function, fun_from, fun_of, fun_vars, fun_head, fun_parens, fun_dec}
+use Rattle.core_expressions.specs.Declarations.{local_dec, dec_word, dec_of, next_dec, decs_from, decs_of}
+use Rattle.core_expressions.specs.Expressions.{atexp_of, typed_of, operand_by, operand_after, conjunction_after, disjunction_after, operand_of, conjunction_of, exp_of}
+use Rattle.core_expressions.specs.Values.{bound_exp, val_bind_of, val_bind, val_binds_from, val_from, val_of, val_vars, val_pat, val_parens, val_dec, fn_parens, fn_exp_of}
 use Rattle.core_expressions.specs.declared.binds.Binds.{Binds}
 use Rattle.core_types.specs.Types.{ty}
 use Rattle.expression_parts.specs.ExpStarts.{starts_prefix}
-use Rattle.phrase_reading.specs.Sized.{leaf, one}
+use Rattle.phrase_reading.specs.Sized.{one}
 use Rattle.phrase_reading.specs.Words.{g, at, is, word}
 use Rattle.phrase_reading.specs.declared.tall.Tall.{Tall}
 use Rattle.phrase_reading.specs.declared.words.Word.{Word}
 use Rattle.phrase_reading.specs.declared.words.Word.TheVariants as w
-use Rattle.level_laws.specs.Levels.{all_levels, if_levels, ty_levels, typ_bind_levels, con_bind_levels, dat_bind_levels, ex_body_levels, ex_bind_levels, dec_levels, exp_levels, clause_levels, fun_bind_levels, val_bind_levels}
+use Rattle.level_laws.specs.Levels.{all_levels, typ_bind_levels, con_bind_levels, dat_bind_levels, ex_body_levels, ex_bind_levels, dec_levels, clause_levels, fun_bind_levels, val_bind_levels}
 use Rattle.level_laws.specs.Promises.{IsMeasured, AreMeasured, ExpressionsHaveTheirLevels}
-use Rattle.level_laws.proofs.Keeping.{Keeps, keep_pure, keep_refuse, keep_bind, keep_then, keep_on, keep_within, keep_many, keep_none, keep_if_taken, keep_if_mark, keep_if_marked, keep_either, leaf_is, over_is, part_is, one_is, more_is, two_is, further_keeps, maybe_keeps, declares_is, with_dec_is, plain_keeps}
+use Rattle.level_laws.proofs.Keeping.{Keeps, keep_pure, keep_refuse, keep_bind, keep_then, keep_within, keep_many, keep_none, keep_if_taken, keep_if_mark, keep_if_marked, keep_either, leaf_is, over_is, part_is, one_is, more_is, two_is, further_keeps, maybe_keeps, declares_is, with_dec_is, plain_keeps}
 use Rattle.level_laws.proofs.ExpForms.{exp-Paren, dec-Val, dec-Fun, dec-Types, dec-Datatypes, dec-Replication, dec-Exceptions, dec-Local, dec-Open, dec-Infix, dec-Infixr, dec-Nonfix, clause-is, fun_bind-is, val_bind-is}
 use Rattle.level_laws.proofs.TyLevels.{Ty, ty_keeps}
 use Rattle.level_laws.proofs.PatLevels.{Pat, pat_behind_keeps}
@@ -84,7 +76,8 @@ module _ (n : ℕ) (tys : g (Tall FullTy)) (it : Keeps tys (Ty n)) where
   unfolding dat_bind
   dat_bind_keeps = keep_then (λ vars. keep_then (λ called. keep_then (λ _. dat_bind_of_keeps vars called)))
 
-  datatypes_keep : (place : At) (vars : List Name) (called : Name) → Keeps (datatypes tys place vars called) (Dec (suc n))
+  datatypes_keep : (place : At) (vars : List Name) (called : Name)
+      → Keeps (datatypes tys place vars called) (Dec (suc n))
   unfolding datatypes
   datatypes_keep place vars called =
       keep_bind (dat_bind_of_keeps vars called) (λ first is. keep_bind (further_keeps _ dat_bind_keeps (one_is is))

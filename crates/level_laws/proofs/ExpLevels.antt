@@ -1,39 +1,33 @@
--- The height of each phrase of the grammar of expressions is that of its tree, and within the limit, over phrases of one
--- level less of which the same holds.
-use Rattle.std.proofs.Common.{◌≡◌, ℕ, zero, suc, ◌+◌, ◌≤◌, max, List, [], ◌∷◌, ◌++◌, Option, None, Some, Bool, true, false, nat_lt, refl, sym, ap, ap₂, ◌∙◌, arith, add-one}
-use Rattle.grammars.specs.Grammar.{Grammar}
+-- The height of each phrase of the grammar of expressions is that of its tree, and within the limit, over phrases of
+-- one level less of which the same holds.
+use Rattle.std.proofs.Common.{◌≡◌, ℕ, suc, ◌≤◌, max, List, [], Option, None, Some, Bool, true, false, sym, ap, ap₂, ◌∙◌, arith, add-one}
 use Rattle.sml_lexer.specs.declared.lexeme.Lexeme.{Lexeme}
 use Rattle.sml_lexer.specs.declared.lexeme.LexemeKind.{LexemeKind}
 use Rattle.sml_lexer.specs.declared.lexeme.LexemeKind.TheVariants as k
 use Rattle.sml_trees.specs.declared.name.At.{At}
 use Rattle.sml_trees.specs.declared.name.Name.{Name}
-use Rattle.sml_trees.specs.declared.full_ty.FullTy.{FullTy}
 use Rattle.sml_trees.specs.declared.full_pat.Constant.TheVariants as c
 use Rattle.sml_trees.specs.declared.full_pat.Fixity.{Fixity}
-use Rattle.sml_trees.specs.declared.full_exp.FullDec.{FullDec}
 use Rattle.sml_trees.specs.declared.full_exp.FullExp.{FullExp}
 use Rattle.sml_trees.specs.declared.full_exp.FullExp.TheVariants as e
-use Rattle.sml_trees.specs.declared.full_exp.FullExpItem.{FullExpItem}
 use Rattle.sml_trees.specs.declared.full_exp.FullExpItem.TheVariants as item
-use Rattle.sml_trees.specs.declared.full_exp.FullExpField.{FullExpField}
 use Rattle.sml_trees.specs.declared.full_exp.FullRule.{FullRule}
 use Rattle.infix_names.specs.Fixities.{Fixities, fixity_of}
-use Rattle.core_bindings.specs.Decs.{Decs}
 use Rattle.core_expressions.specs.Level.{Level}
-use Rattle.core_expressions.specs.Expressions.{long_exp, op_exp, exps, exp_list, field, fields, record_fields, record_exp, several, tuple_exp, sequence_exp, paren_exp, parens_from, parens, bracket_items, bracket, let_exp, atexp_word, atexp_kind, atexp_after, atexp_of, atom, behind_operator, step_by, step_with, step, steps, whole_run, run_with, run_from, constraint, constraints, typed_of, exp_behind, rule, more_rules, rules_of, rules_behind, raise_exp, if_exp, while_exp, case_exp, fn_of, prefix_word, prefix_after, operand_by, operand_after, side, beside, chained, conjunction_after, disjunction_after, handle_exp, handled, operand_of, conjunction_of, exp_of}
+use Rattle.core_expressions.specs.Expressions.{op_exp, exps, exp_list, field, fields, record_fields, record_exp, several, tuple_exp, sequence_exp, paren_exp, parens_from, parens, bracket_items, bracket, let_exp, atexp_word, atexp_kind, atexp_of, atom, behind_operator, step_by, step_with, step, steps, whole_run, run_with, run_from, constraint, constraints, typed_of, exp_behind, rule, rules_of, rules_behind, raise_exp, if_exp, while_exp, case_exp, fn_of, prefix_word, operand_by, operand_after, side, beside, chained, conjunction_after, disjunction_after, handle_exp, handled, operand_of, conjunction_of, exp_of}
 use Rattle.expression_parts.specs.declared.runs.Run.{Run}
 use Rattle.expression_parts.specs.declared.chain.Chain.{Chain}
 use Rattle.expression_parts.specs.declared.chain.Chain.TheVariants as chain
 use Rattle.expression_parts.specs.ExpStarts.{infix_name, starts_prefix}
-use Rattle.expression_parts.specs.ExpNodes.{branched, link, run_exp, run_of, with_atom, with_operator}
-use Rattle.phrase_reading.specs.Sized.{leaf, more, one, over_two}
-use Rattle.phrase_reading.specs.Words.{g, at, named, long_named, word, word_of}
+use Rattle.expression_parts.specs.ExpNodes.{link, run_of, with_atom, with_operator}
+use Rattle.phrase_reading.specs.Sized.{one}
+use Rattle.phrase_reading.specs.Words.{at, named, word, word_of}
 use Rattle.phrase_reading.specs.declared.tall.Tall.{Tall}
 use Rattle.phrase_reading.specs.declared.words.Word.{Word}
 use Rattle.phrase_reading.specs.declared.words.Word.TheVariants as w
-use Rattle.level_laws.specs.Levels.{all_levels, ty_levels, dec_levels, exp_levels, exp_item_levels, exp_field_levels, rule_levels}
+use Rattle.level_laws.specs.Levels.{all_levels, dec_levels, exp_levels, exp_item_levels, exp_field_levels, rule_levels}
 use Rattle.level_laws.specs.Promises.{IsMeasured, AreMeasured}
-use Rattle.level_laws.proofs.Keeping.{Keeps, keep_pure, keep_refuse, keep_bind, keep_then, keep_on, keep_within, keep_many, keep_none, keep_taken, leaf_is, over_is, over_two_is, part_is, lowered, raised, below_limit, one_is, more_is, all-one, all-more, further_keeps, two_is}
+use Rattle.level_laws.proofs.Keeping.{Keeps, keep_pure, keep_refuse, keep_bind, keep_then, keep_on, keep_within, keep_many, keep_taken, leaf_is, over_is, over_two_is, part_is, lowered, one_is, more_is, all-one, all-more, further_keeps, two_is}
 use Rattle.level_laws.proofs.ExpForms.{exp-Constant, exp-Long, exp-Record, exp-Unit, exp-Tuple, exp-Sequence, exp-Paren, exp-List, exp-Let, exp-Run, exp-Typed, exp-AndAlso, exp-OrElse, exp-Handle, exp-Raise, exp-If, exp-While, exp-Case, exp-Fn, item-Atom, item-Operator, exp_field-is, rule-is}
 use Rattle.level_laws.proofs.TyLevels.{Ty}
 use Rattle.level_laws.proofs.PatLevels.{Pat}
@@ -72,7 +66,8 @@ run_is first is = record {
   low = is.low;
 }
 
-atom_is : {most : ℕ} (run : Run) (next : Tall FullExp) → IsRun most run → Exp most next → IsRun most (with_atom run next)
+atom_is : {most : ℕ} (run : Run) (next : Tall FullExp) → IsRun most run → Exp most next
+    → IsRun most (with_atom run next)
 atom_is run next so is = record {
   exact = ap₂ max so.exact (is.exact ∙ sym (item-Atom next.tree))
       ∙ sym (all-more exp_item_levels run.items (item.Atom next.tree));
@@ -245,7 +240,8 @@ module _ (n : ℕ) (parts : Level) (it : LevelIs n parts) where
         low = let one = is.low in let two = so.low in let three = too.low in omega arith;
       }))))
 
-  prefix_keeps : (fs : Fixities) (place : At) (found : Option Word) → Keeps (prefix_word parts fs place found) (Exp (suc n))
+  prefix_keeps : (fs : Fixities) (place : At) (found : Option Word)
+      → Keeps (prefix_word parts fs place found) (Exp (suc n))
   unfolding raise_exp while_exp case_exp rules_behind
   prefix_keeps fs place (Some w.Raise) =
       keep_bind (it.exp fs) (λ inner is. keep_pure _ (over_is _ (λ inner. exp-Raise inner place) is))
@@ -259,7 +255,8 @@ module _ (n : ℕ) (parts : Level) (it : LevelIs n parts) where
   prefix_keeps fs place (Some w.Fn) = fn_keeps fs place
   prefix_keeps fs place _ = keep_refuse
 
-  operand_by_keeps : (fs : Fixities) (x : Lexeme) (prefix : Bool) → Keeps (operand_by (suc n) parts fs x prefix) (Exp (suc n))
+  operand_by_keeps : (fs : Fixities) (x : Lexeme) (prefix : Bool)
+      → Keeps (operand_by (suc n) parts fs x prefix) (Exp (suc n))
   operand_by_keeps fs x true = keep_within (λ _. prefix_keeps fs (at x) (word x))
   operand_by_keeps fs x false = typed_keeps fs x
 

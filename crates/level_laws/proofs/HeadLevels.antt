@@ -1,11 +1,9 @@
 -- The height of each head of a clause is that of its patterns, and within the limit.
-use Rattle.std.proofs.Common.{◌≡◌, ℕ, zero, suc, ◌+◌, ◌-◌, ◌<◌, ◌≤◌, max, length, List, [], ◌∷◌, Option, None, Some, is_some, Bool, true, false, nat_lt, refl, sym, ap, ap₂, ◌∙◌, arith, rules, add-one}
-use Rattle.grammars.specs.Grammar.{Grammar}
+use Rattle.std.proofs.Common.{◌≡◌, ℕ, zero, suc, ◌+◌, ◌-◌, ◌<◌, ◌≤◌, max, length, List, Option, None, Some, Bool, true, false, nat_lt, refl, sym, ap, ap₂, ◌∙◌, arith, rules, add-one}
 use Rattle.sml_lexer.specs.declared.lexeme.Lexeme.{Lexeme}
 use Rattle.sml_lexer.specs.declared.lexeme.LexemeKind.{LexemeKind}
 use Rattle.sml_lexer.specs.declared.lexeme.LexemeKind.TheVariants as k
 use Rattle.sml_trees.specs.declared.full_exp.FullHead.{FullHead}
-use Rattle.sml_trees.specs.declared.full_exp.FullHead.TheVariants as h
 use Rattle.sml_trees.specs.declared.full_pat.Fixity.{Fixity}
 use Rattle.sml_trees.specs.declared.full_pat.FullPat.{FullPat}
 use Rattle.sml_trees.specs.declared.full_pat.FullPat.TheVariants as p
@@ -13,24 +11,24 @@ use Rattle.sml_trees.specs.declared.full_ty.OpName.{OpName}
 use Rattle.sml_trees.specs.declared.name.At.{At}
 use Rattle.sml_trees.specs.declared.name.LongName.{LongName}
 use Rattle.sml_trees.specs.declared.name.Name.{Name}
-use Rattle.core_patterns.specs.Patterns.{plain, operand_height, start, with_operand, goes_on, whole_run, behind_operand, behind_first, pat_level, pat, run_from, typed}
+use Rattle.core_patterns.specs.Patterns.{operand_height, start, whole_run, behind_operand, pat_level, pat}
 use Rattle.core_patterns.specs.declared.operand.Operand.{Operand}
 use Rattle.core_patterns.specs.declared.operand.Operand.TheVariants as o
 use Rattle.core_patterns.specs.declared.operand.Run.{Run}
 use Rattle.core_types.specs.Types.{ty}
 use Rattle.infix_names.specs.Fixities.{Fixities, fixity_of}
-use Rattle.phrase_reading.specs.Sized.{leaf, over, part, more}
-use Rattle.phrase_reading.specs.Words.{g, at, named, long_named, word_of}
+use Rattle.phrase_reading.specs.Sized.{over}
+use Rattle.phrase_reading.specs.Words.{at, named, long_named, word_of}
 use Rattle.phrase_reading.specs.declared.tall.Tall.{Tall}
 use Rattle.phrase_reading.specs.declared.words.Word.{Word}
 use Rattle.phrase_reading.specs.declared.words.Word.TheVariants as w
-use Rattle.clause_heads.specs.Heads.{may_end, may_be_bare, prefix_name, atom, argument, infix_head, infix_from, atom_head, arguments_from, arguments, prefix_head, long_pat, long_head, short_head, named_head_by, named_head, op_head, too_high, closed_head, pair_run, pair_arguments, pair_left, pair_head, behind_run, pair_pattern, pair_behind, pair_from, left_from, pair_of, parens_pattern, is_named, parens_behind, parens_from, parens_some, unit_head, parens_head, head_word, head_kind, head_after}
+use Rattle.clause_heads.specs.Heads.{may_end, may_be_bare, prefix_name, atom, argument, infix_head, infix_from, atom_head, arguments_from, arguments, prefix_head, long_pat, long_head, short_head, named_head_by, op_head, too_high, closed_head, pair_run, pair_arguments, pair_left, pair_head, behind_run, pair_pattern, pair_behind, pair_from, left_from, pair_of, parens_pattern, is_named, parens_behind, parens_from, parens_some, unit_head, parens_head, head_word, head_kind, head_after}
 use Rattle.clause_heads.specs.declared.heads.Wanted.{Wanted}
 use Rattle.clause_heads.specs.declared.paren_head.Left.{Left}
 use Rattle.clause_heads.specs.declared.paren_head.Pair.{Pair}
 use Rattle.level_laws.specs.Levels.{all_levels, pat_levels, head_levels}
 use Rattle.level_laws.specs.Promises.{IsMeasured}
-use Rattle.level_laws.proofs.Keeping.{Keeps, keep_pure, keep_refuse, keep_bind, keep_then, keep_on, keep_within, keep_many, keep_none, keep_if_taken, keep_if_mark, keep_either, part_is, more_is, none_is, two_is}
+use Rattle.level_laws.proofs.Keeping.{Keeps, keep_pure, keep_refuse, keep_bind, keep_then, keep_on, keep_within, keep_many, keep_none, keep_if_taken, keep_if_mark, keep_either, more_is, none_is, two_is}
 use Rattle.level_laws.proofs.PatForms.{pat-Long, pat-Unit, pat-Paren, pat-Run}
 use Rattle.level_laws.proofs.TyLevels.{ty_keeps}
 use Rattle.level_laws.proofs.PatLevels.{Pat, IsOperand, IsRun, start_is, operand_is, whole_is, raised_run, step_keeps, rest_keeps, typed_keeps, behind_keeps, first_keeps, levels_keep, pat_keeps, operand_keeps}
@@ -78,7 +76,8 @@ module _ (n : ℕ) (fs : Fixities) (wanted : Wanted) where
 
   prefix_keeps : (called : OpName) → Keeps (prefix_head n fs wanted called) (Head n)
   unfolding prefix_head
-  prefix_keeps called = keep_bind (arguments_keep 0) (λ args are. keep_pure _ (record { exact = are.exact; low = are.low }))
+  prefix_keeps called =
+      keep_bind (arguments_keep 0) (λ args are. keep_pure _ (record { exact = are.exact; low = are.low }))
 
   long_is : (op : Bool) (start : At) (long : LongName) → nat_lt 0 n ≡ true → Pat n (long_pat op start long)
   long_is op start long room = record {

@@ -1,7 +1,8 @@
--- What holds of the value of each phrase of a grammar, form by form, and what heights are of trees that are put together.
-use Rattle.std.proofs.Common.{◌≡◌, ℕ, zero, suc, ◌+◌, max, List, [], ◌∷◌, ◌++◌, Option, Some, None, Bool, true, false, map, nat_lt, ◌<◌, ◌≤◌, refl, sym, ap, ap₂, ◌∙◌, arith, rules, add-one}
+-- What holds of the value of each phrase of a grammar, form by form, and what heights are of trees that are put
+-- together.
+use Rattle.std.proofs.Common.{◌≡◌, ℕ, suc, ◌+◌, max, List, [], ◌∷◌, ◌++◌, Option, Some, None, Bool, true, false, map, nat_lt, ◌<◌, ◌≤◌, refl, sym, ap, ap₂, ◌∙◌, arith, rules, add-one}
 use Rattle.std.proofs.lemmas.List.{map-append}
-use Rattle.grammars.specs.Grammar.{Grammar, Phrase}
+use Rattle.grammars.specs.Grammar.{Grammar}
 use Rattle.grammars.specs.Laws.{Gives}
 use Rattle.grammars.proofs.Values.{gives_pure, gives_refuse, gives_bind, gives_on, gives_within, gives_many}
 use Rattle.sml_lexer.specs.declared.lexeme.Lexeme.{Lexeme}
@@ -202,7 +203,8 @@ all-append levels xs ys =
     ∙ highest_with-is (all_levels levels xs) (map levels ys)
 
 -- nothing yet
-pub none_is : {A : Type 0} {levels : A → ℕ} {most : ℕ} → IsMeasured (all_levels levels) most (record { tree = []; height = 0 })
+pub none_is : {A : Type 0} {levels : A → ℕ} {most : ℕ}
+    → IsMeasured (all_levels levels) most (record { tree = []; height = 0 })
 none_is = record { exact = refl; low = omega arith }
 
 -- one declaration

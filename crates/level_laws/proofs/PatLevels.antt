@@ -1,6 +1,5 @@
 -- The height of each phrase of the grammar of patterns is that of its tree, and within the limit.
 use Rattle.std.proofs.Common.{◌≡◌, ℕ, zero, suc, ◌-◌, ◌≤◌, max, List, [], ◌∷◌, ◌++◌, Option, None, Some, Bool, true, false, nat_lt, refl, sym, ap, ap₂, ◌∙◌, arith, add-one}
-use Rattle.grammars.specs.Grammar.{Grammar}
 use Rattle.sml_lexer.specs.declared.lexeme.Lexeme.{Lexeme}
 use Rattle.sml_lexer.specs.declared.lexeme.LexemeKind.{LexemeKind}
 use Rattle.sml_lexer.specs.declared.lexeme.LexemeKind.TheVariants as k
@@ -15,22 +14,20 @@ use Rattle.sml_trees.specs.declared.full_pat.FullPat.{FullPat}
 use Rattle.sml_trees.specs.declared.full_pat.FullPat.TheVariants as p
 use Rattle.sml_trees.specs.declared.full_pat.FullPatItem.{FullPatItem}
 use Rattle.sml_trees.specs.declared.full_pat.FullPatItem.TheVariants as i
-use Rattle.sml_trees.specs.declared.full_pat.FullPatField.{FullPatField}
 use Rattle.infix_names.specs.Fixities.{Fixities, joining}
 use Rattle.core_types.specs.Types.{ty}
-use Rattle.core_patterns.specs.Patterns.{PatLevel, leaf_id, plain, items_of, in_brackets, tuple_of, behind_first, inside_parens, in_parens, labelled, named_field, if_name, field_behind, field, fields_of, record_of, other, behind_op, atpat_word, atpat_kind, atpat_after, start, with_argument, with_operand, operator, goes_on, operand_joined, operand_behind, argument, by_operator, run_step, run_on, whole_run, constraint, constrained, typed, layered, layer, some_type, no_type, id_under, behind_typed, typed_id, behind_name, behind_id, alone, run_rest, run_from, behind_operand, pat_after, level_of, no_level, pat_level, pat, pat_behind, atpat}
+use Rattle.core_patterns.specs.Patterns.{PatLevel, plain, items_of, in_brackets, tuple_of, behind_first, inside_parens, in_parens, labelled, named_field, if_name, field_behind, field, fields_of, record_of, other, behind_op, atpat_word, atpat_kind, start, with_argument, with_operand, operator, operand_joined, operand_behind, argument, by_operator, run_step, run_on, whole_run, constrained, typed, layered, layer, some_type, no_type, id_under, behind_typed, typed_id, behind_name, behind_id, alone, run_rest, behind_operand, pat_after, pat_level, pat, pat_behind, atpat}
 use Rattle.core_patterns.specs.declared.operand.Operand.{Operand}
 use Rattle.core_patterns.specs.declared.operand.Operand.TheVariants as o
 use Rattle.core_patterns.specs.declared.operand.Run.{Run}
-use Rattle.phrase_reading.specs.Sized.{leaf, over, over_two, part, one, more, maybe}
-use Rattle.phrase_reading.specs.Words.{g, is, at, named, long_named, word_of, given}
-use Rattle.phrase_reading.specs.declared.lexemes.Label.{Label}
+use Rattle.phrase_reading.specs.Sized.{more}
+use Rattle.phrase_reading.specs.Words.{g, is, at, word_of, given}
 use Rattle.phrase_reading.specs.declared.tall.Tall.{Tall}
 use Rattle.phrase_reading.specs.declared.words.Word.{Word}
 use Rattle.phrase_reading.specs.declared.words.Word.TheVariants as w
 use Rattle.level_laws.specs.Levels.{all_levels, if_levels, ty_levels, pat_levels, pat_item_levels, pat_field_levels}
 use Rattle.level_laws.specs.Promises.{IsMeasured, PatternsHaveTheirLevels}
-use Rattle.level_laws.proofs.Keeping.{Keeps, keep_pure, keep_refuse, keep_bind, keep_then, keep_on, keep_within, keep_many, keep_none, leaf_is, over_is, over_two_is, part_is, lowered, raised, below_limit, one_is, more_is, all-one, all-more, further_keeps, maybe_keeps, two_is}
+use Rattle.level_laws.proofs.Keeping.{Keeps, keep_pure, keep_refuse, keep_bind, keep_then, keep_on, keep_within, keep_many, keep_none, leaf_is, over_is, over_two_is, part_is, lowered, below_limit, one_is, more_is, all-one, all-more, further_keeps, maybe_keeps, two_is}
 use Rattle.level_laws.proofs.PatForms.{pat-Wild, pat-Constant, pat-Long, pat-Record, pat-Unit, pat-Tuple, pat-Paren, pat-List, pat-Run, pat-Typed, pat-As, item-Atom, item-Operator, field-Labelled, field-Named}
 use Rattle.level_laws.proofs.TyLevels.{Ty, ty_keeps}
 
@@ -108,7 +105,8 @@ module _ (n : ℕ) (tys : g (Tall FullTy)) (it : Keeps tys (Ty n)) (below : g (T
       (keep_bind pats (λ first is. keep_bind (further_keeps _ pats (one_is is))
       (λ items are. keep_then (λ _. keep_pure _ (over_is _ (λ items. pat-List items place) are)))))
 
-  pub first_keeps : (place : At) (first : Tall FullPat) → Pat n first → Keeps (behind_first below place first) (Pat (suc n))
+  pub first_keeps : (place : At) (first : Tall FullPat) → Pat n first
+      → Keeps (behind_first below place first) (Pat (suc n))
   unfolding behind_first tuple_of
   first_keeps place first is =
       keep_on
@@ -164,7 +162,8 @@ module _ (n : ℕ) (tys : g (Tall FullTy)) (it : Keeps tys (Ty n)) (below : g (T
   atpat_keeps x (k.Str text) = keep_pure _ (λ _. leaf_is (p.Constant (c.Str text) (at x)) (pat-Constant _ _))
   atpat_keeps x (k.Char byte) = keep_pure _ (λ _. leaf_is (p.Constant (c.Char byte) (at x)) (pat-Constant _ _))
 
-  pub typed_keeps : (place : At) (left : Tall FullPat) → Pat (suc n) left → Keeps (typed (suc n) tys place left) (Pat (suc n))
+  pub typed_keeps : (place : At) (left : Tall FullPat) → Pat (suc n) left
+      → Keeps (typed (suc n) tys place left) (Pat (suc n))
   unfolding typed constrained
   typed_keeps place left is =
       keep_many (λ left x so. keep_within (λ room. keep_bind it (λ ty too.
@@ -176,7 +175,8 @@ module _ (n : ℕ) (tys : g (Tall FullTy)) (it : Keeps tys (Ty n)) (below : g (T
   layer_keeps place called ty is =
       keep_bind pats (λ inner so. keep_pure _ (over_two_is _ (λ ty inner. pat-As called ty inner place) is so))
 
-  layered_keeps : (place : At) (called : Option OpName) (ty : Tall (Option FullTy)) → IsMeasured (if_levels ty_levels) n ty
+  layered_keeps : (place : At) (called : Option OpName) (ty : Tall (Option FullTy))
+      → IsMeasured (if_levels ty_levels) n ty
       → Keeps (given (λ called. layer below place called ty) called) (Pat (suc n))
   layered_keeps place None ty is = keep_refuse
   layered_keeps place (Some called) ty is = layer_keeps place called ty is
@@ -219,7 +219,8 @@ module _ (n : ℕ) (tys : g (Tall FullTy)) (it : Keeps tys (Ty n)) (below : g (T
             keep_on (λ y. keep_bind (each y) (λ operand it. keep_pure _ (operand_is run _ f (at y) operand so it)))
             keep_refuse
 
-    pub rest_keeps : (place : At) (run : Run) → IsRun n run → Keeps (run_rest fs (suc n) tys parts place run) (Pat (suc n))
+    pub rest_keeps : (place : At) (run : Run) → IsRun n run
+        → Keeps (run_rest fs (suc n) tys parts place run) (Pat (suc n))
     unfolding run_rest run_on
     rest_keeps place run is =
         keep_bind (keep_many (λ run x so. step_keeps run x (raised_run run so)) run is)

@@ -1,35 +1,28 @@
 -- The height of each signature expression and specification is that of its tree, and within the limit.
-use Rattle.std.proofs.Common.{◌≡◌, ℕ, zero, suc, ◌-◌, ◌≤◌, max, List, [], ◌∷◌, Option, None, Some, Bool, true, false, nat_lt, map, refl, sym, ap, ◌∙◌, arith}
-use Rattle.grammars.specs.Grammar.{Grammar}
+use Rattle.std.proofs.Common.{◌≡◌, ℕ, zero, suc, ◌-◌, List, [], ◌∷◌, Option, Some, refl, sym, ap, ◌∙◌, arith}
 use Rattle.sml_lexer.specs.declared.lexeme.Lexeme.{Lexeme}
 use Rattle.sml_trees.specs.declared.name.At.{At}
 use Rattle.sml_trees.specs.declared.name.Name.{Name}
 use Rattle.sml_trees.specs.declared.ty.TypDesc.{TypDesc}
-use Rattle.sml_trees.specs.declared.full_ty.FullTy.{FullTy}
-use Rattle.sml_trees.specs.declared.full_sig.FullSigBind.{FullSigBind}
 use Rattle.sml_trees.specs.declared.full_sig.FullSigExp.{FullSigExp}
-use Rattle.sml_trees.specs.declared.full_sig.FullSigExp.TheVariants as s
 use Rattle.sml_trees.specs.declared.full_sig.FullSpec.{FullSpec}
-use Rattle.sml_trees.specs.declared.full_sig.FullSpec.TheVariants as p
 use Rattle.sml_trees.specs.declared.full_sig.FullWhere.{FullWhere}
 use Rattle.core_types.specs.Types.{ty}
 use Rattle.core_bindings.specs.Bindings.{has_none}
-use Rattle.phrase_reading.specs.Sized.{leaf, one}
 use Rattle.phrase_reading.specs.Words.{g, is, word, at}
 use Rattle.phrase_reading.specs.declared.tall.Tall.{Tall}
 use Rattle.phrase_reading.specs.declared.words.Word.{Word}
 use Rattle.phrase_reading.specs.declared.words.Word.TheVariants as w
-use Rattle.signature_parser.specs.Joined.{module_name_of, apart, joined_over, joined_one, joined_more, alone_of, alone, next_binding, bindings_from, bindings}
-use Rattle.signature_parser.specs.Signatures.{SigLevel, sig_body, sig_name, sig_atom, where_bind, where_type, one_type, and_type, where_types_from, where_types, where_of, where_behind, wheres, sig_within, sig_behind, sig_of, sig_bind}
+use Rattle.signature_parser.specs.Joined.{module_name_of, apart, alone, next_binding, bindings_from, bindings}
+use Rattle.signature_parser.specs.Signatures.{SigLevel, sig_body, sig_name, sig_atom, where_bind, where_type, one_type, and_type, where_types_from, where_types, where_of, where_behind, wheres, sig_within, sig_of, sig_bind}
 use Rattle.signature_parser.specs.SigLevels.{sig_level, sig_below, no_sig_level}
-use Rattle.signature_parser.specs.Specifications.{val_desc, val_spec, typ_desc, type_spec, eq_desc, eqtype_spec, con_desc, dat_desc_of, dat_desc, datatype_descs, replication_spec, datatype_from, datatype_spec, exception_spec, structure_spec, include_sig, include_names, named_sig, include_where, include_one, include_from, include_spec, spec_word, spec_of, next_spec, spec_round, specs_from, no_specs, specs_of}
+use Rattle.signature_parser.specs.Specifications.{val_desc, val_spec, typ_desc, type_spec, eq_desc, eqtype_spec, con_desc, dat_desc_of, dat_desc, datatype_descs, replication_spec, datatype_from, datatype_spec, exception_spec, structure_spec, include_sig, include_names, named_sig, include_where, include_one, include_from, include_spec, spec_word, spec_of, next_spec, spec_round, specs_from, no_specs}
 use Rattle.signature_parser.specs.declared.joined.Joined.{Joined}
-use Rattle.tree_heights.specs.Heights.{highest}
-use Rattle.level_laws.specs.Levels.{all_levels, ty_levels, where_levels, val_desc_levels, typ_desc_levels, con_bind_levels, dat_bind_levels, sig_levels, spec_levels, sig_bind_levels}
+use Rattle.level_laws.specs.Levels.{all_levels, where_levels, val_desc_levels, typ_desc_levels, con_bind_levels, dat_bind_levels, sig_levels, spec_levels, sig_bind_levels}
 use Rattle.level_laws.specs.Promises.{IsMeasured}
-use Rattle.level_laws.proofs.Keeping.{Keeps, keep_pure, keep_refuse, keep_bind, keep_then, keep_on, keep_within, keep_many, keep_none, keep_made, keep_if_taken, keep_if_mark, keep_if_marked, keep_either, leaf_is, over_is, over_two_is, part_is, lowered, one_is, more_is, none_is, further_keeps, maybe_keeps}
+use Rattle.level_laws.proofs.Keeping.{Keeps, keep_pure, keep_refuse, keep_bind, keep_then, keep_on, keep_within, keep_many, keep_made, keep_if_taken, keep_if_mark, keep_if_marked, keep_either, leaf_is, over_is, over_two_is, part_is, lowered, one_is, more_is, none_is, further_keeps, maybe_keeps}
 use Rattle.level_laws.proofs.SigForms.{sig-Sig, sig-Named, sig-Where, spec-Vals, spec-Types, spec-Eqtypes, spec-Datatypes, spec-Replication, spec-Exceptions, spec-Structures, spec-IncludeNames, spec-Include, sig_bind-is}
-use Rattle.level_laws.proofs.TyLevels.{Ty, ty_keeps}
+use Rattle.level_laws.proofs.TyLevels.{ty_keeps}
 
 -- ---- phrases behind which an `and` may have been taken
 
@@ -128,7 +121,8 @@ module _ (n : ℕ) (parts : SigLevel) (it : SigLevelIs n parts) where
       keep_on (λ x. keep_within (λ _. rw same (keep_bind (sig_atom_keeps x) (λ first is. wheres_keep n (at x) (apart first) is))))
       keep_refuse
 
-  pub sig_bind_keeps : (mark : Word) (called : Name) → Keeps (sig_bind parts.sig mark called) (IsJoined sig_bind_levels n)
+  pub sig_bind_keeps : (mark : Word) (called : Name)
+      → Keeps (sig_bind parts.sig mark called) (IsJoined sig_bind_levels n)
   unfolding sig_bind
   sig_bind_keeps mark called =
       keep_then (λ _. keep_bind it.sig (λ found is. keep_pure _ (part_is _ (λ inner. sig_bind-is called inner) is)))
@@ -255,7 +249,8 @@ module _ (n most : ℕ) (parts : SigLevel) (each : (x : Lexeme) → Keeps (spec_
       keep_either (is w.Semicolon x) (λ _. keep_pure found are)
       (keep_bind (each x) (λ next so. keep_pure _ (more_is are so)))
 
-  pub specs_from_keeps : (found : Tall (List FullSpec)) → Specs most found → Keeps (specs_from n parts found) (Specs most)
+  pub specs_from_keeps : (found : Tall (List FullSpec)) → Specs most found
+      → Keeps (specs_from n parts found) (Specs most)
   unfolding specs_from
   specs_from_keeps found are = keep_many (λ found x are. round_keeps found x are) found are
 

@@ -1,22 +1,17 @@
 -- The height of each structure expression and of each declaration in one is that of its tree, and within the limit.
-use Rattle.std.proofs.Common.{◌≡◌, ℕ, zero, suc, ◌+◌, ◌-◌, ◌≤◌, max, List, [], ◌∷◌, Option, None, Some, Bool, true, false, nat_lt, map, refl, sym, ap, ap₂, ◌∙◌, arith, add-one}
-use Rattle.grammars.specs.Grammar.{Grammar}
+use Rattle.std.proofs.Common.{◌≡◌, ℕ, zero, suc, ◌-◌, max, List, [], ◌∷◌, Option, None, Some, Bool, true, false, map, refl, sym, ap, ap₂, ◌∙◌, arith, add-one}
 use Rattle.sml_lexer.specs.declared.lexeme.Lexeme.{Lexeme}
 use Rattle.sml_trees.specs.declared.name.At.{At}
 use Rattle.sml_trees.specs.declared.name.Name.{Name}
 use Rattle.sml_trees.specs.declared.full_exp.FullDec.{FullDec}
-use Rattle.sml_trees.specs.declared.full_sig.FullSeal.{FullSeal}
 use Rattle.sml_trees.specs.declared.full_sig.FullSigExp.{FullSigExp}
-use Rattle.sml_trees.specs.declared.full_str.FullStrBind.{FullStrBind}
 use Rattle.sml_trees.specs.declared.full_str.FullStrDec.{FullStrDec}
 use Rattle.sml_trees.specs.declared.full_str.FullStrDec.TheVariants as d
 use Rattle.sml_trees.specs.declared.full_str.FullStrExp.{FullStrExp}
-use Rattle.sml_trees.specs.declared.full_str.FullStrExp.TheVariants as t
 use Rattle.infix_names.specs.Fixities.{Fixities}
 use Rattle.core_bindings.specs.Decs.{Decs, plain}
 use Rattle.core_expressions.specs.Levels.{level}
 use Rattle.phrase_reading.specs.Names.{strid_of}
-use Rattle.phrase_reading.specs.Sized.{leaf}
 use Rattle.phrase_reading.specs.Words.{g, is, word, at}
 use Rattle.phrase_reading.specs.declared.tall.Tall.{Tall}
 use Rattle.phrase_reading.specs.declared.words.Word.{Word}
@@ -25,14 +20,14 @@ use Rattle.signature_parser.specs.Joined.{module_name_of, apart}
 use Rattle.signature_parser.specs.SigLevels.{sig_level}
 use Rattle.signature_parser.specs.declared.joined.Joined.{Joined}
 use Rattle.module_parser.specs.StrLevels.{str_level, str_below, no_str_level}
-use Rattle.module_parser.specs.Structures.{StrLevel, no_str_decs, str, seal, seal_behind, maybe_seal, str_bind, struct_str, let_str, of_str, of_decs, of_strdec, first_at, argument, str_name, str_named, str_atom, sealed_tree, sealed_of, seal_of, seals, str_within, str_behind, structures, local_str, of_core, core_dec, str_dec_word, str_dec_of, next_str_dec, str_round, str_decs_from, str_decs_of, str_decs_behind}
+use Rattle.module_parser.specs.Structures.{StrLevel, no_str_decs, str, seal, seal_behind, maybe_seal, str_bind, struct_str, let_str, of_str, of_decs, of_strdec, argument, str_name, str_named, str_atom, sealed_tree, sealed_of, seal_of, seals, str_within, str_behind, structures, local_str, core_dec, str_dec_word, str_dec_of, next_str_dec, str_round, str_decs_from, str_decs_behind}
 use Rattle.tree_heights.specs.Heights.{highest}
 use Rattle.level_laws.specs.Levels.{all_levels, if_levels, dec_levels, sig_levels, seal_levels, str_dec_levels, str_levels, str_bind_levels}
 use Rattle.level_laws.specs.Promises.{IsMeasured, AreMeasured}
 use Rattle.level_laws.proofs.Keeping.{Keeps, keep_pure, keep_refuse, keep_bind, keep_then, keep_on, keep_within, keep_many, keep_made, keep_if_mark, keep_if_marked, keep_either, leaf_is, over_is, over_two_is, part_is, lowered, two_is, declares_is, with_dec_is, plain_keeps}
 use Rattle.level_laws.proofs.StrForms.{str_dec-Core, str_dec-Structures, str_dec-Local, str-Struct, str-Named, str-Transparent, str-Opaque, str-Functor, str-FunctorOfDecs, str-Within, str_bind-is}
 use Rattle.level_laws.proofs.DecLevels.{core_keeps}
-use Rattle.level_laws.proofs.SigLevels.{IsJoined, alone_keeps, bindings_keep, Sig, sig_level_keeps}
+use Rattle.level_laws.proofs.SigLevels.{IsJoined, alone_keeps, bindings_keep, sig_level_keeps}
 
 -- a structure expression of at most so many levels, with the `and` behind it or without
 abbrev pub Str : ℕ → Joined FullStrExp → Type 0
@@ -125,7 +120,8 @@ module _ (n : ℕ) (parts : StrLevel) (it : StrLevelIs n parts) where
         low = let low = are.low in omega arith;
       })))
 
-  argument_keeps : (fs : Fixities) (called : Name) (place : At) → Keeps (argument parts fs called place) (StrTree (suc n))
+  argument_keeps : (fs : Fixities) (called : Name) (place : At)
+      → Keeps (argument parts fs called place) (StrTree (suc n))
   unfolding argument of_str of_strdec
   argument_keeps fs called place =
       keep_on (λ x. keep_bind (alone_keeps (it.str_after fs x)) (λ found is. keep_then (λ _.
@@ -133,7 +129,8 @@ module _ (n : ℕ) (parts : StrLevel) (it : StrLevelIs n parts) where
       (keep_on (λ x. of_decs_keeps (parts.decs_behind fs x) (it.decs_behind fs x) called _ place)
       (of_decs_keeps _ (keep_pure _ (no_decs n fs)) called _ place))
 
-  named_keeps : (fs : Fixities) (x : Lexeme) (found : Option (List ℕ)) → Keeps (str_named parts fs x found) (StrTree (suc n))
+  named_keeps : (fs : Fixities) (x : Lexeme) (found : Option (List ℕ))
+      → Keeps (str_named parts fs x found) (StrTree (suc n))
   named_keeps fs x None = keep_made (str_name x) (λ parts. leaf_is _ (str-Named _ (at x))) (strid_of x)
   named_keeps fs x (Some text) =
       keep_if_mark _ (argument_keeps fs _ (at x)) (keep_pure _ (leaf_is _ (str-Named _ (at x))))
@@ -155,7 +152,8 @@ module _ (n : ℕ) (parts : StrLevel) (it : StrLevelIs n parts) where
       keep_bind (maybe_seal_keeps n) (λ given is. keep_then (λ _. keep_bind (str_keeps fs) (λ body so.
       keep_pure _ (two_is (str_bind-is called given.tree body.made.tree) is so))))
 
-  structures_keep : (fs : Fixities) (place : At) → Keeps (structures n parts fs place) (IsMeasured str_dec_levels (suc n))
+  structures_keep : (fs : Fixities) (place : At)
+      → Keeps (structures n parts fs place) (IsMeasured str_dec_levels (suc n))
   unfolding structures
   structures_keep fs place =
       keep_bind (bindings_keep (str_bind_keeps fs)) (λ found are.
@@ -171,7 +169,8 @@ module _ (n : ℕ) (parts : StrLevel) (it : StrLevelIs n parts) where
         low = let low = is.low in let lower = so.low in omega arith;
       }))))))
 
-  structure_word : (fs : Fixities) (place : At) → Keeps (plain fs (structures (suc n - 1) parts fs place)) (StrDecs (suc n))
+  structure_word : (fs : Fixities) (place : At)
+      → Keeps (plain fs (structures (suc n - 1) parts fs place)) (StrDecs (suc n))
   structure_word fs place =
       let same : suc n - 1 ≡ n = omega arith in rw same (plain_keeps fs (structures_keep fs place))
 

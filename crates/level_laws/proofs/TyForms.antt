@@ -1,5 +1,5 @@
 -- The levels of each form of a type, by those of its parts.
-use Rattle.std.proofs.Common.{◌≡◌, ℕ, suc, max, List, sym, ap, ◌∙◌}
+use Rattle.std.proofs.Common.{◌≡◌, suc, max, List, sym, ap, ◌∙◌}
 use Rattle.sml_trees.specs.declared.name.At.{At}
 use Rattle.sml_trees.specs.declared.name.Name.{Name}
 use Rattle.sml_trees.specs.declared.name.LongName.{LongName}
@@ -15,10 +15,12 @@ unfolding ty_levels ty_field_levels
 ty-Var name at =
     ap ty_levels (sym (t.rolls-Var name at)) ∙ fold-roll-FullTy _ _ ty_step ty_field_step (FullTy-F.Var name at)
 
-pub ty-Record : (fields : List FullTyField) (at : At) → ty_levels (t.Record fields at) ≡ suc (all_levels ty_field_levels fields)
+pub ty-Record : (fields : List FullTyField) (at : At)
+    → ty_levels (t.Record fields at) ≡ suc (all_levels ty_field_levels fields)
 unfolding ty_levels ty_field_levels
 ty-Record fields at =
-    ap ty_levels (sym (t.rolls-Record fields at)) ∙ fold-roll-FullTy _ _ ty_step ty_field_step (FullTy-F.Record fields at)
+    ap ty_levels (sym (t.rolls-Record fields at))
+    ∙ fold-roll-FullTy _ _ ty_step ty_field_step (FullTy-F.Record fields at)
 
 pub ty-Con : (long : LongName) (at : At) → ty_levels (t.Con long at) ≡ 1
 unfolding ty_levels ty_field_levels
@@ -28,12 +30,15 @@ ty-Con long at =
 pub ty-Applied : (arg : FullTy) (long : LongName) (at : At) → ty_levels (t.Applied arg long at) ≡ suc (ty_levels arg)
 unfolding ty_levels ty_field_levels
 ty-Applied arg long at =
-    ap ty_levels (sym (t.rolls-Applied arg long at)) ∙ fold-roll-FullTy _ _ ty_step ty_field_step (FullTy-F.Applied arg long at)
+    ap ty_levels (sym (t.rolls-Applied arg long at))
+    ∙ fold-roll-FullTy _ _ ty_step ty_field_step (FullTy-F.Applied arg long at)
 
-pub ty-AppliedAll : (args : List FullTy) (long : LongName) (at : At) → ty_levels (t.AppliedAll args long at) ≡ suc (all_levels ty_levels args)
+pub ty-AppliedAll : (args : List FullTy) (long : LongName) (at : At)
+    → ty_levels (t.AppliedAll args long at) ≡ suc (all_levels ty_levels args)
 unfolding ty_levels ty_field_levels
 ty-AppliedAll args long at =
-    ap ty_levels (sym (t.rolls-AppliedAll args long at)) ∙ fold-roll-FullTy _ _ ty_step ty_field_step (FullTy-F.AppliedAll args long at)
+    ap ty_levels (sym (t.rolls-AppliedAll args long at))
+    ∙ fold-roll-FullTy _ _ ty_step ty_field_step (FullTy-F.AppliedAll args long at)
 
 pub ty-Tuple : (parts : List FullTy) (at : At) → ty_levels (t.Tuple parts at) ≡ suc (all_levels ty_levels parts)
 unfolding ty_levels ty_field_levels
@@ -43,7 +48,8 @@ ty-Tuple parts at =
 pub ty-Arrow : (from to : FullTy) (at : At) → ty_levels (t.Arrow from to at) ≡ suc (max (ty_levels from) (ty_levels to))
 unfolding ty_levels ty_field_levels
 ty-Arrow from to at =
-    ap ty_levels (sym (t.rolls-Arrow from to at)) ∙ fold-roll-FullTy _ _ ty_step ty_field_step (FullTy-F.Arrow from to at)
+    ap ty_levels (sym (t.rolls-Arrow from to at))
+    ∙ fold-roll-FullTy _ _ ty_step ty_field_step (FullTy-F.Arrow from to at)
 
 pub ty-Paren : (inner : FullTy) (at : At) → ty_levels (t.Paren inner at) ≡ suc (ty_levels inner)
 unfolding ty_levels ty_field_levels

@@ -1,24 +1,21 @@
 -- The height of each phrase of the grammar of types is that of its tree, and within the limit.
 use Rattle.std.proofs.Common.{ℕ, zero, suc, List, [], Option, None, Some}
-use Rattle.grammars.specs.Grammar.{Grammar}
 use Rattle.sml_lexer.specs.declared.lexeme.Lexeme.{Lexeme}
 use Rattle.sml_lexer.specs.declared.lexeme.LexemeKind.{LexemeKind}
 use Rattle.sml_lexer.specs.declared.lexeme.LexemeKind.TheVariants as k
 use Rattle.sml_trees.specs.declared.name.At.{At}
 use Rattle.sml_trees.specs.declared.name.Name.{Name}
-use Rattle.sml_trees.specs.declared.name.LongName.{LongName}
 use Rattle.sml_trees.specs.declared.full_ty.FullTy.{FullTy}
 use Rattle.sml_trees.specs.declared.full_ty.FullTy.TheVariants as t
-use Rattle.sml_trees.specs.declared.full_ty.FullTyField.{FullTyField}
-use Rattle.core_types.specs.Types.{TyLevel, field, fields_of, record_of, applied_all, behind_first, in_parens, atom_word, atom_kind, atom_after, apply, constructor_after, applied, part_after, starred, tuple_of, tuple, arrow_of, arrow, ty_after, level_of, no_level, ty_level, ty}
-use Rattle.phrase_reading.specs.Sized.{leaf, more, one}
+use Rattle.core_types.specs.Types.{TyLevel, field, fields_of, record_of, applied_all, behind_first, in_parens, atom_word, atom_kind, apply, constructor_after, applied, part_after, starred, tuple_of, tuple, arrow_of, arrow, ty_after, ty_level, ty}
+use Rattle.phrase_reading.specs.Sized.{more, one}
 use Rattle.phrase_reading.specs.Words.{g, is, tycon_of, made, at, named, long_named, word_of}
 use Rattle.phrase_reading.specs.declared.tall.Tall.{Tall}
 use Rattle.phrase_reading.specs.declared.words.Word.{Word}
 use Rattle.phrase_reading.specs.declared.words.Word.TheVariants as w
 use Rattle.level_laws.specs.Levels.{all_levels, ty_levels, ty_field_levels}
 use Rattle.level_laws.specs.Promises.{IsMeasured, TypesHaveTheirLevels}
-use Rattle.level_laws.proofs.Keeping.{Keeps, keep_pure, keep_refuse, keep_bind, keep_then, keep_on, keep_within, keep_many, keep_none, leaf_is, over_is, over_two_is, part_is, lowered, raised, one_is, more_is, further_keeps}
+use Rattle.level_laws.proofs.Keeping.{Keeps, keep_pure, keep_refuse, keep_bind, keep_then, keep_on, keep_within, keep_many, keep_none, leaf_is, over_is, over_two_is, part_is, lowered, one_is, more_is, further_keeps}
 use Rattle.level_laws.proofs.TyForms.{ty-Var, ty-Record, ty-Con, ty-Applied, ty-AppliedAll, ty-Tuple, ty-Arrow, ty-Paren, ty-field}
 
 -- a type of at most so many levels
@@ -43,7 +40,8 @@ module _ (n : ℕ) (below : g (Tall FullTy)) (it : Keeps below (Ty n)) where
       (keep_bind field_keeps (λ first is. keep_bind (further_keeps _ field_keeps (one_is is))
       (λ fields are. keep_then (λ _. keep_pure _ (over_is _ (λ fields. ty-Record fields place) are)))))
 
-  applied_all_keeps : (place : At) (first : Tall FullTy) → Ty n first → Keeps (applied_all below place first) (Ty (suc n))
+  applied_all_keeps : (place : At) (first : Tall FullTy) → Ty n first
+      → Keeps (applied_all below place first) (Ty (suc n))
   unfolding applied_all
   applied_all_keeps place first is =
       keep_bind it (λ second so. keep_bind (further_keeps _ it (more_is (one_is is) so)) (λ args are. keep_then (λ _.
@@ -62,7 +60,8 @@ module _ (n : ℕ) (below : g (Tall FullTy)) (it : Keeps below (Ty n)) where
 
   atom_keeps : (x : Lexeme) (kind : LexemeKind) → Keeps (atom_kind below x kind) (Ty (suc n))
   atom_keeps x (k.Reserved text) = atom_word_keeps x (word_of text)
-  atom_keeps x (k.Name parts) = keep_pure _ (leaf_is (t.Con (long_named x parts) (at x)) (ty-Con (long_named x parts) (at x)))
+  atom_keeps x (k.Name parts) =
+      keep_pure _ (leaf_is (t.Con (long_named x parts) (at x)) (ty-Con (long_named x parts) (at x)))
   atom_keeps x (k.TyVar text) = keep_pure _ (leaf_is (t.Var (named x text) (at x)) (ty-Var (named x text) (at x)))
   atom_keeps x (k.Int value ok) = keep_refuse
   atom_keeps x (k.Str text) = keep_refuse
@@ -92,7 +91,8 @@ module _ (n : ℕ) (below : g (Tall FullTy)) (it : Keeps below (Ty n)) where
       (λ found are. keep_pure _ (over_is _ (λ parts. ty-Tuple parts place) are)))))
       (keep_pure first is)
 
-  arrow_keeps : (place : At) (left : Tall FullTy) → Ty (suc n) left → Keeps (arrow (suc n) below place left) (Ty (suc n))
+  arrow_keeps : (place : At) (left : Tall FullTy) → Ty (suc n) left
+      → Keeps (arrow (suc n) below place left) (Ty (suc n))
   unfolding arrow arrow_of
   arrow_keeps place left is =
       keep_on (λ _. keep_within (λ room. keep_bind it (λ right so.

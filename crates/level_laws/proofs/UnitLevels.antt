@@ -1,18 +1,14 @@
 -- The height of each declaration of the top level is that of its tree, and a unit nests at most 128 levels.
-use Rattle.std.proofs.Common.{◌≡◌, ℕ, suc, ◌≤◌, max, List, [], ◌∷◌, Option, None, Some, refl, sym, ap, ap₂, ◌∙◌, arith}
-use Rattle.grammars.specs.Grammar.{Grammar}
-use Rattle.sml_lexer.specs.declared.lexeme.Lexeme.{Lexeme}
+use Rattle.std.proofs.Common.{◌≡◌, ℕ, suc, ◌≤◌, max, List, Option, None, Some, refl, ap₂, arith}
 use Rattle.sml_trees.specs.declared.name.At.{At}
 use Rattle.sml_trees.specs.declared.name.Name.{Name}
 use Rattle.sml_trees.specs.declared.full_sig.FullSigExp.{FullSigExp}
 use Rattle.sml_trees.specs.declared.full_sig.FullSpec.{FullSpec}
-use Rattle.sml_trees.specs.declared.full_unit.FullParam.{FullParam}
 use Rattle.sml_trees.specs.declared.full_unit.FullParam.TheVariants as param
 use Rattle.sml_trees.specs.declared.full_unit.FullTopDec.{FullTopDec}
 use Rattle.sml_trees.specs.declared.full_unit.FullTopDec.TheVariants as top
-use Rattle.sml_trees.specs.declared.full_unit.FullUnit.{FullUnit}
 use Rattle.infix_names.specs.Fixities.{initial}
-use Rattle.phrase_reading.specs.Words.{g, at, word}
+use Rattle.phrase_reading.specs.Words.{at, word}
 use Rattle.phrase_reading.specs.declared.tall.Tall.{Tall}
 use Rattle.phrase_reading.specs.declared.words.Word.{Word}
 use Rattle.phrase_reading.specs.declared.words.Word.TheVariants as w
@@ -20,8 +16,8 @@ use Rattle.signature_parser.specs.SigLevels.{sig_level, sig_below}
 use Rattle.signature_parser.specs.Specifications.{no_specs}
 use Rattle.module_parser.specs.Functors.{begin_at, named_param, specs_at, spec_param, functor_param, fun_bind, funsig_bind}
 use Rattle.module_parser.specs.StrLevels.{str_level}
-use Rattle.module_parser.specs.Units.{top_structures, top_signatures, top_functors, top_funsigs, top_word, top_round, topdecs_from, topdecs, IsUnit}
-use Rattle.level_laws.specs.Levels.{all_levels, spec_levels, param_levels, functor_levels, funsig_levels, topdec_levels, unit_levels}
+use Rattle.module_parser.specs.Units.{top_structures, top_signatures, top_functors, top_funsigs, top_word, top_round, topdecs_from, topdecs}
+use Rattle.level_laws.specs.Levels.{all_levels, param_levels, functor_levels, funsig_levels, topdec_levels, unit_levels}
 use Rattle.level_laws.specs.Promises.{IsMeasured, UnitsHaveTheirLevels, UnitsNestAtMost128}
 use Rattle.level_laws.proofs.Keeping.{Keeps, keep_pure, keep_refuse, keep_bind, keep_then, keep_on, keep_many, keep_if_taken, over_is, part_is, more_is, none_is, two_is}
 use Rattle.level_laws.proofs.SigLevels.{IsJoined, alone_keeps, bindings_keep, sig_bind_keeps, round_keeps, specs_from_keeps, sig_level_keeps, spec_keeps}

@@ -1,5 +1,6 @@
--- How many levels a tree nests that is written so: each type is one level more than the highest of those in it, and
--- names and fields are none.
+-- How many levels a tree nests, as it is written: each type, pattern, expression, declaration, signature expression,
+-- specification, structure expression and declaration of the top level is one level more than the highest of those in
+-- it. Names, fields, rules, bindings, heads of clauses and parts of a run are none; parentheses and a run are one each.
 use Rattle.std.specs.Prelude.{ℕ, suc, max, List, map, Option, Some, None}
 use Rattle.sml_trees.specs.declared.full_pat.FullPat.{FullPat}
 use Rattle.sml_trees.specs.declared.full_pat.FullPat.TheOpen.{FullPat-F, FullPatItem-F, FullPatField-F}

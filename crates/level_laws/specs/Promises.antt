@@ -2,8 +2,6 @@
 use Rattle.std.specs.Prelude.{◌≡◌, ◌≤◌, ℕ, List, Option}
 use Rattle.grammars.specs.Grammar.{Phrase}
 use Rattle.sml_lexer.specs.declared.lexeme.Lexeme.{Lexeme}
-use Rattle.sml_trees.specs.declared.full_ty.FullTy.{FullTy}
-use Rattle.sml_trees.specs.declared.full_pat.FullPat.{FullPat}
 use Rattle.core_patterns.specs.Patterns.{pat}
 use Rattle.core_bindings.specs.Decs.{Decs}
 use Rattle.core_expressions.specs.Levels.{exp}
