@@ -1,0 +1,4 @@
+pub mod Schemes
+pub mod Entries
+pub mod Names
+pub mod Tops
