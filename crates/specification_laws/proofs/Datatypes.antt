@@ -1,5 +1,5 @@
 -- Datatypes that are specified: their names, and the environment that they make part by part.
-use Rattle.std.proofs.Common.{◌≡◌, ◌≢◌, ℕ, zero, suc, ◌+◌, ◌-◌, List, [], ◌∷◌, ◌++◌, map, length, get_or, refl, sym, ap, ap₂, ◌∙◌, subst, arith, Option, Some, None, Bool, true, false, cond, ◌⊎◌, inl, inr, append_assoc}
+use Rattle.std.proofs.Common.{◌≡◌, ◌≢◌, ℕ, suc, ◌+◌, ◌-◌, List, [], ◌∷◌, ◌++◌, map, length, get_or, refl, sym, ap, ap₂, ◌∙◌, subst, arith, Option, Some, None, Bool, false, ◌⊎◌, inl, inr}
 use Rattle.std.proofs.lemmas.List.{append-nil, length-map}
 use Rattle.std.specs.Ordering.{eq_by_cmp}
 use Rattle.sml_trees.specs.declared.name.Name.{Name}
@@ -14,27 +14,27 @@ use Rattle.semantic_objects.proofs.Promised.{sets_entries, keeps_structures}
 use Rattle.unification.specs.Types.{Ty}
 use Rattle.unification.proofs.Walking.{either_way}
 use Rattle.bare_phrases.specs.Phrases.{ConPhrase, DatPhrase}
-use Rattle.static_semantics.specs.Inferring.{Progress, Scope, Answer, name_at}
+use Rattle.static_semantics.specs.Inferring.{Scope, name_at}
 use Rattle.static_semantics.specs.TypeInference.{numbers}
 use Rattle.static_semantics.specs.DatatypeInference.{own_name, own_ty, Con, Dat, con_schemes, con_entries, with_cons, with_datatype, made_types}
 use Rattle.static_semantics.specs.RuleConditions.{OfList}
 use Rattle.static_semantics.specs.Elaborates.{ElaboratesCons, ElaboratesDats}
-use Rattle.static_semantics.specs.Holding.{Given, IfSome, AllItems, AllRows, TypeHas, ValueHas}
-use Rattle.static_semantics.proofs.Holding.{given_then, rows_found, has_types, has_values, has_nothing, has_with_type, has_with_value, has_modified}
+use Rattle.static_semantics.specs.Holding.{Given, IfSome, AllItems, TypeHas, ValueHas}
+use Rattle.static_semantics.proofs.Holding.{given_then, rows_found, has_types, has_values, has_nothing, has_with_type, has_with_value}
 use Rattle.static_semantics.proofs.TypesGrow.{given_more}
-use Rattle.module_semantics.specs.SignatureNames.{name_alone, also_bound}
+use Rattle.module_semantics.specs.SignatureNames.{name_alone}
 use Rattle.module_semantics.specs.SignatureInference.{specified, type_alone, value_alone, specified_cons, specified_types, name_of_type, names_of_types}
 use Rattle.module_semantics.specs.ElaboratesSignatures.{names_by}
 use Rattle.unit_semantics.specs.Promises.{IsClosedScheme, IsClosedFunction, IsClosedEnv}
 use Rattle.table_laws.specs.Rising.{RisingType, RisingEnv}
-use Rattle.table_laws.proofs.Tables.{rising_structures, rising_types, rising_values}
+use Rattle.table_laws.proofs.Tables.{rising_types}
 use Rattle.table_laws.proofs.Units.{type_alone_rises, value_alone_rises}
-use Rattle.signature_laws.proofs.Datatypes.{texts, dat_names, Others, Found, str_of, types_stay, stays}
+use Rattle.signature_laws.proofs.Datatypes.{texts, dat_names, Others, Found, str_of}
 use Rattle.signature_laws.proofs.Signatures.{IsSpecified, specified_is}
 use Rattle.signature_laws.proofs.Tables.{is_name, other_name}
 use Rattle.specification_laws.specs.Derived.{Follows}
 use Rattle.specification_laws.proofs.Alone.{function_alone}
-use Rattle.specification_laws.proofs.Joined.{one_table, made_is, structures_modified}
+use Rattle.specification_laws.proofs.Joined.{one_table}
 use Rattle.specification_laws.proofs.Parts.{sig_of, Behind, part_behind}
 
 -- ---- the datatypes are those of the phrases

@@ -1,5 +1,5 @@
 -- Environments that modify one another in turn, and that have no name in common.
-use Rattle.std.proofs.Common.{◌≡◌, ℕ, List, [], ◌∷◌, refl, sym, ap, ap₂, ◌∙◌, subst, Option, Some, None, Bool, true, false, ◌||◌, cond}
+use Rattle.std.proofs.Common.{◌≡◌, ℕ, List, [], ◌∷◌, refl, sym, ap, ◌∙◌, subst, Option, Some, None, Bool, true, false, ◌||◌, cond}
 use lib.Dec.{T}
 use Rattle.std.specs.Option.{is_some}
 use Rattle.std.specs.Ordering.{eq_by_cmp, is_eq}
@@ -7,15 +7,14 @@ use Rattle.std.specs.Cmp.{tied_itself}
 use Rattle.std.specs.Cmp.Lexicographic.{nat_list_cmp_total}
 use Rattle.std.specs.FinMap.{nat_cmp-IsAntisymmetric, slice_cmp-IsAntisymmetric}
 use Rattle.std.specs.FinMap.Entries.{is_sorted, same_entries}
-use Rattle.std.specs.List.{list_any}
 use Rattle.semantic_objects.specs.declared.entry.TypeStr.{TypeStr}
 use Rattle.semantic_objects.specs.declared.entry.ValueEntry.{ValueEntry}
-use Rattle.semantic_objects.specs.Tables.{Table, by_bytes, IsTable, entry, with_entry, with_all}
+use Rattle.semantic_objects.specs.Tables.{Table, by_bytes, IsTable, entry, with_all}
 use Rattle.semantic_objects.specs.Environments.{Env, structures_of, structures, types, values, empty_env, modified_by}
 use Rattle.semantic_objects.proofs.Promised.{keeps_structures}
 use Rattle.module_semantics.specs.SignatureInference.{shares, have_common}
 use Rattle.table_laws.specs.Rising.{RisingEnv}
-use Rattle.table_laws.proofs.Tables.{all_kept, rising_structures, rising_types, rising_values, rising_modified}
+use Rattle.table_laws.proofs.Tables.{all_kept, rising_structures, rising_types, rising_values}
 use Rattle.signature_laws.proofs.Tables.{is_name, past_rows, of_rows_counts}
 
 -- ---- tables

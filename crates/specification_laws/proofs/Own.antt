@@ -1,5 +1,5 @@
 -- Types whose variables are those of a list, and the lists that specifications bind.
-use Rattle.std.proofs.Common.{◌≡◌, ℕ, ◌+◌, ◌<◌, List, [], ◌∷◌, ◌++◌, map, refl, sym, ap, ap₂, ◌∙◌, subst, arith, Option, Some, None, Bool, true, false, ◌||◌, cond, eqb}
+use Rattle.std.proofs.Common.{◌≡◌, ℕ, List, [], ◌∷◌, ◌++◌, map, refl, sym, ap, ◌∙◌, subst, Option, Some, None, Bool, true, false, ◌||◌, cond, eqb}
 use Rattle.std.specs.Option.{option_map, is_some}
 use Rattle.sml_trees.specs.declared.name.Name.{Name}
 use Rattle.semantic_objects.specs.declared.entry.TypeStr.{TypeStr}
@@ -25,7 +25,7 @@ use Rattle.static_semantics.specs.Elaborates.{ElaboratesTy}
 use Rattle.static_semantics.specs.Holding.{Given, IfSome, AllItems, AllRows}
 use Rattle.static_semantics.proofs.Holding.{items_more}
 use Rattle.static_semantics.proofs.TypesGrow.{given_more}
-use Rattle.inference_laws.specs.Alike.{IsFirm, FirmType, FirmValue, AnyName, FirmEnv}
+use Rattle.inference_laws.specs.Alike.{FirmType, FirmValue, AnyName, FirmEnv}
 use Rattle.inference_laws.proofs.EnvsWith.{env_types, env_found}
 use Rattle.inference_laws.proofs.Firm.{ty_within}
 use Rattle.inference_laws.proofs.PutAlike.{firm_type}

@@ -1,5 +1,5 @@
 -- Parts that are specified one after another.
-use Rattle.std.proofs.Common.{◌≡◌, ℕ, List, [], ◌∷◌, ◌++◌, refl, sym, ap, ◌∙◌, subst, Some, None, Bool, true, false, append_assoc}
+use Rattle.std.proofs.Common.{◌≡◌, ℕ, List, [], ◌++◌, sym, ap, ◌∙◌, subst, None, append_assoc}
 use Rattle.std.proofs.lemmas.List.{append-nil}
 use Rattle.std.specs.Option.{is_some}
 use Rattle.semantic_objects.specs.declared.name.TyName.{TyName}
@@ -8,13 +8,12 @@ use Rattle.semantic_objects.specs.Environments.{Env, Signature, structures, type
 use Rattle.semantic_objects.proofs.Promised.{sets_entries}
 use Rattle.static_semantics.proofs.Holding.{has_nothing, has_modified}
 use Rattle.module_semantics.specs.SignatureNames.{empty_signature, also_bound}
-use Rattle.module_semantics.specs.SignatureInference.{have_common}
 use Rattle.unit_semantics.specs.Promises.{IsClosedScheme, IsClosedFunction, IsClosedEnv}
 use Rattle.table_laws.specs.Rising.{RisingEnv}
 use Rattle.table_laws.proofs.Tables.{rising_nothing, rising_modified}
 use Rattle.signature_laws.proofs.Signatures.{IsSpecified}
 use Rattle.specification_laws.specs.Derived.{Follows}
-use Rattle.specification_laws.proofs.Joined.{in_turn, from_nothing, with_nothing, Disjoint, Apart, apart_is, none_common, apart_parts, parts_apart, nothing_apart}
+use Rattle.specification_laws.proofs.Joined.{in_turn, with_nothing, Disjoint, Apart, apart_is, none_common, apart_parts, parts_apart, nothing_apart}
 
 abbrev pub sig_of : List TyName → Env → Signature
 sig_of bound env = record { bound = bound; env = env }

@@ -1,7 +1,4 @@
 -- The law, as the public function of this crate states it.
-use Rattle.std.proofs.Common.{ℕ}
-use Rattle.semantic_objects.specs.Environments.{Signature}
-use Rattle.static_semantics.specs.Inferring.{Progress}
 use Rattle.static_semantics.specs.EnvironmentsPut.{put_scope}
 use Rattle.static_semantics.proofs.Holding.{given_then, has_nothing}
 use Rattle.inference_laws.specs.Nodes.{below_number}

@@ -9,17 +9,17 @@ use Rattle.semantic_objects.specs.declared.name.TyName.{TyName}
 use Rattle.semantic_objects.specs.declared.entry.TypeFn.{TypeFn}
 use Rattle.semantic_objects.specs.declared.entry.TypeStr.{TypeStr}
 use Rattle.semantic_objects.specs.Symbols.{same_name}
-use Rattle.semantic_objects.specs.Tables.{Table, entry, with_entry}
-use Rattle.semantic_objects.specs.Environments.{Env, Signature, structures, types, empty_env, modified_by, with_structure}
+use Rattle.semantic_objects.specs.Tables.{Table, entry}
+use Rattle.semantic_objects.specs.Environments.{Env, Signature, types, empty_env, modified_by, with_structure}
 use Rattle.unification.specs.Types.{Ty, Substitution}
 use Rattle.unification.specs.Fitting.{IsFit}
-use Rattle.bare_phrases.specs.Phrases.{TyPhrase, DatPhrase}
+use Rattle.bare_phrases.specs.Phrases.{TyPhrase}
 use Rattle.realisation.specs.Names.{is_listed}
-use Rattle.realisation.specs.Realised.{of_rows, realised, function_admits}
-use Rattle.static_semantics.specs.Inferring.{Progress, Scope, under, with_written_alone, Answer, ◌>>=◌, gives, refuses_where, name_at, known, found_at}
+use Rattle.realisation.specs.Realised.{of_rows, function_admits}
+use Rattle.static_semantics.specs.Inferring.{Progress, Scope, under, with_written_alone, gives, name_at, known, found_at}
 use Rattle.static_semantics.specs.TypeInference.{infer_ty, listed, numbers, as_written, type_function}
 use Rattle.static_semantics.specs.DatatypeInference.{infer_replication}
-use Rattle.static_semantics.specs.EnvironmentsPut.{put_env, put_scope}
+use Rattle.static_semantics.specs.EnvironmentsPut.{put_scope}
 use Rattle.static_semantics.specs.Holding.{Given, IfSome, AllRows}
 use Rattle.static_semantics.proofs.Holding.{given_then, given_known, rows_found, env_more}
 use Rattle.static_semantics.proofs.TypesGrow.{given_more}
@@ -29,7 +29,7 @@ use Rattle.inference_laws.proofs.DatatypesMade.{under_of}
 use Rattle.inference_laws.proofs.Firm.{firm_modified}
 use Rattle.inference_laws.proofs.Making.{given_both, before, ready_after}
 use Rattle.module_semantics.specs.SigPhrases.{SigPhrase, SpecPhrase, SigBinds, SpecPhrases}
-use Rattle.module_semantics.specs.SignatureNames.{name_alone, opened, empty_signature, also_bound}
+use Rattle.module_semantics.specs.SignatureNames.{name_alone, empty_signature, also_bound}
 use Rattle.module_semantics.specs.SignatureInference.{specified, infer_vals, infer_type_descs, infer_exception_specs, infer_datatype_specs, lacks_equality, with_function, refuses_long, replaced, where_type, single, infer_sig, infer_spec, infer_structure_specs, infer_specs}
 use Rattle.module_semantics.specs.ElaboratesSignatures.{ElaboratesSig, ElaboratesSpec, ElaboratesStrSpecs, ElaboratesSpecs}
 use Rattle.unit_semantics.specs.Promises.{IsClosedScheme, IsClosedFunction, IsClosedEnv, IsClosedSignature}
@@ -44,11 +44,11 @@ use Rattle.phrase_laws.proofs.TypeBindings.{ListedOf, listed_of}
 use Rattle.table_laws.specs.Rising.{RisingEnv, RisingSignature}
 use Rattle.table_laws.proofs.Tables.{rising_nothing, rising_modified}
 use Rattle.table_laws.proofs.Units.{sig_rises}
-use Rattle.signature_laws.proofs.Alone.{IsAlone, alone_is}
+use Rattle.signature_laws.proofs.Alone.{alone_is}
 use Rattle.signature_laws.proofs.Signatures.{IsSpecified, specified_is}
 use Rattle.specification_laws.specs.Derived.{IsAfter, Follows, SigDerived, SpecDerived, SpecsDerived}
 use Rattle.matching_choices.proofs.Closed.{env_stays, closed_firm}
-use Rattle.specification_laws.proofs.Joined.{in_turn, from_nothing, with_nothing, twice, Apart, apart_is, none_common, apart_parts, parts_apart, nothing_apart}
+use Rattle.specification_laws.proofs.Joined.{in_turn, from_nothing, with_nothing, twice, Apart, apart_is, none_common, apart_parts, parts_apart}
 use Rattle.specification_laws.proofs.Own.{after_none, after_both, after_listed, of_list, OwnTy, own_ty}
 use Rattle.specification_laws.proofs.Parts.{sig_of, nothing_follows, part_follows, Behind, part_behind, no_structure}
 use Rattle.specification_laws.proofs.Values.{ValsDerived, vals_derive, ExSpecsDerived, exceptions_derive}

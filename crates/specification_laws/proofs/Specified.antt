@@ -1,5 +1,5 @@
 -- Specifications of datatypes have derivations.
-use Rattle.std.proofs.Common.{◌≡◌, ℕ, ◌+◌, List, [], ◌∷◌, ◌++◌, map, length, refl, sym, ap, ◌∙◌, subst, arith, Option, Some, None, Bool, true, false}
+use Rattle.std.proofs.Common.{◌≡◌, ℕ, ◌+◌, List, [], ◌∷◌, ◌++◌, map, refl, sym, ap, ◌∙◌, subst, arith, None, false}
 use Rattle.sml_trees.specs.declared.name.At.{At}
 use Rattle.semantic_objects.specs.declared.name.TyName.{TyName}
 use Rattle.semantic_objects.specs.declared.entry.ConEntry.{ConEntry}
@@ -20,7 +20,6 @@ use Rattle.static_semantics.specs.DatatypeInference.{new_types, Dat, infer_cons,
 use Rattle.static_semantics.specs.EnvironmentsPut.{put_con, put_type, put_value, each_entry, put_env, put_structures, put_scope}
 use Rattle.static_semantics.specs.Holding.{Given, AllItems, AllRows, ConHas, TypeHas, ValueHas, StructuresHave}
 use Rattle.static_semantics.proofs.Holding.{given_then}
-use Rattle.static_semantics.proofs.TypesGrow.{given_more}
 use Rattle.inference_laws.specs.Alike.{FirmEnv}
 use Rattle.inference_laws.proofs.Making.{given_both}
 use Rattle.module_semantics.specs.SigPhrases.{SpecPhrase}
@@ -36,8 +35,8 @@ use Rattle.phrase_laws.proofs.TypeBindings.{ListedOf, listed_of}
 use Rattle.table_laws.specs.Rising.{RisingEnv}
 use Rattle.table_laws.proofs.Tables.{rising_types, rising_values}
 use Rattle.table_laws.proofs.Declarations.{always, datatypes_rise}
-use Rattle.signature_laws.proofs.Datatypes.{texts, Others, AllApart, names_differ, Found, found, stays}
-use Rattle.specification_laws.specs.Derived.{IsAfter, Follows, SpecDerived}
+use Rattle.signature_laws.proofs.Datatypes.{texts, Others, AllApart, names_differ, found, stays}
+use Rattle.specification_laws.specs.Derived.{Follows, SpecDerived}
 use Rattle.specification_laws.proofs.Joined.{made_is, back}
 use Rattle.specification_laws.proofs.Parts.{sig_of, nothing_follows}
 use Rattle.specification_laws.proofs.Datatypes.{AreOf, dats_are, same_texts, names_are, add_all, filled, env_of, all_texts, types_fill, values_absent, structures_none}

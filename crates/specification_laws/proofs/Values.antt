@@ -1,5 +1,5 @@
 -- Specifications of values and exceptions have derivations.
-use Rattle.std.proofs.Common.{◌≡◌, ℕ, List, [], ◌∷◌, ◌++◌, refl, sym, ap, ◌∙◌, subst, Option, Some, None, Bool, true, false}
+use Rattle.std.proofs.Common.{◌≡◌, ℕ, List, [], ◌∷◌, refl, ◌∙◌, Option, Some, None, false}
 use Rattle.semantic_objects.specs.declared.entry.ValueEntry.{ValueEntry}
 use Rattle.semantic_objects.specs.Environments.{Env, Signature, empty_env, modified_by, with_value}
 use Rattle.unification.specs.Types.{Ty, Substitution}
@@ -7,12 +7,10 @@ use Rattle.unification.specs.Closing.{closed_over}
 use Rattle.unification.specs.Fitting.{IsFit}
 use Rattle.env_parts.specs.Types.{holds_free}
 use Rattle.bare_phrases.specs.Phrases.{TyPhrase, ConPhrase}
-use Rattle.static_semantics.specs.BasicTypes.{exn_ty, arrow_ty}
-use Rattle.static_semantics.specs.Inferring.{Progress, Scope, with_written_alone, Answer, ◌>>=◌, gives, name_at}
-use Rattle.static_semantics.specs.TypeInference.{infer_ty, numbers, as_written}
+use Rattle.static_semantics.specs.Inferring.{Progress, Scope, with_written_alone, name_at}
+use Rattle.static_semantics.specs.TypeInference.{infer_ty, as_written}
 use Rattle.static_semantics.specs.DatatypeInference.{infer_optional_ty, exception_entry}
 use Rattle.static_semantics.specs.EnvironmentsPut.{put_scope}
-use Rattle.static_semantics.specs.Elaborates.{ElaboratesTy}
 use Rattle.static_semantics.specs.Holding.{Given}
 use Rattle.static_semantics.proofs.Holding.{given_then, has_nothing, has_with_value}
 use Rattle.static_semantics.proofs.TypesGrow.{given_more}

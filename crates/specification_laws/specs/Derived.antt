@@ -1,16 +1,16 @@
 -- What it means that signatures and specifications have derivations: in the scope with anything put in for its variables
 -- the rules give what inference gives, from the number of type names at the start to the one at the end. No variable
 -- stands in a signature.
-use Rattle.std.specs.Prelude.{◌≡◌, ◌++◌, Bool, false}
+use Rattle.std.specs.Prelude.{◌≡◌, ◌++◌, false}
 use Rattle.semantic_objects.specs.Tables.{Table}
-use Rattle.semantic_objects.specs.Environments.{Env, Signature, modified_by}
+use Rattle.semantic_objects.specs.Environments.{Signature, modified_by}
 use Rattle.unification.specs.Types.{Substitution}
 use Rattle.unification.specs.Fitting.{IsFit}
 use Rattle.static_semantics.specs.Inferring.{Progress, Scope, under}
 use Rattle.static_semantics.specs.EnvironmentsPut.{put_scope}
-use Rattle.module_semantics.specs.SigPhrases.{SigPhrase, SpecPhrase, SigBinds, SpecPhrases}
+use Rattle.module_semantics.specs.SigPhrases.{SigPhrase, SpecPhrase, SpecPhrases}
 use Rattle.module_semantics.specs.SignatureInference.{have_common}
-use Rattle.module_semantics.specs.ElaboratesSignatures.{ElaboratesSig, ElaboratesSpec, ElaboratesStrSpecs, ElaboratesSpecs}
+use Rattle.module_semantics.specs.ElaboratesSignatures.{ElaboratesSig, ElaboratesSpec, ElaboratesSpecs}
 use Rattle.unit_semantics.specs.Promises.{IsClosedEnv}
 use Rattle.table_laws.specs.Rising.{RisingEnv}
 use Rattle.phrase_laws.specs.Derived.{SolvesBefore, LeavesBefore}
