@@ -1,12 +1,11 @@
 -- Environments in which no variable of a table stands.
-use Rattle.std.proofs.Common.{◌≡◌, ℕ, List, [], ◌∷◌, map, refl, sym, ap, ap₂, ◌∙◌, Bool, true, false, ◌||◌, eqb}
+use Rattle.std.proofs.Common.{◌≡◌, ℕ, List, [], ◌∷◌, map, refl, ap, ap₂, ◌∙◌, true, false, eqb}
 use Rattle.std.proofs.lemmas.Bool.{eq-eqb}
 use Rattle.semantic_objects.specs.declared.entry.ConEntry.{ConEntry}
-use Rattle.semantic_objects.specs.declared.entry.TypeFn.{TypeFn}
 use Rattle.semantic_objects.specs.declared.entry.TypeStr.{TypeStr}
 use Rattle.semantic_objects.specs.declared.entry.ValueEntry.{ValueEntry}
 use Rattle.semantic_objects.specs.Tables.{Table}
-use Rattle.semantic_objects.specs.Trees.{Tree, Trees, TypeScheme, frees, frees_any}
+use Rattle.semantic_objects.specs.Trees.{Tree, Trees, frees, frees_any}
 use Rattle.semantic_objects.specs.Environments.{Env, Structures}
 use Rattle.unification.specs.Types.{Substitution}
 use Rattle.unification.specs.Closing.{put_tree, put_trees}

@@ -1,5 +1,5 @@
 -- Environments that match stay so under a choice.
-use Rattle.std.proofs.Common.{◌≡◌, ℕ, List, [], ◌∷◌, ◌++◌, map, refl, sym, ap, ap₂, ◌∙◌, subst, Option, Some, None, Bool, true, false, ◌||◌, ◌&&◌}
+use Rattle.std.proofs.Common.{◌≡◌, ℕ, List, [], ◌∷◌, ◌++◌, map, refl, sym, ap, ap₂, ◌∙◌, subst, Some, true, false, ◌&&◌}
 use Rattle.std.specs.Option.{option_map}
 use Rattle.semantic_objects.specs.declared.name.TyName.{TyName}
 use Rattle.semantic_objects.specs.declared.entry.ConEntry.{ConEntry}
@@ -8,24 +8,24 @@ use Rattle.semantic_objects.specs.declared.entry.TypeStr.{TypeStr}
 use Rattle.semantic_objects.specs.declared.entry.ValueEntry.{ValueEntry}
 use Rattle.semantic_objects.specs.Tables.{Table}
 use Rattle.semantic_objects.specs.Trees.{Tree, Trees}
-use Rattle.semantic_objects.specs.Environments.{Env, Structures, Signature, structures, types, values}
+use Rattle.semantic_objects.specs.Environments.{Env, Structures, structures, types}
 use Rattle.unification.specs.Types.{Substitution, Marks, State, equality_of, where_parts}
-use Rattle.unification.specs.Closing.{put_tree, put_trees}
+use Rattle.unification.specs.Closing.{put_tree}
 use Rattle.unification.specs.Generality.{tree_admits, trees_admit, MarksOwn}
 use Rattle.unification.specs.Unification.{Solves}
 use Rattle.unification.proofs.Walking.{or_false_left, or_false_right}
 use Rattle.env_parts.specs.Types.{holds_free, any_holds_free}
-use Rattle.realisation.specs.Realised.{Realisation, realised, function_admits}
+use Rattle.realisation.specs.Realised.{realised}
 use Rattle.static_semantics.specs.Inferring.{found_at}
 use Rattle.static_semantics.specs.EnvironmentsPut.{put_con, put_type, put_value, each_entry, put_env, put_structures}
-use Rattle.static_semantics.specs.Holding.{IfSome, AllItems, AllRows, ConHas, TypeHas, ValueHas, StructuresHave}
+use Rattle.static_semantics.specs.Holding.{IfSome, AllItems, AllRows, ValueHas, StructuresHave}
 use Rattle.inference_laws.specs.Alike.{FirmType, FirmValue, AnyName, FirmEnv}
 use Rattle.inference_laws.proofs.EnvsWith.{items_after, env_types, env_found}
 use Rattle.inference_laws.proofs.SeenLater.{tree_changed}
 use Rattle.inference_laws.proofs.PutAlike.{firm_type}
 use Rattle.module_semantics.specs.Matching.{Item, type_items, value_items, items_under, structure_items}
 use Rattle.module_semantics.specs.Promises.{IsOfState}
-use Rattle.module_semantics.specs.ElaboratesSignatures.{Respects, EnrichesItem, Matches}
+use Rattle.module_semantics.specs.ElaboratesSignatures.{Respects, EnrichesItem}
 use Rattle.phrase_laws.proofs.Finding.{found_put, structures_put, type_found_put, value_found_put}
 use Rattle.unit_semantics.specs.Promises.{IsClosedScheme, IsClosedFunction, IsClosedEnv}
 use Rattle.matching_choices.proofs.Closed.{free_none, env_stays}

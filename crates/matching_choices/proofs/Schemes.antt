@@ -1,10 +1,9 @@
 -- Schemes that are more general stay so under a choice.
-use Rattle.std.proofs.Common.{◌≡◌, ℕ, ◌+◌, ◌-◌, ◌<◌, ◌≤◌, List, [], ◌∷◌, refl, sym, ap, ap₂, ◌∙◌, subst, arith, Bool, true, false, ◌||◌, cond, eqb}
+use Rattle.std.proofs.Common.{◌≡◌, ℕ, ◌+◌, ◌-◌, ◌<◌, ◌≤◌, refl, sym, ap, ap₂, ◌∙◌, subst, arith, true, false, cond}
 use Rattle.std.specs.Prelude.{ltb}
-use Rattle.std.proofs.lemmas.Bool.{ltb-true, lt-ltb, le-ltb, eq-eqb}
+use Rattle.std.proofs.lemmas.Bool.{lt-ltb, le-ltb, eq-eqb}
 use Rattle.semantic_objects.specs.Trees.{Tree, Trees, TypeScheme, frees, frees_any}
 use Rattle.unification.specs.Types.{Ty, Types, Substitution, Marks, State, put, admits}
-use Rattle.unification.specs.Closing.{put_tree}
 use Rattle.unification.specs.Generality.{IsOf, MarksOwn}
 use Rattle.unification.specs.Instances.{mark_of, fill, fill_all, IsInstance, IsMoreGeneral}
 use Rattle.unification.specs.Unification.{Solves}

@@ -31,7 +31,7 @@ texts binds = map (λ (bind : DatPhrase). bind.name.text) binds
 abbrev pub dat_names : List Dat → List (List ℕ)
 dat_names dats = map (λ (dat : Dat). dat.name) dats
 
-abbrev Others : List ℕ → List (List ℕ) → Type 0
+abbrev pub Others : List ℕ → List (List ℕ) → Type 0
 Others name names = AllItems (λ m. name ≢ m) names
 
 abbrev pub AllApart : List (List ℕ) → Type 0
@@ -159,17 +159,17 @@ dats_are_of sc refused (bind ∷ binds) made st h =
 
 -- ---- what is made of them
 
-types_stay : (cons : List ConEntry) (env : Env) → types (with_cons cons env) ≡ types env
+pub types_stay : (cons : List ConEntry) (env : Env) → types (with_cons cons env) ≡ types env
 types_stay [] env = refl
 types_stay (con ∷ cons) env =
     types_stay cons (with_value con.name (record { status = status.Constructor; scheme = con.scheme }) env)
 
 module _ (home : List ℕ) (first : ℕ) (choice : List Bool) where
-  abbrev name_at_number : ℕ → Dat → TyName
+  abbrev pub name_at_number : ℕ → Dat → TyName
   name_at_number number dat =
       own_name home number (length dat.variables) (get_or choice (number - first) false)
 
-  abbrev str_of : ℕ → Dat → TypeStr
+  abbrev pub str_of : ℕ → Dat → TypeStr
   str_of number dat =
       datatype_str home first choice dat.variables (own_ty (name_at_number number dat) (numbers dat.variables)) dat.cons
 
@@ -177,7 +177,7 @@ module _ (home : List ℕ) (first : ℕ) (choice : List Bool) where
   made number dats env = made_types home first choice number dats env
 
   -- a type with another name than these stays
-  stays : (name : List ℕ) (number : ℕ) (dats : List Dat) (env : Env) → Others name (dat_names dats)
+  pub stays : (name : List ℕ) (number : ℕ) (dats : List Dat) (env : Env) → Others name (dat_names dats)
       → entry name (types (made number dats env)) ≡ entry name (types env)
   stays name number [] env h = refl
   stays name number (dat ∷ dats) env h =
@@ -187,11 +187,11 @@ module _ (home : List ℕ) (first : ℕ) (choice : List Bool) where
       ∙ (sets_entries TypeStr).others dat.name name str (types env) (λ e. h.0 (sym e))
 
   -- each is found with its structure
-  abbrev Found : ℕ → List Dat → Env → Type 0
+  abbrev pub Found : ℕ → List Dat → Env → Type 0
   Found number [] env = Unit {0}
   Found number (dat ∷ dats) env = (entry dat.name (types env) ≡ Some (str_of number dat)) × Found (suc number) dats env
 
-  found : (number : ℕ) (dats : List Dat) (env : Env) → AllApart (dat_names dats) → Found number dats (made number dats env)
+  pub found : (number : ℕ) (dats : List Dat) (env : Env) → AllApart (dat_names dats) → Found number dats (made number dats env)
   found number [] env h = tt
   found number (dat ∷ dats) env h =
       let str : TypeStr = str_of number dat in (

@@ -54,7 +54,7 @@ abbrev Rises : Signature × Progress → Type 0
 Rises r = RisingSignature r.0
 
 -- what specifying more gives
-abbrev IsSpecified : Env → Signature → Signature → Type 0
+abbrev pub IsSpecified : Env → Signature → Signature → Type 0
 IsSpecified part made sig =
     (sig.bound ≡ made.bound) × (sig.env ≡ modified_by made.env part) × (have_common part made.env ≡ false)
 
@@ -65,7 +65,7 @@ specified_by : (c : Bool) (sc : Scope) (at : At) (part : Env) (made : Signature)
 specified_by true sc at part made e = tt
 specified_by false sc at part made e = (refl, refl, e)
 
-specified_is : (sc : Scope) (at : At) (part : Env) (made : Signature)
+pub specified_is : (sc : Scope) (at : At) (part : Env) (made : Signature)
     → Given (IsSpecified part made) (specified sc at part made)
 specified_is sc at part made = specified_by (have_common part made.env) sc at part made refl
 

@@ -22,10 +22,10 @@ tied_is m n ordering.Less e h = absurd (cc)
 tied_is m n ordering.Equal e h = slice_cmp-IsAntisymmetric nat_cmp-IsAntisymmetric m n e
 tied_is m n ordering.Greater e h = absurd (cc)
 
-is_name : (m n : List ℕ) → eq_by_cmp by_bytes m n ≡ true → m ≡ n
+pub is_name : (m n : List ℕ) → eq_by_cmp by_bytes m n ≡ true → m ≡ n
 is_name m n h = tied_is m n (by_bytes m n) refl h
 
-other_name : (m n : List ℕ) → eq_by_cmp by_bytes m n ≡ false → n ≢ m
+pub other_name : (m n : List ℕ) → eq_by_cmp by_bytes m n ≡ false → n ≢ m
 other_name m n h e =
     let k : by_bytes m n ≡ ordering.Equal = subst (λ z. by_bytes m z ≡ ordering.Equal) (sym e)
     (tied_itself nat_list_cmp_total m) in

@@ -12,6 +12,7 @@ use Rattle.realisation.proofs.Listing.{name_is}
 use Rattle.bare_phrases.specs.Phrases.{TyPhrase, TyPhrases, PatPhrase, ExpPhrase, Rules, DecPhrase}
 use Rattle.static_semantics.specs.Inferring.{Answer, ◌>>=◌, gives}
 use Rattle.static_semantics.specs.DatatypeInference.{own_type}
+use Rattle.static_semantics.specs.Elaborates.{ElaboratesOpen, ElaboratesDec}
 use Rattle.module_semantics.specs.SigPhrases.{SigPhrase, SigBinds}
 use Rattle.module_semantics.specs.SignatureNames.{with_bound_names, unit_names}
 use Rattle.module_semantics.specs.ElaboratesSignatures.{ElaboratesSig, ElaboratesSignature, Respects, Matches}
@@ -19,8 +20,8 @@ use Rattle.module_semantics.proofs.Rows.{t_and_v, with_v}
 use Rattle.module_semantics.proofs.RuleRows.{int_for, matches_row}
 use Rattle.unit_semantics.specs.UnitPhrases.{ModulePhrase, ModuleDec, ModuleDecs, ModuleBinds, TopPhrase}
 use Rattle.unit_semantics.specs.StructureInference.{core_scope, top_under, infer_module_dec}
-use Rattle.unit_semantics.specs.UnitInference.{top_of_env, top_with_param, infer_unit}
-use Rattle.unit_semantics.specs.ElaboratesUnits.{renewed, ElaboratesModule, ElaboratesModuleDec, ElaboratesModuleBinds, ElaboratesSigBinds, ElaboratesFunBinds, ElaboratesFunsigBinds}
+use Rattle.unit_semantics.specs.UnitInference.{top_of_env, top_of_signatures, top_of_functors, top_of_funsigs, top_with_param, infer_unit}
+use Rattle.unit_semantics.specs.ElaboratesUnits.{renewed, ElaboratesModule, ElaboratesModuleDec, ElaboratesModuleDecs, ElaboratesModuleBinds, ElaboratesSigBinds, ElaboratesFunBinds, ElaboratesFunsigBinds, ElaboratesTop, ElaboratesTops}
 use Rattle.unit_semantics.proofs.Rows.{at, name, long, type_bind, fun_bind, funsig_bind, own_name, bound_name, named, int_tree, pair_tree, plain, variable, functor_by, basis, start, refused}
 
 -- ---- types of more than 65,536 nodes
@@ -251,8 +252,11 @@ abbrev with_g : Top
 with_g = record {
   env = with_structure (codes "A") (with_v int_tree int_tree) empty_env;
   signatures = [];
-  functors = (codes "G", functor_by (bound_name 0 false ∷ []) (over_name (bound_name 0 false))
-      (bound_name 1 false ∷ []) (t_and_d (bound_name 0 false) (bound_name 1 false))) ∷ [];
+  functors = (
+    codes "G",
+    functor_by (bound_name 0 false ∷ []) (over_name (bound_name 0 false))
+        (bound_name 1 false ∷ []) (t_and_d (bound_name 0 false) (bound_name 1 false)),
+  ) ∷ [];
   funsigs = [];
 }
 
@@ -265,3 +269,59 @@ applied_row = ElaboratesModule.rule_54 no_variable (codes "u") with_g 3 3 (name 
     (ElaboratesModule.rule_51 no_variable (codes "u") with_g 3 (long (codes "A" ∷ []) 15) (at 15)
     (with_v int_tree int_tree) refl)
     matches_row
+
+-- ---- .. of declarations one after another, and of whole units
+
+-- open A, which is the core's
+abbrev open_a : ModuleDec
+open_a = ModuleDec.Core (DecPhrase.Open (long (codes "A" ∷ []) 6 ∷ []) (at 1))
+
+core_row : ElaboratesModuleDec no_variable (codes "u") a_and_s 3 open_a (with_v int_tree int_tree) 3
+core_row = ElaboratesModuleDec.rule_56 no_variable (codes "u") a_and_s 3 3 _ (with_v int_tree int_tree)
+    (ElaboratesDec.rule_22 _ _ 3 (long (codes "A" ∷ []) 6 ∷ []) (at 1) (with_v int_tree int_tree)
+    (ElaboratesOpen.rule_22_next _ (long (codes "A" ∷ []) 6) [] empty_env _ (with_v int_tree int_tree) refl
+    (ElaboratesOpen.no_structures _ _)))
+
+-- struct structure B = A end
+struct_row : ElaboratesModule no_variable (codes "u") a_and_s 3 (ModulePhrase.Struct (ModuleDec.Sequence
+    (ModuleDecs.Dec (ModuleDec.Structures b_is_a (at 8)) ModuleDecs.EndOfDecs) (at 8)) (at 1)) b_alone 3
+struct_row = ElaboratesModule.rule_50 no_variable (codes "u") a_and_s 3 3 _ (at 1) b_alone
+    (ElaboratesModuleDec.rules_59_60 no_variable (codes "u") a_and_s 3 3 _ (at 8) b_alone
+    (ElaboratesModuleDecs.rule_60 no_variable (codes "u") a_and_s 3 3 3 _ ModuleDecs.EndOfDecs b_alone empty_env
+    (ElaboratesModuleDec.rule_57 no_variable (codes "u") a_and_s 3 3 b_is_a (at 8) b_alone binds_row)
+    (ElaboratesModuleDecs.rule_59 no_variable (codes "u") (top_under b_alone a_and_s) 3)))
+
+-- local open A in structure B = A end
+local_row : ElaboratesModuleDec no_variable (codes "u") a_and_s 3 (ModuleDec.Local open_a
+    (ModuleDec.Structures b_is_a (at 15)) (at 1)) b_alone 3
+local_row = ElaboratesModuleDec.rule_58 no_variable (codes "u") a_and_s 3 3 3 open_a _ (at 1) (with_v int_tree int_tree)
+    b_alone core_row
+    (ElaboratesModuleDec.rule_57 no_variable (codes "u") (top_under (with_v int_tree int_tree) a_and_s) 3 3 b_is_a (at 15)
+    b_alone (ElaboratesModuleBinds.rule_61 no_variable (codes "u") _ 3 3 3 (name (codes "B") 11) a_phrase
+    ModuleBinds.EndOfBinds empty_env b_alone (with_v int_tree int_tree) refl
+    (ElaboratesModule.rule_51 no_variable (codes "u") _ 3 (long (codes "A" ∷ []) 15) (at 15) (with_v int_tree int_tree)
+    refl)
+    (ElaboratesModuleBinds.no_module_binds no_variable (codes "u") _ 3 b_alone)))
+
+-- signature T = S functor F (X : S) = X :> S structure B = A, and funsig F (X : S) = S
+sigs_top_row : ElaboratesTop no_variable (codes "u") a_and_s 3
+    (TopPhrase.Signatures (SigBinds.Bind (name (codes "T") 11) s_phrase SigBinds.EndOfBinds) (at 1))
+    (top_of_signatures ((codes "T", t_and_v) ∷ [])) 4
+sigs_top_row = ElaboratesTop.rule_66 no_variable (codes "u") a_and_s 3 4 _ (at 1) _ sig_binds_row
+
+functors_top_row : ElaboratesTop no_variable (codes "u") a_and_s 3 (TopPhrase.Functors (fun_bind (name (codes "F") 9)
+    (name (codes "X") 12) s_phrase (ModulePhrase.Opaque x_phrase s_phrase (at 22)) ∷ []) (at 1))
+    (top_of_functors ((codes "F", f_of_s) ∷ [])) 7
+functors_top_row = ElaboratesTop.rule_85 no_variable (codes "u") a_and_s 3 7 _ (at 1) _ fun_binds_row
+
+funsigs_top_row : ElaboratesTop no_variable (codes "u") a_and_s 3 (TopPhrase.Funsigs
+    (funsig_bind (name (codes "F") 8) (name (codes "X") 12) s_phrase s_phrase ∷ []) (at 1))
+    (top_of_funsigs ((codes "F", f_of_s) ∷ [])) 6
+funsigs_top_row = ElaboratesTop.rule_funsigs no_variable (codes "u") a_and_s 3 6 _ (at 1) _ funsig_binds_row
+
+-- a unit of one declaration
+unit_row : ElaboratesTops no_variable (codes "u") a_and_s 3 (TopPhrase.Structures b_is_a (at 1) ∷ [])
+    (top_of_env b_alone) 3
+unit_row = ElaboratesTops.rules_87_88_89 no_variable (codes "u") a_and_s 3 3 3 _ [] (top_of_env b_alone) empty_top
+    (ElaboratesTop.rule_57_at_top no_variable (codes "u") a_and_s 3 3 b_is_a (at 1) b_alone binds_row)
+    (ElaboratesTops.no_tops no_variable (codes "u") _ 3)

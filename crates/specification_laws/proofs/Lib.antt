@@ -1,0 +1,10 @@
+pub mod Joined
+pub mod Own
+pub mod Parts
+pub mod Values
+pub mod Types
+pub mod Alone
+pub mod Datatypes
+pub mod Specified
+pub mod Signatures
+pub mod Promised
