@@ -41,11 +41,29 @@ fn is_same_tree(this: &TypeTree, that: &TypeTree) -> bool
     are_same_nodes(this.nodes(), that.nodes())
 }
 
+/// Whether two lists of marks are the same.
+fn are_same_marks(these: &[bool], those: &[bool]) -> bool
+    ensures { result ≡ true → these.now ≡ those.now }
+{
+    if these.len() != those.len() {
+        return false;
+    }
+    for at in 0..these.len() {
+        if these[at] != those[at] {
+            return false;
+        }
+    }
+    true
+}
+
 /// Whether two schemes are the same.
 fn is_same_scheme(this: &Scheme, that: &Scheme) -> bool
     ensures { result ≡ true → this.now ≡ that.now }
 {
-    this.marks() == that.marks() && is_same_tree(this.body(), that.body())
+    if !are_same_marks(this.marks(), that.marks()) {
+        return false;
+    }
+    is_same_tree(this.body(), that.body())
 }
 
 /// Whether two constructors are the same.
