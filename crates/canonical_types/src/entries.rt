@@ -8,8 +8,10 @@ ghost use Rattle.canonical_types.specs.Orders.{by_order};
 
 use crate::numbering::Numbering;
 use crate::renaming::{renamed_tree, reordered_tree};
+use crate::same::{is_same_type, is_same_value};
 use crate::variables::variables_of;
 use cm_base::{List, NoMemory};
+use env_parts::Facts;
 use environment_walks::TypeChanges;
 use semantic_objects::{ConEntry, Scheme, TypeFn, TypeStr, TypeTree, ValueEntry};
 use std::alloc::Global;
@@ -83,7 +85,11 @@ impl TypeChanges for Numbering {
     ghost change = { λ order. to_canonical (by_order order) };
 
     fn changed_type(&self, alloc: Global, entry: &TypeStr) -> Result<Option<TypeStr>, NoMemory> {
-        Ok(Some(canonical_type(alloc, self, entry)?))
+        let made = canonical_type(alloc, self, entry)?;
+        if is_same_type(&made, entry) {
+            return Ok(None);
+        }
+        Ok(Some(made))
     }
 
     fn changed_value(
@@ -91,6 +97,14 @@ impl TypeChanges for Numbering {
         alloc: Global,
         entry: &ValueEntry,
     ) -> Result<Option<ValueEntry>, NoMemory> {
-        Ok(Some(canonical_value(alloc, self, entry)?))
+        let made = canonical_value(alloc, self, entry)?;
+        if is_same_value(&made, entry) {
+            return Ok(None);
+        }
+        Ok(Some(made))
+    }
+
+    fn keeps_all_with(&self, _facts: Facts) -> bool {
+        false
     }
 }

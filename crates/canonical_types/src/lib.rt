@@ -5,6 +5,7 @@
 mod entries;
 mod numbering;
 mod renaming;
+mod same;
 mod variables;
 
 pub use numbering::{FunctorNames, Numbering, bound_names, functor_names, own_names};

@@ -1,3 +1,4 @@
 pub mod Ordering
 pub mod Mapping
 pub mod Changes
+pub mod Owning

@@ -3,6 +3,9 @@
 use Rattle.std.specs.Prelude.{◌≡◌, ℕ, List, [], ◌∷◌, map, nat_eq, Option, Some, None}
 use Rattle.indexmap.specs.IndexMap.{get}
 use Rattle.semantic_objects.specs.Tables.{Table}
+use Rattle.semantic_objects.specs.Environments.{Env}
+use Rattle.env_parts.specs.Types.{facts_of, types_in}
+use Rattle.env_parts.specs.declared.facts.Facts.{Facts}
 use Rattle.env_parts.specs.declared.tables.EnvTables.{EnvTables}
 use Rattle.sml_modules.specs.declared.node.Node.{Node}
 use Rattle.sml_modules.specs.Items.{Item, at}
@@ -61,6 +64,10 @@ abbrev pub MakesTables : Change → List Item → ℕ → Option EnvTables → T
 MakesTables by items place None = IsChanged by (at items place) (at items place)
 MakesTables by items place (Some tables) =
     AreEnvTables items tables × IsChanged by (at items place) (Item.EnvItem (env_of_tables items tables))
+
+-- each environment of which these are the facts stays
+abbrev pub KeepsAllWith : Change → Facts → Type 0
+KeepsAllWith by facts = (env : Env) → facts_of (types_in env) ≡ facts → changed by env ≡ env
 
 -- an id stands for what an environment of an older graph becomes
 pub record IsChangedEnv (by : Change) (old : Graph) (env : EnvId) (new : Graph) (made : EnvId) : Type 0 where

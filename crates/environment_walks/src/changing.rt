@@ -1,6 +1,6 @@
 //! An environment with other types, by a walk that does each node once.
 
-ghost use Rattle.std.specs.Prelude.{◌≡◌, IfOk, OnOk};
+ghost use Rattle.std.specs.Prelude.{◌≡◌, true, IfOk, OnOk};
 ghost use Rattle.sml_modules.specs.Items.{Item, at, IsEnv};
 ghost use Rattle.sml_modules.specs.Graphs.{env_at, HasEnv};
 ghost use Rattle.sml_modules.specs.Nodes.{node_item, IsNodeAfter};
@@ -12,7 +12,7 @@ use crate::places::Images;
 use crate::rows::{are_tables_kept, mapped_rows};
 use crate::steps::{Step, enter_rows};
 use cm_base::{List, NoMemory};
-use env_parts::{EnvTables, type_facts, value_facts};
+use env_parts::{EnvTables, Facts, type_facts, value_facts};
 use semantic_objects::{TypeStr, ValueEntry};
 use sml_modules::{EnvGraph, EnvId, KeptType, KeptValue, Kind, Node};
 use std::alloc::Global;
@@ -21,6 +21,7 @@ use std::alloc::Global;
 pub trait TypeChanges {
     ghost use Rattle.realisation.specs.Environments.{Change, changed_type, changed_value};
     ghost use Rattle.type_walks.specs.Replaced.{Becomes};
+    ghost use Rattle.environment_walks.specs.Changing.{KeepsAllWith};
 
     ghost change: { Self → Change };
 
@@ -35,6 +36,10 @@ pub trait TypeChanges {
         entry: &ValueEntry,
     ) -> Result<Option<ValueEntry>, NoMemory>
         ensures { IfOk result (Becomes entry.now (changed_value (change self.now) entry.now)) };
+
+    /// Whether each environment of which these are the facts stays, as far as facts tell.
+    fn keeps_all_with(&self, facts: Facts) -> bool
+        ensures { result ≡ true → KeepsAllWith (change self.now) facts };
 }
 
 /// A node for what becomes of a type structure, and none where it stays.
@@ -172,16 +177,35 @@ fn finish<C: TypeChanges>(
     }
 }
 
-/// A node is met. Its parts are done before it is left; one that has an image is done.
-fn enter(
+/// Whether an environment stands at a place that stays, as its facts tell.
+fn is_env_kept<C: TypeChanges>(graph: &EnvGraph, by: &C, place: usize) -> bool
+    ensures { result ≡ true → IsChanged (C.change by.now) (at graph.now.items place) (at graph.now.items place) }
+{
+    graph.has_env(EnvId { place }) && by.keeps_all_with(graph.facts_at(place))
+}
+
+/// A node is met. One that has an image is done, and so is an environment whose facts tell that it stays.
+fn enter<C: TypeChanges>(
     graph: &EnvGraph,
+    by: &C,
     place: usize,
-    images: &Images,
+    images: &mut Images,
     steps: &mut List<Step>,
-) -> Result<(), NoMemory> {
+) -> Result<(), NoMemory>
+    requires { AreChanged (C.change by.now) graph.now.items images.old }
+    ensures { OnOk result (AreChanged (C.change by.now) graph.now.items images.new) }
+{
     if images.of(place).is_some() {
         return Ok(());
     }
+    if is_env_kept(graph, by, place) {
+        return images.set(place, place);
+    }
+    enter_parts(graph, place, steps)
+}
+
+/// The parts of a node are done before it is left.
+fn enter_parts(graph: &EnvGraph, place: usize, steps: &mut List<Step>) -> Result<(), NoMemory> {
     steps.add(Step::Leave(place))?;
     let alloc = graph.alloc();
     match graph.node_at(place) {
@@ -207,7 +231,7 @@ fn take<C: TypeChanges>(
     ensures changed { OnOk result (AreChanged (C.change by.now) graph.new.items images.new) }
 {
     match step {
-        Step::Enter(place) => enter(graph, place, images, steps),
+        Step::Enter(place) => enter(graph, by, place, images, steps),
         Step::Leave(place) => finish(graph, by, place, images),
     }
 }

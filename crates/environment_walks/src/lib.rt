@@ -2,6 +2,7 @@
 #![tactic(auto)]
 
 mod changing;
+mod owners;
 mod places;
 mod realising;
 mod rows;
