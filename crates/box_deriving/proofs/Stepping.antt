@@ -5,7 +5,7 @@ use Rattle.cm_base.specs.Causes.{one_more}
 use Rattle.cm_base.specs.Files.{Files, Told}
 use Rattle.cm_base.specs.Keeping.{Touches}
 use Rattle.cm_base.specs.declared.diag.Diag.{Diag}
-use Rattle.bin_formats.specs.Format.{record_file}
+use Rattle.bin_formats.specs.Format.{IsRecord, record_file}
 use Rattle.bin_store.specs.Paths.{tool_path}
 use Rattle.tool_deriving.specs.Deriving.{ToolState, ToolUse, tool_use, record_of_use, uses, after_use, use_by}
 use Rattle.tool_deriving.specs.Toolboxes.{OfOne, rules_of}
@@ -43,7 +43,7 @@ on_fault (Err fault.NoMemory) P p = p
 
 -- ---- counts
 
-runs_behind : (first more : List ToolUse) (counts : Counts)
+pub runs_behind : (first more : List ToolUse) (counts : Counts)
     → after_runs (first ++ more) counts ≡ after_runs more (after_runs first counts)
 runs_behind [] more counts = refl
 runs_behind (job ∷ first) more counts = runs_behind first more (one_run job.class counts)
@@ -140,27 +140,50 @@ module _ (origin : Origin) (work : Work) (job : ToolUse) (r : Result (List ℕ) 
   ran_so (inl same) = inl (stays same ∙ here.ran)
   ran_so (inr more) = inr (once more ∙ ap (one_run job.class) here.ran)
 
-  under_way : CutOff origin (work.uses ++ job ∷ []) (world_of after new)
-  under_way = record {
-    front = work.uses;
-    rest = job ∷ [];
-    all = refl;
-    reached = inr (record { leaves = left_so leaves.leaves; ran = ran_so leaves.once });
-  }
+  fits_so : (after ≡ before) ⊎ IsRecord (record_of_use job)
+      → (after ≡ Some (after_uses origin.files work.uses)) ⊎ IsRecord (record_of_use job)
+  fits_so fits =
+      subst (λ (b : Option Files). (after ≡ b) ⊎ IsRecord (record_of_use job)) started fits
+
+  -- where it runs no tool, nothing changed
+  under_way : ((uses work.files job ≡ false) → (now ≡ ran) × (after ≡ before))
+      → CutOff origin (work.uses ++ job ∷ []) (world_of after new)
+  under_way rests = by_test (uses work.files job) refl
+    where
+      by_test : (t : Bool) → uses work.files job ≡ t → CutOff origin (work.uses ++ job ∷ []) (world_of after new)
+      by_test true is = record {
+        front = work.uses;
+        rest = job ∷ [];
+        all = refl;
+        reached = inr (record {
+          leaves = left_so leaves.leaves;
+          runs = ap (λ (f : Files). uses f job) (sym here.made) ∙ is;
+          fits = fits_so leaves.fits;
+          ran = ran_so leaves.once;
+        });
+      }
+      by_test false is =
+          record { front = work.uses; rest = job ∷ []; all = refl; reached = inl (by_uses (rested (rests is))) }
+
+  no_run : uses work.files job ≡ false → runs_of work.files (job ∷ []) ≡ []
+  no_run is = ap (λ (t : Bool). cond t (job ∷ []) []) is
 
   used : Told before (λ files. IsGiven r (used_within (Ok tt) texts_over_stores job (work_of files [])).result)
       → Told before (λ files. OnGiven r
       (after ≡ Some (used_within (Ok tt) texts_over_stores job (work_of files [])).work.files))
       → Told before (λ files. OnGiven r
       (now ≡ ran_more (length (runs_of files (used_within (Ok tt) texts_over_stores job (work_of files [])).work.uses)) ran))
+      → Told before (λ files. runs_of files (used_within (Ok tt) texts_over_stores job (work_of files [])).work.uses ≡ []
+      → (now ≡ ran) × (after ≡ before))
       → StepsOn origin work (used_within (Ok tt) texts_over_stores job work) r (world_of after new)
-  used gives puts runs = record {
+  used gives puts runs rests = record {
     gives = gives work.files here.holds;
     leads = on_both r (after ≡ Some (after_use work.files job))
         (now ≡ ran_more (length (runs_of work.files (job ∷ []))) ran)
         (InStep origin (with_use job work) (world_of after new)) stepped (puts work.files here.holds)
         (runs work.files here.holds);
-    cut = on_fault r (CutOff origin (work.uses ++ job ∷ []) (world_of after new)) under_way;
+    cut = on_fault r (CutOff origin (work.uses ++ job ∷ []) (world_of after new))
+        (under_way (λ is. rests work.files here.holds (no_run is)));
   }
 
   -- whichever it is
@@ -173,7 +196,7 @@ module _ (origin : Origin) (work : Work) (job : ToolUse) (r : Result (List ℕ) 
       → (now ≡ ran) × (after ≡ before))
       → StepsOn origin work (used_within w texts_over_stores job work) r (world_of after new)
   steps_by (Err diag) gives puts runs rests = refuses diag gives rests
-  steps_by (Ok within) gives puts runs rests = used gives puts runs
+  steps_by (Ok within) gives puts runs rests = used gives puts runs rests
 
 -- ---- over the tools of a box
 

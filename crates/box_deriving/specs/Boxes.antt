@@ -1,12 +1,12 @@
 -- A folder and a box of tools as they stand, and how far a loading that uses tools has come.
-use Rattle.std.specs.Prelude.{ℕ, ◌≡◌, ◌⊎◌, ◌≤◌, nat_eq, if◌then◌else◌, List, [], ◌∷◌, ◌++◌, map, slice_get, Option, Some, Result, Ok, Err}
+use Rattle.std.specs.Prelude.{ℕ, ◌≡◌, ◌⊎◌, ◌≤◌, true, nat_eq, if◌then◌else◌, List, [], ◌∷◌, ◌++◌, map, slice_get, Option, Some, Result, Ok, Err}
 use Rattle.std.specs.Cmp.Lexicographic.{pointwise}
 use Rattle.cm_base.specs.Causes.{Rose, one_more}
 use Rattle.cm_base.specs.Files.{Files}
 use Rattle.cm_base.specs.Keeping.{Touches}
-use Rattle.bin_formats.specs.Format.{record_file}
+use Rattle.bin_formats.specs.Format.{IsRecord, record_file}
 use Rattle.bin_store.specs.Paths.{tool_path}
-use Rattle.tool_deriving.specs.Deriving.{ToolState, ToolUse, record_of_use}
+use Rattle.tool_deriving.specs.Deriving.{ToolState, ToolUse, record_of_use, uses}
 use Rattle.member_deriving.specs.Sources.{IsGiven, OnGiven}
 use Rattle.member_deriving.specs.Uses.{Outcome, Work, after_uses, ran_more, runs_of, work_of}
 use Rattle.member_deriving.specs.declared.fault.MemberFault.{MemberFault}
@@ -55,11 +55,13 @@ pub record InStep (origin : Origin) (work : Work) (now : World) : Type 0 where
   pub ran : counts_of now.tools ≡ after_runs (runs_of origin.files work.uses) (counts_of origin.tools)
   pub rules : rules_in now.tools ≡ rules_in origin.tools
 
--- a use is under way behind some whole ones: its tool ran once more or not, and at its record's path stand the old bytes,
--- nothing, or a front of the record
+-- a use that runs its tool is under way behind some whole ones: the tool ran once more or not yet, and at its record's
+-- path stand the old bytes, nothing, or a front of the record, which has a spelling where anything changed
 pub record UnderWay (origin : Origin) (front : List ToolUse) (job : ToolUse) (now : World) : Type 0 where
   pub leaves : (now.holds ≡ Some (after_uses origin.files front))
       ⊎ Touches (Some (after_uses origin.files front)) now.holds (tool_path job.unit) (record_file (record_of_use job))
+  pub runs : uses (after_uses origin.files front) job ≡ true
+  pub fits : (now.holds ≡ Some (after_uses origin.files front)) ⊎ IsRecord (record_of_use job)
   pub ran : (counts_of now.tools ≡ after_runs (runs_of origin.files front) (counts_of origin.tools))
       ⊎ (counts_of now.tools ≡ one_run job.class (after_runs (runs_of origin.files front) (counts_of origin.tools)))
 

@@ -109,7 +109,7 @@ refused_input state unit input diag before after large same = record {
         (sym large);
     rests = λ files is none. (refl, same);
   };
-  leaves = record { once = inl refl; leaves = inl same; failed = λ e. absurd cc };
+  leaves = record { once = inl refl; leaves = inl same; fits = inl same; failed = λ e. absurd cc };
 }
   where
     job : ToolUse
@@ -128,7 +128,7 @@ wants_memory state unit input before after same = record {
     runs = λ files is. tt;
     rests = λ files is none. (refl, same);
   };
-  leaves = record { once = inl refl; leaves = inl same; failed = λ e. absurd cc };
+  leaves = record { once = inl refl; leaves = inl same; fits = inl same; failed = λ e. absurd cc };
 }
 
 -- where no run is among them, the use doesn't run
@@ -176,6 +176,7 @@ module _ (old new : ToolState) (unit input : List ℕ) (before after : Option Fi
     leaves = record {
       once = by.leaves.once;
       leaves = by.leaves.leaves;
+      fits = by.leaves.fits;
       failed = λ e. by.leaves.failed (is_tool f e);
     };
   }
@@ -216,7 +217,12 @@ module _ (old new : ToolState) (unit input : List ℕ) (before after : Option Fi
       class = by.class;
       rule = by.rule;
       sources = sources_of r given;
-      leaves = record { once = by.leaves.once; leaves = by.leaves.leaves; failed = λ e. absurd (other e) };
+      leaves = record {
+        once = by.leaves.once;
+        leaves = by.leaves.leaves;
+        fits = by.leaves.fits;
+        failed = λ e. absurd (other e);
+      };
     }
 
     pub gives_text : within_source unit text ≡ Ok tt → SourcesBy old new unit input (Ok text) before after

@@ -5,7 +5,7 @@ use Rattle.cm_base.specs.Diags.{whole_file}
 use Rattle.cm_base.specs.Files.{Files, Told}
 use Rattle.cm_base.specs.Keeping.{Touches}
 use Rattle.cm_base.specs.declared.diag.Diag.{Diag}
-use Rattle.bin_formats.specs.Format.{record_file}
+use Rattle.bin_formats.specs.Format.{IsRecord, record_file}
 use Rattle.bin_store.specs.Paths.{tool_path}
 use Rattle.tool_deriving.specs.Deriving.{ToolUse, ToolState, text_of_use, text_over, record_of_use, use_by}
 use Rattle.member_deriving.specs.Uses.{Outcome, Work, outcome, ran_more, runs_of, with_use, work_of}
@@ -74,12 +74,13 @@ pub record Sources (job : ToolUse) (result : Result (List ℕ) MemberFault) (old
   pub rests : Told old (λ files. runs_of files (source_by texts_over_stores job (work_of files [])).work.uses ≡ []
       → (now ≡ ran) × (new ≡ old))
 
--- whatever it answers: at most one run more, and at the record's path the old bytes, nothing or a front of the record; a
--- tool that fails ran, and nothing is written
+-- whatever it answers: at most one run more, and at the record's path the old bytes, nothing or a front of the record,
+-- which has a spelling where anything changed; a tool that fails ran, and nothing is written
 pub record LeavesMember (job : ToolUse) (result : Result (List ℕ) MemberFault) (old new : Option Files) (ran now : ℕ)
     : Type 0 where
   pub once : (now ≡ ran) ⊎ (now ≡ one_more ran)
   pub leaves : (new ≡ old) ⊎ Touches old new (tool_path job.unit) (record_file (record_of_use job))
+  pub fits : (new ≡ old) ⊎ IsRecord (record_of_use job)
   pub failed : result ≡ Err fault.Tool → (now ≡ one_more ran) × (new ≡ old)
 
 -- all that is promised of a member's use of a tool

@@ -1,9 +1,9 @@
 //! Cases `derive`: tools are put into a box and used, over a folder in memory, by steps.
 
-use crate::tool::CaseTool;
-use crate::tools::tool_of;
+use bin_store::StoreFault;
 use case_files::{Case, CaseFault, Part, Report, number_of, push_parts};
 use case_texts::{Scene, line, push_diag, take_steps};
+use case_tools::{CaseTool, tool_of};
 use cm_base::{CallKind, FailAt, Left, List, MemFolder, NoMemory, Text, Tool};
 use member_deriving::{MemberFault, derive_source, find_tool};
 use std::alloc::Global;
@@ -108,11 +108,13 @@ impl DeriveScene {
         counted(alloc, b"bytes ", answer.len() as u64)
     }
 
-    /// How many bytes a unit's record has, and whether it is whole.
+    /// How many bytes a unit's record has, and whether it is whole. Want of memory is handed on.
     fn record(&mut self, alloc: Global, unit: &Text) -> Result<Vec<u8>, NoMemory> {
         match get_record(alloc, &mut self.folder, unit) {
             Ok(Some(_run)) => {}
-            _ => return line(alloc, b"none"),
+            Ok(None) => return line(alloc, b"none"),
+            Err(StoreFault::Folder) => return line(alloc, b"folder fault"),
+            Err(StoreFault::NoMemory) => return Err(NoMemory),
         }
         match self.folder.get(&tool_path(alloc, unit)?) {
             Some(file) => counted(alloc, b"bytes ", file.len() as u64),

@@ -122,7 +122,7 @@ stopped state unit input f before after other same = record {
     puts = λ files is. tt;
     rests = λ files is none. (refl, same);
   };
-  leaves = record { once = inl refl; leaves = inl same; failed = λ h. absurd (other h) };
+  leaves = record { once = inl refl; leaves = inl same; fits = inl same; failed = λ h. absurd (other h) };
 }
 
 -- by the record
@@ -142,7 +142,7 @@ by_record state unit input text before after same found = record {
         (sym (rests_where files job text (sym (found files is))));
     rests = λ files is none. (refl, same);
   };
-  leaves = record { once = inl refl; leaves = inl same; failed = λ h. absurd cc };
+  leaves = record { once = inl refl; leaves = inl same; fits = inl same; failed = λ h. absurd cc };
 }
   where
     job : ToolUse
@@ -166,9 +166,9 @@ runs_not_rests files job none rests = let runs = runs_where files job (sym none)
 pub by_run : (old new : ToolState) (unit input : List ℕ) (r : Result (List ℕ) DeriveFault) (before middle after : Option Files)
     → HasCause old.faults new.faults (r ≡ err fault.Tool) → new.class ≡ old.class → new.rule ≡ old.rule
     → middle ≡ before → Told before (λ files. None ≡ stored_output files (use_by old unit input))
-    → RunsOnce (use_by old unit input) r middle after old.ran new.ran
+    → IsSmallUse (use_by old unit input) → RunsOnce (use_by old unit input) r middle after old.ran new.ran
     → DerivesBy old new unit input r before after
-by_run old new unit input r before middle after cause class rule same none once = record {
+by_run old new unit input r before middle after cause class rule same none small once = record {
   cause = cause;
   class = class;
   rule = rule;
@@ -208,26 +208,33 @@ by_run old new unit input r before middle after cause class rule same none once 
         subst (λ (m : Option Files). (after ≡ m) ⊎ Touches m after (tool_path job.unit) (record_file (record_of_use job)))
         same left
 
+    fits : (after ≡ before) ⊎ IsRecord (record_of_use job)
+    fits = inr (run_fits job (record_of_use job) small refl)
+
     leaves : (r : Result (List ℕ) DeriveFault) → RunsOnce job r middle after old.ran new.ran
         → LeavesUse job r before after old.ran new.ran
     leaves (Ok text) once = record {
       once = inr once.1;
       leaves = moved (inr (touches_written middle after (tool_path job.unit) (record_file (record_of_use job)) once.2));
+      fits = fits;
       failed = λ h. absurd cc;
     }
     leaves (Err fault.Tool) once = record {
       once = inr once.0;
       leaves = inl (once.1 ∙ same);
+      fits = fits;
       failed = λ h. (once.0, once.1 ∙ same);
     }
     leaves (Err fault.Folder) once = record {
       once = inr once.0;
       leaves = moved once.1;
+      fits = fits;
       failed = λ h. absurd cc;
     }
     leaves (Err fault.NoMemory) once = record {
       once = once.0;
       leaves = moved once.1;
+      fits = fits;
       failed = λ h. absurd cc;
     }
 

@@ -6,7 +6,7 @@ use Rattle.cm_base.specs.Derived.{derived_text}
 use Rattle.cm_base.specs.Files.{Files, Told, told}
 use Rattle.cm_base.specs.Keeping.{Touches}
 use Rattle.bin_formats.specs.declared.bin.ToolRecord.{ToolRecord}
-use Rattle.bin_formats.specs.Format.{record_file}
+use Rattle.bin_formats.specs.Format.{IsRecord, record_file}
 use Rattle.bin_store.specs.Paths.{tool_path}
 use Rattle.tool_records.specs.Stored.{stored_record, with_record, HasTrueRecord}
 use Rattle.tool_deriving.specs.declared.fault.DeriveFault.{DeriveFault}
@@ -86,11 +86,12 @@ pub record Derives (job : ToolUse) (result : Result (List ℕ) DeriveFault) (old
   pub rests : Told old (λ files. uses files job ≡ false → (now ≡ ran) × (new ≡ old))
 
 -- what it leaves whatever it answers: at most one run more, and at the record's path the old bytes, nothing or a front
--- of the record; a tool that fails ran, and nothing is written
+-- of the record, which has a spelling where anything changed; a tool that fails ran, and nothing is written
 pub record LeavesUse (job : ToolUse) (result : Result (List ℕ) DeriveFault) (old new : Option Files) (ran now : ℕ)
     : Type 0 where
   pub once : (now ≡ ran) ⊎ (now ≡ one_more ran)
   pub leaves : (new ≡ old) ⊎ Touches old new (tool_path job.unit) (record_file (record_of_use job))
+  pub fits : (new ≡ old) ⊎ IsRecord (record_of_use job)
   pub failed : result ≡ Err fault.Tool → (now ≡ one_more ran) × (new ≡ old)
 
 -- what a tool tells of itself

@@ -1,4 +1,4 @@
-use Rattle.std.proofs.Common.{Some, None}
+use Rattle.std.proofs.Common.{◌≤◌, subst, ℕ, List, length, Some, None}
 use Rattle.tool_deriving.proofs.Runs.{answer_so, by_record, by_run}
 use Rattle.tool_deriving.proofs.uses.derive_by.Goals as goal
 
@@ -14,4 +14,10 @@ returns-clause-tool g c =
     c.run_tool.ensures.same_rule c.in_ok-stored.ensures.same
     (answer_so c.args.unit.now c.args.input.now _ _ _ _ c.in_ok-stored.stored None _
     c.class.ensures.value c.in_ok-rule.ensures.value (cc (c.in-None.is)) c.in_ok-stored.ensures.found)
+    (record {
+      unit = c.requires.unit;
+      class = subst (λ (class : List ℕ). length class ≤ 1048581) c.class.ensures.value c.class.ensures.most;
+      rule = subst (λ (rule : List ℕ). length rule ≤ 1048581) c.in_ok-rule.ensures.value c.in_ok-rule.ensures.most;
+      input = c.requires.input;
+    })
     c.run_tool.ensures.once
