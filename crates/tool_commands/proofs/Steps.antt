@@ -19,7 +19,7 @@ use Rattle.cm_top.specs.declared.status.Status.{Status}
 use Rattle.cm_top.specs.declared.status.Status.TheVariants as status
 use Rattle.cm_top.proofs.Steps.{remove_performs, usage_performs, write_performs}
 use Rattle.tool_commands.specs.Meaning.{without_tools}
-use Rattle.tool_commands.specs.Performing.{Does, IsStepEnd}
+use Rattle.tool_commands.specs.Performing.{Does, IsSessionEnd, IsStepEnd}
 use Rattle.tool_commands.proofs.InTurn.{lift_does, stage}
 
 edit_no_tool : (r : Result (Unit {0}) FolderFault) → edit_end r ≢ status.ToolFault
@@ -71,6 +71,16 @@ session_no_tool status.FolderFault is e = cc
 session_no_tool status.SinkFault is e = cc
 session_no_tool status.NoMemory is e = cc
 session_no_tool status.ToolFault is e = is
+
+-- how a refusal's printing ends is an end of a session
+pub session_end : (end : Status) → plain.IsSessionEnd end → IsSessionEnd end
+session_end status.Ok is = tt
+session_end status.Diagnostic is = tt
+session_end status.Usage is = is
+session_end status.FolderFault is = tt
+session_end status.SinkFault is = tt
+session_end status.NoMemory is = tt
+session_end status.ToolFault is = tt
 
 pub usage_no_tool : (end : Status) → IsUsageEnd end → end ≢ status.ToolFault
 usage_no_tool status.Ok is e = cc

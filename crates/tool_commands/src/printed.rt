@@ -3,6 +3,7 @@
 ghost use Rattle.std.specs.Prelude.{◌≡◌, ◌≢◌};
 ghost use Rattle.cm_base.specs.Causes.{HasCause};
 ghost use Rattle.cm_top.specs.Answers.{IsReported, Prints};
+ghost use Rattle.tool_commands.specs.Performing.{IsSessionEnd};
 ghost use Rattle.tool_commands.specs.Reports.{text_of};
 
 use cm_base::{Sink, Text};
@@ -34,7 +35,7 @@ pub fn print_part<S: Sink>(alloc: Global, out: &mut S, part: Printed, report: &R
     ensures sink { HasCause (S.faults out.old) (S.faults out.new) (result ≡ Status.SinkFault) }
     ensures folder { result ≢ Status.FolderFault }
     ensures tool { result ≢ Status.ToolFault }
-    ensures usage { result ≢ Status.Usage }
+    ensures end { IsSessionEnd result }
     ensures prints { Prints result report.now.status (S.written out.old) (S.written out.new)
         (text_of part report.now) }
 {

@@ -18,7 +18,7 @@ use Rattle.tool_commands.specs.Performing.{Does, rules_among}
 use Rattle.tool_commands.specs.Ways.{plain_way, store_way}
 use Rattle.tool_commands.proofs.Cuts.{link_cut}
 use Rattle.tool_commands.proofs.InTurn.{does_same, does_told, effects, stage, still_does}
-use Rattle.tool_commands.proofs.Steps.{refused_does}
+use Rattle.tool_commands.proofs.Steps.{refused_does, session_end}
 use Rattle.tool_commands.proofs.commands.run_link.Goals as goal
 
 pub returns-in-Ok-clause-performs : goal.returns-in-Ok-clause-performs
@@ -141,3 +141,6 @@ pub returns-in-Err-NoMemory-clause-others : goal.returns-in-Err-NoMemory-clause-
 returns-in-Err-NoMemory-clause-others g c = λ files is.
     same_outside (path_in (out_in files c.args.root.now c.args.target.now)) files
     (g.F.Folder.holds c.find_target.new.folder) (c.in-Err-NoMemory.ensures.same ∙ is)
+
+pub returns-in-Err-Diag-clause-end : goal.returns-in-Err-Diag-clause-end
+returns-in-Err-Diag-clause-end g c = session_end c.print_refusal.result c.print_refusal.ensures.end

@@ -14,7 +14,7 @@ use Rattle.tool_commands.specs.Performing.{rules_among}
 use Rattle.tool_commands.proofs.InTurn.{lift_does, stage}
 use Rattle.tool_commands.proofs.Loading.{answered, answered_others, answered_same, blamed, cut_others, failed, others_then, wanting}
 use Rattle.tool_commands.proofs.Roots.{over, over_box, root_goes, root_stops}
-use Rattle.tool_commands.proofs.Steps.{refused_does, session_no_tool}
+use Rattle.tool_commands.proofs.Steps.{refused_does, session_end, session_no_tool}
 use Rattle.tool_commands.proofs.commands.run_root.Goals as goal
 
 pub returns-in-Ok-clause-performs : goal.returns-in-Ok-clause-performs
@@ -239,3 +239,6 @@ returns-in-Err-NoMemory-clause-tools g c =
     let t0 = states_by g.T.Tool.class g.T.Tool.rule g.T.Tool.ran g.T.Tool.faults c.args.tools.now in
     let t1 = states_by g.T.Tool.class g.T.Tool.rule g.T.Tool.ran g.T.Tool.faults c.load.new.tools in
     tends_as t0 t1 c.load.ensures.tool (λ e. absurd cc)
+
+pub returns-in-Err-Diag-clause-end : goal.returns-in-Err-Diag-clause-end
+returns-in-Err-Diag-clause-end g c = session_end c.print_refusal.result c.print_refusal.ensures.end

@@ -12,7 +12,7 @@ use Rattle.tool_commands.specs.Sessions.{of_script, play}
 use Rattle.tool_commands.specs.Ways.{plain_way, store_way}
 use Rattle.tool_commands.proofs.Cuts.{script_cut}
 use Rattle.tool_commands.proofs.InTurn.{does_same, effects, stage, still_does}
-use Rattle.tool_commands.proofs.Steps.{refused_does}
+use Rattle.tool_commands.proofs.Steps.{refused_does, session_end}
 use Rattle.tool_commands.proofs.sessions.session.Goals as goal
 
 pub returns-in-Ok-clause-performs : goal.returns-in-Ok-clause-performs
@@ -93,3 +93,6 @@ returns-in-Err-NoMemory-clause-performs g c =
     (still_wanting by (effects doing) (effects meant) s0 s1 refl c.in-Err-NoMemory.ensures.same refl refl
     (λ files. script_cut (store_way by rules) files (script_in files c.args.script.now))
     (λ files. script_cut (plain_way by rules) files (script_in files c.args.script.now)))
+
+pub returns-in-Err-Diag-clause-end : goal.returns-in-Err-Diag-clause-end
+returns-in-Err-Diag-clause-end g c = session_end c.print_refusal.result c.print_refusal.ensures.end
