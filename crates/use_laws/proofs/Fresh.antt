@@ -1,5 +1,5 @@
 -- What is fresh in a store stays so through uses of tools: records are no binfiles and no interfaces.
-use Rattle.std.proofs.Common.{◌≡◌, ◌≢◌, ◌∙◌, ap, ap₂, sym, refl, ℕ, Bool, true, false, cond, List, [], ◌∷◌, map, Option, Some, None}
+use Rattle.std.proofs.Common.{◌≡◌, ◌∙◌, ap, ap₂, refl, ℕ, Bool, true, false, cond, List, [], ◌∷◌, map, Option, Some, None}
 use Rattle.std.specs.Prelude.{is_some}
 use Rattle.cm_base.specs.Files.{Files}
 use Rattle.cm_base.specs.declared.record.BuiltUnit.{BuiltUnit}
@@ -14,8 +14,8 @@ use Rattle.bin_formats.specs.Format.{record_file}
 use Rattle.bin_store.specs.Laws.{SameBut}
 use Rattle.bin_store.specs.Paths.{tool_path}
 use Rattle.bin_store.specs.Stored.{stored_bin, stored_interface}
-use Rattle.build_laws.specs.PlainBuild.{Build, PlainUnit, compiled_unit}
-use Rattle.build_laws.specs.Stale.{asked_in, by_key, inputs_of, is_fresh, loaded, loaded_for, marked, marked_unit, of_bin, same_key, stale_names, with_text}
+use Rattle.build_laws.specs.PlainBuild.{PlainUnit, compiled_unit}
+use Rattle.build_laws.specs.Stale.{by_key, inputs_of, is_fresh, loaded, marked_unit, of_bin, same_key, stale_names, with_text}
 use Rattle.tool_records.specs.Stored.{with_record}
 use Rattle.tool_records.proofs.Storing.{record_no_bin, record_no_interface}
 use Rattle.tool_deriving.specs.Deriving.{ToolUse, after_use, record_of_use, uses}

@@ -1,5 +1,5 @@
 -- What uses of tools leave of a folder: the records of those that ran, whole or, of the one that was cut off, a front.
-use Rattle.std.proofs.Common.{◌≡◌, ◌≢◌, ◌∙◌, ◌⊎◌, ap, sym, subst, refl, inl, inr, arith, ℕ, zero, suc, Bool, true, false, cond, List, [], ◌∷◌, ◌++◌, Option, Some, append_assoc}
+use Rattle.std.proofs.Common.{◌≡◌, ◌∙◌, ◌⊎◌, ap, sym, subst, refl, inl, inr, arith, ℕ, zero, suc, Bool, true, false, cond, List, [], ◌∷◌, ◌++◌, Option, Some, append_assoc}
 use Rattle.std.specs.Prelude.{Contains}
 use Rattle.std.proofs.lemmas.List.Elements.{Contains-append_left}
 use Rattle.cm_base.specs.Definitions.{Definitions}
@@ -44,20 +44,23 @@ first_within first more q within =
 pub runs_keep : (files : Files) (jobs : List ToolUse)
     → Keeps (Some files) (Some (after_uses files jobs)) (record_paths (runs_of files jobs))
 runs_keep files [] = keeps_same (Some files) (Some files) [] refl
-runs_keep files (job ∷ jobs) = by_test (uses files job)
+runs_keep files (job ∷ jobs) =
+    by_test (uses files job) (runs_keep (with_record files (record_of_use job)) jobs) (runs_keep files jobs)
   where
     put : Files
     put = with_record files (record_of_use job)
 
-    by_test : (b : Bool) → Keeps (Some files) (Some (after_uses (cond b (with_record files (record_of_use job)) files) jobs))
-        (record_paths (cond b (job ∷ runs_of (cond b (with_record files (record_of_use job)) files) jobs)
-        (runs_of (cond b (with_record files (record_of_use job)) files) jobs)))
-    by_test true =
+    by_test : (b : Bool)
+        → Keeps (Some put) (Some (after_uses put jobs)) (record_paths (runs_of put jobs))
+        → Keeps (Some files) (Some (after_uses files jobs)) (record_paths (runs_of files jobs))
+        → Keeps (Some files) (Some (after_uses (cond b put files) jobs))
+        (record_paths (cond b (job ∷ runs_of (cond b put files) jobs) (runs_of (cond b put files) jobs)))
+    by_test true ran rested =
         keeps_then
         (keeps_touches
         (touches_written (Some files) (Some put) (tool_path job.unit) (record_file (record_of_use job)) refl))
-        (runs_keep put jobs)
-    by_test false = runs_keep files jobs
+        ran
+    by_test false ran rested = rested
 
 -- ---- where a loading stands
 

@@ -1,5 +1,5 @@
 -- Runs of tools, one list behind another.
-use Rattle.std.proofs.Common.{◌≡◌, ◌∙◌, ap, sym, List, [], ◌++◌, append-nil, append_assoc}
+use Rattle.std.proofs.Common.{◌∙◌, ap, sym, List, [], ◌++◌, append-nil, append_assoc}
 use Rattle.tool_deriving.specs.Deriving.{ToolState, ToolUse}
 use Rattle.box_deriving.specs.Boxes.{after_runs, counts_of}
 use Rattle.box_deriving.proofs.Stepping.{runs_behind}

@@ -1,7 +1,6 @@
 -- What is left where uses of tools were made: their records, and how often each tool ran.
 use Rattle.std.specs.Prelude.{ℕ, ◌≡◌, List, ◌++◌, map, Some}
 use Rattle.cm_base.specs.Definitions.{Definitions}
-use Rattle.cm_base.specs.Files.{Files}
 use Rattle.cm_base.specs.Keeping.{Keeps}
 use Rattle.bin_store.specs.GoodStore.{IsGoodStore, StoreIsGood}
 use Rattle.bin_store.specs.Paths.{tool_path}
