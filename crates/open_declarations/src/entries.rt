@@ -57,7 +57,7 @@ fn add_values<V: Copy + Drop>(
 }
 
 /// Adds all that an environment has.
-pub(crate) fn add_env<V: Copy + Drop>(
+pub fn add_env<V: Copy + Drop>(
     g: &EnvGraph,
     env: EnvId,
     made: &mut Made<V>,

@@ -4,4 +4,5 @@
 mod entries;
 mod names;
 
+pub use entries::add_env;
 pub use names::elab_open;

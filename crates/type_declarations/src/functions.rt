@@ -54,7 +54,7 @@ fn closed_function<V: Copy + Drop>(
 }
 
 /// The type function of a phrase under the variables of a list alone. The table and the scope are left as they were.
-fn function_under<V: Copy + Drop>(
+pub fn function_under<V: Copy + Drop>(
     alloc: Global,
     g: &EnvGraph,
     t: &mut TypeTable,

@@ -6,3 +6,4 @@ mod functions;
 mod lists;
 
 pub use bindings::elab_types;
+pub use functions::function_under;
