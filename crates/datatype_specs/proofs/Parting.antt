@@ -16,7 +16,7 @@ use Rattle.semantic_objects.specs.Environments.{Env, Signature, env_of, structur
 use Rattle.sml_modules.specs.declared.id.EnvId.{EnvId}
 use Rattle.sml_modules.specs.declared.parts.NamedEnv.{NamedEnv}
 use Rattle.sml_modules.specs.declared.parts.NamedType.{NamedType}
-use Rattle.sml_modules.specs.Items.{map_rows}
+use Rattle.sml_modules.specs.Items.{map_rows, Item, as_value}
 use Rattle.sml_modules.specs.Graphs.{Graph, env_at, structure_rows, type_rows}
 use Rattle.name_trails.specs.Trails.{Rows, last_entry}
 use Rattle.core_scopes.specs.declared.made.Made.{Made}
@@ -111,7 +111,7 @@ named_over : {A B : Type 0} (f : A → B) (rows : Rows A) (name : List ℕ)
     → is_some (entry name (with_all (map_rows f rows) [])) ≡ is_some (last_entry rows name)
 named_over f rows name = ap is_some (entry_over f rows [] name) ∙ some_mapped f (last_entry rows name)
 
-shared : {A B E : Type 0} (rows : Table A) (table : Table B) (names : E → List ℕ) (row_of : E → List ℕ × A)
+shared : {A E : Type 0} (rows : Table A) (table : Table A) (names : E → List ℕ) (row_of : E → List ℕ × A)
     (part : List E) (p : List ℕ → Bool) → rows ≡ map row_of part → ((e : E) → (row_of e).0 ≡ names e)
     → ((name : List ℕ) → is_some (entry name table) ≡ p name)
     → shares (with_all rows []) table ≡ list_any (λ e. p (names e)) part
@@ -154,6 +154,45 @@ module _ {V : Type 0} (g : Graph) (read : V → ValueEntry) (part : Made V) (mad
   common_is ss ts vs a b c =
       ap₂ (λ p q. p || q) (a ∙ sym structures_shared)
       (ap₂ (λ p q. p || q) (b ∙ sym types_shared) (c ∙ sym values_shared))
+
+  or_first : (a b : Bool) → a ≡ true → a ≡ (a || b)
+  or_first true b h = refl
+  or_first false b h = absurd (cc)
+
+  or_second : (a b : Bool) → a ≡ false → b ≡ (a || b)
+  or_second true b h = absurd (cc)
+  or_second false b h = refl
+
+  abbrev AnyStructure : List NamedEnv → Bool
+  AnyStructure xs = list_any (λ (e : NamedEnv). is_some (last_entry made.structures e.name)) xs
+
+  abbrev AnyType : List NamedType → Bool
+  AnyType xs = list_any (λ (e : NamedType). is_some (last_entry made.types e.name)) xs
+
+  abbrev AnyValue : List (NamedInScope V) → Bool
+  AnyValue xs = list_any (λ (e : NamedInScope V). is_some (last_entry made.values e.name)) xs
+
+  -- the first kind in which there is one tells it
+  pub common_structure : (ss : Bool) (xs : List NamedEnv) → xs ≡ part.structures → ss ≡ AnyStructure xs → ss ≡ true
+      → ss ≡ have_common (env_of_made g read part) (env_so_far g made)
+  common_structure ss xs e a h =
+      or_first ss (AnyType part.types || AnyValue part.values) h
+      ∙ common_is ss (AnyType part.types) (AnyValue part.values) (a ∙ ap AnyStructure e) refl refl
+
+  pub common_type : (ss ts : Bool) (xs : List NamedEnv) (ys : List NamedType) → xs ≡ part.structures
+      → ys ≡ part.types → ss ≡ AnyStructure xs → ts ≡ AnyType ys → ss ≡ false → ts ≡ true
+      → ts ≡ have_common (env_of_made g read part) (env_so_far g made)
+  common_type ss ts xs ys e f a b h k =
+      or_first ts (AnyValue part.values) k ∙ or_second ss (ts || AnyValue part.values) h
+      ∙ common_is ss ts (AnyValue part.values) (a ∙ ap AnyStructure e) (b ∙ ap AnyType f) refl
+
+  pub common_value : (ss ts vs : Bool) (xs : List NamedEnv) (ys : List NamedType) (zs : List (NamedInScope V))
+      → xs ≡ part.structures → ys ≡ part.types → zs ≡ part.values → ss ≡ AnyStructure xs → ts ≡ AnyType ys
+      → vs ≡ AnyValue zs → ss ≡ false → ts ≡ false
+      → vs ≡ have_common (env_of_made g read part) (env_so_far g made)
+  common_value ss ts vs xs ys zs e f d a b k h l =
+      or_second ts vs l ∙ or_second ss (ts || vs) h
+      ∙ common_is ss ts vs (a ∙ ap AnyStructure e) (b ∙ ap AnyType f) (k ∙ ap AnyValue d)
 
   -- ---- entries behind others
 
@@ -204,10 +243,12 @@ module _ {V : Type 0} (g : Graph) (read : V → ValueEntry) (part : Made V) (mad
       (part_added new h)
       ∙ ap (λ bound. gives (let sig : Signature = record { bound = bound; env = env_so_far g new } in sig)) (sym h.bound)
 
-pub part_front : {V : Type 0} (old new : Specified) (part : Made V) → (V → ValueEntry) → AddsPart old new part
-    → IsFrontOf old new
-part_front old new part read h = record {
+pub part_front : {V : Type 0} (old new : Specified) (part : Made V) → AddsPart old new part → IsFrontOf old new
+part_front {V} old new part h = record {
   structures = take_more old.structures (env_rows part.structures) new.structures h.structures;
   types = take_more old.types (type_rows part.types) new.types h.types;
   values = take_more old.values (value_rows read part.values) new.values (h.values read);
 }
+  where
+    read : V → ValueEntry
+    read v = as_value Item.Nowhere

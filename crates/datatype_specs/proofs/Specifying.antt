@@ -55,6 +55,10 @@ new_is {V} g read made new s t v =
         → env_of ss ts vs ≡ env_of us xs ys
     env_is ss us ts xs vs ys h k l = cc
 
+pub not_some : {A : Type 0} (o : Option A) → ((x : A) → o ≡ Some x → ⊥) → o ≡ None
+not_some None h = refl
+not_some (Some x) h = absurd (h x refl)
+
 -- ---- names of types
 
 module _ (new : NewTypes) (bind : DatPhrase) where
@@ -206,9 +210,9 @@ module _ (sc : Scope) (binds : List DatPhrase) (made : Signature) (st : Progress
       (q : Result R Fault) → datatypes_of sc [] binds st ≡ gives (env, after) → env ≡ new
       → bound ≡ made.bound ++ names_of_types binds new
       → Answers (specified_types sc binds new (let z : Signature = record { bound = bound; env = made.env } in z)) sig q
-      → Answers (infer_datatype_specs sc binds made st) (λ (u : R). (sig u, after)) q
+      → Answers {A = Signature × Progress} (infer_datatype_specs sc binds made st) (λ (u : R). (sig u, after)) q
   datatypes_specified {R} env new after bound sig q made_so same bound_so h =
-      subst (λ (w : Answer (Signature × Progress)). Answers w (λ (u : R). (sig u, after)) q)
+      subst (λ (w : Answer (Signature × Progress)). Answers {A = Signature × Progress} w (λ (u : R). (sig u, after)) q)
       (sym (ap (λ (m : Answer (Env × Progress)). m >>= rest_of) made_so
       ∙ ap (λ z. rest_of (z, after)) same
       ∙ ap (λ names. specified_types sc binds new (let z : Signature = record { bound = names; env = made.env } in z)
@@ -216,7 +220,7 @@ module _ (sc : Scope) (binds : List DatPhrase) (made : Signature) (st : Progress
       (mapped _ q h)
     where
       mapped : (want : Answer Signature) (q : Result R Fault) → Answers want sig q
-          → Answers (want >>= λ z. gives (z, after)) (λ (u : R). (sig u, after)) q
+          → Answers {A = Signature × Progress} (want >>= λ z. gives (z, after)) (λ (u : R). (sig u, after)) q
       mapped want (Result.Ok u) h = ap (λ (m : Answer Signature). m >>= λ z. gives (z, after)) h
       mapped want (Err e) h = failed want (λ z. gives (z, after)) sig (λ (u : R). (sig u, after)) e h
 

@@ -63,11 +63,7 @@ fn add_name(bound: &mut List<TyName>, new: &NewTypes, bind: &DatBind) -> Result<
 }
 
 /// Adds the type names of datatypes, in written order.
-fn add_names(
-    bound: &mut List<TyName>,
-    new: &NewTypes,
-    binds: &[DatBind],
-) -> Result<(), NoMemory>
+fn add_names(bound: &mut List<TyName>, new: &NewTypes, binds: &[DatBind]) -> Result<(), NoMemory>
     ensures { OnOk result (bound.new ≡ bound.old ++ names_of_types (map dat_phrase binds.now) (env_of_new new.now)) }
 {
     for bind in binds {

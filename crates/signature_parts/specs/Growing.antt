@@ -1,5 +1,5 @@
 -- What a call that elaborates a part of a signature leaves, and what it says of its answer.
-use Rattle.std.specs.Prelude.{◌≡◌, length, take, OnOk, Result}
+use Rattle.std.specs.Prelude.{◌≡◌, OnOk, Result}
 use Rattle.cm_base.specs.declared.fault.Fault.{Fault}
 use Rattle.semantic_objects.specs.declared.entry.ValueEntry.{ValueEntry}
 use Rattle.semantic_objects.specs.Environments.{Env, Signature, modified_by}
@@ -16,7 +16,6 @@ use Rattle.signature_specs.specs.Specs.{env_so_far, signature_so_far, IsFrontOf}
 pub record Grows (old new : Graph) : Type 0 where
   pub keeps : Keeps old new
   pub home : new.home ≡ old.home
-  pub made : take (length old.made) new.made ≡ old.made
 
 -- what is specified is in scope: the scope is another environment modified by it
 abbrev pub IsUnder : {V : Type 0} → Graph → (V → ValueEntry) → Specified → Bindings V → Env → Type 0

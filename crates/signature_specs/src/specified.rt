@@ -45,7 +45,12 @@ impl Specified {
 }
 
 /// 40 at a name that is specified. The Definition of Standard ML (Revised), rules 77 and 79 to 84.
-pub fn check_new<T>(alloc: Global, g: &EnvGraph, rows: &NameTrail<T>, name: &Name) -> Result<(), Fault>
+pub fn check_new<T>(
+    alloc: Global,
+    g: &EnvGraph,
+    rows: &NameTrail<T>,
+    name: &Name,
+) -> Result<(), Fault>
     ensures { (inner : Scope) → inner.home ≡ g.now.home
         → Answers (refuses_where (is_some (last_entry rows.now name.now.text)) 40 inner (name_at name.now)) (λ u. tt)
         result }

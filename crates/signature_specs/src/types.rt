@@ -1,6 +1,6 @@
 //! `type` and `eqtype` specifications.
 
-ghost use Rattle.std.specs.Prelude.{◌≡◌, length, map, take, IfOk, OnOk, OnErr};
+ghost use Rattle.std.specs.Prelude.{◌≡◌, map, IfOk, OnOk, OnErr};
 ghost use Rattle.sml_modules.specs.Graphs.{new_name_of, with_name};
 ghost use Rattle.static_semantics.specs.Inferring.{Scope};
 ghost use Rattle.type_phrases.specs.Inferred.{Answers, KeepsTypes, progress};
@@ -46,7 +46,6 @@ fn elab_type(
     ensures keeps { KeepsTypes t.old t.new }
     ensures items { g.new.items ≡ g.old.items }
     ensures home { g.new.home ≡ g.old.home }
-    ensures made { take (length g.old.made) g.new.made ≡ g.old.made }
     ensures front { OnOk result (IsFrontOf made.old made.new) }
     ensures structures { OnOk result (made.new.structures ≡ made.old.structures) }
 {
@@ -78,7 +77,6 @@ pub fn elab_types(
     ensures keeps { KeepsTypes t.old t.new }
     ensures items { g.new.items ≡ g.old.items }
     ensures home { g.new.home ≡ g.old.home }
-    ensures made { take (length g.old.made) g.new.made ≡ g.old.made }
     ensures front { OnOk result (IsFrontOf made.old made.new) }
     ensures structures { OnOk result (made.new.structures ≡ made.old.structures) }
 {

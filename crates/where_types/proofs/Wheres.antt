@@ -1,5 +1,7 @@
 -- The steps of a signature with `where type`.
-use Rattle.std.proofs.Common.{◌≡◌, ℕ, refl, sym, ap, ap₂, ◌∙◌, subst, List, [], Option, Some, None}
+use Rattle.std.proofs.Common.{◌≡◌, ℕ, refl, sym, ap, ap₂, ◌∙◌, subst, List, [], ◌∷◌, Option, Some, None}
+use Rattle.std.specs.List.{join_with_byte}
+use Rattle.std.specs.Option.{option_map}
 use Rattle.std.specs.Prelude.{Result, Ok, Err, IsErrAnd}
 use Rattle.cm_base.specs.declared.diag.Diag.{Diag}
 use Rattle.cm_base.specs.declared.fault.Fault.{Fault}
@@ -8,15 +10,17 @@ use Rattle.sml_trees.specs.declared.name.Name.{Name}
 use Rattle.sml_trees.specs.declared.name.LongName.{LongName}
 use Rattle.semantic_objects.specs.declared.entry.TypeFn.{TypeFn}
 use Rattle.semantic_objects.specs.declared.entry.TypeStr.{TypeStr}
-use Rattle.semantic_objects.specs.Environments.{Signature, types}
+use Rattle.semantic_objects.specs.Environments.{Env, Signature, types}
+use Rattle.sml_modules.specs.Items.{function_of}
+use Rattle.sml_modules.specs.Graphs.{Graph}
 use Rattle.name_trails.specs.Trails.{Rows}
 use Rattle.unification.specs.Types.{Ty}
 use Rattle.bare_phrases.specs.Phrases.{TyPhrase}
-use Rattle.static_semantics.specs.Inferring.{Progress, Scope, with_written_alone, Answer, ◌>>=◌, gives, known, found_at}
+use Rattle.static_semantics.specs.Inferring.{Progress, Scope, with_written_alone, Answer, ◌>>=◌, gives, long_at, known, found_at}
 use Rattle.static_semantics.specs.TypeInference.{infer_ty, listed, numbers, as_written, type_function}
 use Rattle.module_semantics.specs.SignatureInference.{where_type}
-use Rattle.type_phrases.specs.Inferred.{Answers}
-use Rattle.type_phrases.proofs.Steps.{failed}
+use Rattle.type_phrases.specs.Inferred.{Answers, Refuses}
+use Rattle.type_phrases.proofs.Steps.{failed, refused}
 use Rattle.type_phrases.proofs.PartsRead.{passed_on}
 use Rattle.type_declarations.specs.Binding.{infer_function}
 use Rattle.where_types.specs.Where.{infer_where, known_function}
@@ -30,6 +34,41 @@ in_steps (Some (Ok x)) f h = refl
 by_function : {C : Type 0} (sc : Scope) (long : LongName) (found : Option TypeStr) (h : TypeFn → Answer C)
     → (known sc long found >>= λ str. h str.function) ≡ (known_function sc long found >>= h)
 by_function sc long found h = in_steps (known sc long found) (λ (str : TypeStr). str.function) h
+
+-- ---- a type that is looked up
+
+as_found : (inner : Scope) (long : LongName) (found : Option TypeStr) (function : TypeFn)
+    → Some function ≡ option_map function_of found → known_function inner long found ≡ gives function
+as_found inner long None function h = absurd (cc)
+as_found inner long (Some str) function h =
+    let k : function ≡ str.function = cc in ap (λ (f : TypeFn). gives f) (sym k)
+
+as_missing : {S : Type 0} (g : Graph) (inner : Scope) (long : LongName) (found : Option TypeStr) (s : S → TypeFn)
+    (e : Fault) → None ≡ option_map function_of found → inner.home ≡ g.home
+    → Refuses g 30 (long_at long) (join_with_byte 46 long.parts ∷ []) e
+    → Answers (known_function inner long found) s (Err e)
+as_missing g inner long None s e h home k =
+    failed (known inner long None) (λ (str : TypeStr). gives str.function) (λ (x : TypeStr). x) s e
+    (refused g inner 30 (long_at long) (join_with_byte 46 long.parts ∷ []) (λ (x : TypeStr). x) e home k)
+as_missing g inner long (Some str) s e h home k = absurd (cc)
+
+pub function_found : (inner : Scope) (long : LongName) (env other : Env) (parts : List (List ℕ)) (function : TypeFn)
+    → Some function ≡ option_map function_of (found_at types parts other) → parts ≡ long.parts → other ≡ env
+    → known_function inner long (found_at types long.parts env) ≡ gives function
+function_found inner long env other parts function h e f =
+    as_found inner long (found_at types long.parts env) function
+    (h ∙ ap₂ (λ ps d. option_map function_of (found_at types ps d)) e f)
+
+pub function_missing : {S : Type 0} (g : Graph) (inner : Scope) (long : LongName) (env other : Env)
+    (parts : List (List ℕ)) (s : S → TypeFn) (e : Fault) → None ≡ option_map function_of (found_at types parts other)
+    → parts ≡ long.parts → other ≡ env → inner.home ≡ g.home
+    → Refuses g 30 (long_at long) (join_with_byte 46 long.parts ∷ []) e
+    → Answers (known_function inner long (found_at types long.parts env)) s (Err e)
+function_missing g inner long env other parts s e h d f home k =
+    as_missing g inner long (found_at types long.parts env) s e
+    (h ∙ ap₂ (λ ps z. option_map function_of (found_at types ps z)) d f) home k
+
+-- ---- all steps
 
 module _ (sc : Scope) (tyvars : List Name) (long : LongName) (ty : TyPhrase) (at : At) (sig : Signature)
     (st : Progress) where
