@@ -1,5 +1,5 @@
 -- The checks of a `where type`, one after another.
-use Rattle.std.proofs.Common.{◌≡◌, ◌≢◌, ℕ, refl, sym, ap, ◌∙◌, subst, List, [], ◌∷◌, Option, Some, None, Bool, true, false, ◌||◌, not, cond, eqb}
+use Rattle.std.proofs.Common.{◌≡◌, ◌≢◌, ℕ, refl, sym, ap, ◌∙◌, subst, List, [], ◌∷◌, Option, Some, None, Bool, true, false, ◌&&◌, ◌||◌, not, cond, eqb}
 use Rattle.std.proofs.lemmas.Bool.{eq-eqb, ne_eqb}
 use Rattle.std.specs.Prelude.{Result, Err, IsErrAnd}
 use Rattle.std.specs.List.{join_with_byte}
@@ -10,6 +10,7 @@ use Rattle.semantic_objects.specs.declared.name.TyName.{TyName}
 use Rattle.semantic_objects.specs.declared.entry.TypeFn.{TypeFn}
 use Rattle.semantic_objects.specs.Environments.{Signature}
 use Rattle.realisation.specs.Names.{is_listed}
+use Rattle.realisation.specs.Realised.{function_admits}
 use Rattle.sml_modules.specs.Graphs.{Graph}
 use Rattle.static_semantics.specs.Inferring.{Scope, Answer, ◌>>=◌, gives, refuses_where}
 use Rattle.module_semantics.specs.SignatureNames.{name_alone}
@@ -104,16 +105,18 @@ module _ (inner : Scope) (at : At) (long : LongName) (old by : TypeFn) (sig : Si
         subst (λ (w : Answer Signature). Answers w s q)
         (sym (rest_is ∙ ap (λ (m : Answer (Unit {0})). m >>= λ v. replaced inner at long by sig name) e)) h
 
--- ---- a name among others
+-- ---- single checks, as their functions need them
 
-pub listed_first : (name other : TyName) (left rest : List TyName) (b all : Bool) → left ≡ other ∷ rest
-    → is_listed name left ≡ all → is_listed name (other ∷ []) ≡ b → b ≡ true → all ≡ true
-listed_first name other left rest b all e h k t =
-    sym h ∙ ap (is_listed name) e ∙ first (is_listed name (other ∷ [])) (k ∙ t)
-  where
-    open_or : (x y : Bool) → (x || false) ≡ true → (x || y) ≡ true
-    open_or true y h = refl
-    open_or false y h = absurd (cc)
+pub arity_fits : (inner : Scope) (at : At) (a b : ℕ) → a ≡ b → refuses_where (not (eqb a b)) 35 inner at ≡ gives tt
+arity_fits inner at a b h = passes inner 35 at (not (eqb a b)) (same_arity a b h)
 
-    first : (x : Bool) → is_listed name (other ∷ []) ≡ true → is_listed name (other ∷ rest) ≡ true
-    first x h = open_or _ (is_listed name rest) h
+pub arity_differs : (g : Graph) (inner : Scope) (at : At) (a b : ℕ) (e : Fault) → a ≢ b → Refuses g 35 at [] e
+    → inner.home ≡ g.home → Answers {R = Unit {0}} (refuses_where (not (eqb a b)) 35 inner at) (λ u. tt) (Err e)
+arity_differs g inner at a b e h k home = fails g inner 35 at (not (eqb a b)) e home (other_arity a b h) k
+
+pub lacks_none : (by : TypeFn) → false ≡ lacks_equality None by
+lacks_none by = refl
+
+pub lacks_some : (name : TyName) (by : TypeFn) (admits : Bool) → admits ≡ function_admits (λ n. false) by
+    → (name.eq && not admits) ≡ lacks_equality (Some name) by
+lacks_some name by admits h = ap (λ b. name.eq && not b) h
