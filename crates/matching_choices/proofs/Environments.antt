@@ -99,7 +99,7 @@ respects_still s p name by closed h = record {
 
 -- ---- what a signature wants
 
-abbrev ClosedItem : Item → Type 0
+abbrev pub ClosedItem : Item → Type 0
 ClosedItem (Item.StructureItem path) = Unit {0}
 ClosedItem (Item.TypeItem path want) = Unit {0}
 ClosedItem (Item.ValueItem path want) = IsClosedScheme want.scheme
@@ -114,7 +114,7 @@ values_want path [] h = tt
 values_want path (row ∷ rows) h = (h.0, values_want path rows h.1)
 
 mutual
-  env_wants : (path : List (List ℕ)) (env : Env) → IsClosedEnv env → AllItems ClosedItem (items_under path env)
+  pub env_wants : (path : List (List ℕ)) (env : Env) → IsClosedEnv env → AllItems ClosedItem (items_under path env)
   env_wants path (Env.MakeEnv ss ts vs) h =
       items_after ClosedItem (structure_items path ss) (type_items path ts ++ value_items path vs)
       (structures_want path ss h.0)

@@ -280,7 +280,7 @@ under_rises top d h k = record {
 }
 
 mutual
-  module_rises : (depth : ℕ) (home : List ℕ) (top : Top) (str : ModulePhrase) (st : Progress) → RisingTop top
+  pub module_rises : (depth : ℕ) (home : List ℕ) (top : Top) (str : ModulePhrase) (st : Progress) → RisingTop top
       → Given Mod (infer_module depth home top str st)
   module_rises depth home top (ModulePhrase.Struct dec at) st h = dec_of depth home top dec st h
   module_rises depth home top (ModulePhrase.Named long at) st h =
@@ -313,7 +313,7 @@ mutual
       given_then Mod Mod (infer_module_dec depth home top dec st) _ (dec_of depth home top dec st h) (λ d k.
       module_rises depth home (top_under d.0 top) body d.1 (under_rises top d.0 h k))
 
-  dec_of : (depth : ℕ) (home : List ℕ) (top : Top) (dec : ModuleDec) (st : Progress) → RisingTop top
+  pub dec_of : (depth : ℕ) (home : List ℕ) (top : Top) (dec : ModuleDec) (st : Progress) → RisingTop top
       → Given Mod (infer_module_dec depth home top dec st)
   dec_of depth home top (ModuleDec.Core dec) st h = dec_rises depth (core_scope home top) dec st h.env
   dec_of depth home top (ModuleDec.Local hidden shown at) st h =
@@ -327,7 +327,7 @@ mutual
       (binds_of depth home top binds empty_env st h rising_nothing) (λ r l.
       given_where Mod (has_too_large r.1.types.stands r.0) 38 (core_scope home top) at _ l)
 
-  decs_of : (depth : ℕ) (home : List ℕ) (top : Top) (decs : ModuleDecs) (st : Progress) → RisingTop top
+  pub decs_of : (depth : ℕ) (home : List ℕ) (top : Top) (decs : ModuleDecs) (st : Progress) → RisingTop top
       → Given Mod (infer_module_decs depth home top decs st)
   decs_of depth home top ModuleDecs.EndOfDecs st h = rising_nothing
   decs_of depth home top (ModuleDecs.Dec dec rest) st h =
@@ -336,7 +336,7 @@ mutual
       (decs_of depth home (top_under d.0 top) rest d.1 (under_rises top d.0 h k))
       (λ r l. rising_modified d.0 r.0 k l))
 
-  binds_of : (depth : ℕ) (home : List ℕ) (top : Top) (binds : ModuleBinds) (made : Env) (st : Progress)
+  pub binds_of : (depth : ℕ) (home : List ℕ) (top : Top) (binds : ModuleBinds) (made : Env) (st : Progress)
       → RisingTop top → RisingEnv made → Given Mod (infer_module_binds depth home top binds made st)
   binds_of depth home top ModuleBinds.EndOfBinds made st h k = k
   binds_of depth home top (ModuleBinds.Bind name str rest) made st h k =

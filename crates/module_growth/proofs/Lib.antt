@@ -1,0 +1,4 @@
+pub mod Signatures
+pub mod Closed
+pub mod Modules
+pub mod Promised
