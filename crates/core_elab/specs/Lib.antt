@@ -1,4 +1,0 @@
-pub mod Rules
-pub mod Entered
-pub mod Moments
-pub mod Expressions
