@@ -90,11 +90,11 @@ pub fn elab_dec(g: &mut EnvGraph, t: &mut TypeTable, env: EnvId, dec: &Dec) -> R
     ensures home { g.new.home ≡ g.old.home }
 {
     let alloc = g.alloc();
-    let before = t.mark();
+    let begun = t.mark();
     match declare_in(alloc, g, t, env, dec) {
         Ok(id) => Ok(id),
         Err(fault) => {
-            t.undo(&before);
+            t.undo(&begun);
             Err(fault)
         }
     }

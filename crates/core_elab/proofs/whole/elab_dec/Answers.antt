@@ -13,7 +13,7 @@ use Rattle.core_elab.proofs.whole.elab_dec.Goals as goal
 
 pub undo-requires : goal.undo-requires
 undo-requires c =
-    subst (λ t. IsFrontOf t c.declare_in.new.t) (sym c.mark-before.ensures) c.in-Err.ensures.ids.front
+    subst (λ t. IsFrontOf t c.declare_in.new.t) (sym c.mark-begun.ensures) c.in-Err.ensures.ids.front
 
 pub returns-clause-infers : goal.returns-clause-infers
 returns-clause-infers c =
@@ -24,4 +24,4 @@ returns-clause-infers c =
     c.in-Err.fault c.in-Err.ensures.infers
 
 pub returns-clause-ids : goal.returns-clause-ids
-returns-clause-ids c = keeps_same c.args.t.now c.undo.new.self (c.undo.ensures ∙ c.mark-before.ensures)
+returns-clause-ids c = keeps_same c.args.t.now c.undo.new.self (c.undo.ensures ∙ c.mark-begun.ensures)
