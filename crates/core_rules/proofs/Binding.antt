@@ -29,7 +29,6 @@ use Rattle.core_rules.specs.Moments.{Moment, moment, scope_at, progress_at, IsCo
 use Rattle.core_rules.specs.Expressions.{IsExp}
 use Rattle.core_rules.proofs.Chains.{passes_table, passes_then, scope_kept, stops, goes_on, ruled, answers_stop, memory}
 use Rattle.closing_laws.proofs.Names.{pat_once, groups_more}
-use Rattle.value_closing.proofs.RecPats.{length_bound}
 use Rattle.core_rules.specs.Bindings.{infer_bind, read_binds, Nothing, BindsBehind, IsBind, AreBinds}
 
 -- ---- one binding and those behind it
@@ -96,6 +95,10 @@ pattern {m} {new} {before} {after} {r} p core h = record {
 }
 
 -- ---- one binding
+
+pub length_bound : (rows : Rows OwnVariable) → length (bound_of rows) ≡ length rows
+length_bound [] = refl
+length_bound (row ∷ rows) = ap (λ (n : ℕ). suc n) (length_bound rows)
 
 take_bound : (n : ℕ) (rows : Rows OwnVariable) → take n (bound_of rows) ≡ bound_of (take n rows)
 take_bound zero rows = refl

@@ -30,11 +30,10 @@ use Rattle.core_rules.proofs.Chains.{passes_table, passes_then, scope_kept, core
 use Rattle.closing_laws.specs.Variables.{val_end}
 use Rattle.value_closing.specs.Recursive.{AreRecPats}
 use Rattle.value_closing.proofs.Grouping.{bound_since}
-use Rattle.value_closing.proofs.RecPats.{length_bound}
 use Rattle.core_rules.specs.Bindings.{Nothing, AreBinds}
 use Rattle.core_rules.specs.RecBindings.{infer_rec_exps_by, read_progress, AreRecExps}
 use Rattle.core_rules.specs.Values.{AreRecsUnder, end_of, behind_pats, behind_binds, read_made, ValuesAlone, IsValUnder}
-use Rattle.core_rules.proofs.Binding.{Row}
+use Rattle.core_rules.proofs.Binding.{Row, length_bound}
 use Rattle.core_rules.proofs.RecBinding.{by_types}
 
 -- ---- under the variables of patterns
