@@ -71,11 +71,11 @@ dec_whole {g} {t} {sc} {new} {r} env p e f h =
     subst (λ inner. Answers (infer_dec depth inner p (progress t g)) (read_made new) r)
     (scope_outermost g env sc e f) h.elabs.infers
 
-pub dec_refused : {g h : Graph} {t u : Table} {sc : Bindings OwnVariable} {new : Moment} {d : Fault} (env : EnvId)
-    (p : DecPhrase) → seen g own_entry sc ≡ env_at g env → written_of sc ≡ []
+pub dec_refused : {g : Graph} {t : Table} {sc : Bindings OwnVariable} {new : Moment} {d : Fault} (h : Graph) (u : Table)
+    (env : EnvId) (p : DecPhrase) → seen g own_entry sc ≡ env_at g env → written_of sc ≡ []
     → IsDeclared (moment g t sc) p new (Err d)
     → Answers (wanted g t env p) (λ (id : EnvId). (env_at h id, progress u h)) (Err d)
-dec_refused {g} {h} {t} {u} {sc} {new} {d} env p e f k =
+dec_refused {g} {t} {sc} {new} {d} h u env p e f k =
     still_refused (wanted g t env p) (read_made new) (λ (id : EnvId). (env_at h id, progress u h)) d
     (dec_whole env p e f k)
 

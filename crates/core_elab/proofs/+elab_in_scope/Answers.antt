@@ -13,7 +13,7 @@ use Rattle.core_rules.proofs.Readying.{later, table_later, entered, behind, own_
 use Rattle.core_rules.proofs.Declaring.{as_dec, dec_passed, dec_memory, val_declared, local_first, local_second, local_done, shown_done, body_done, let_first, let_second, let_numbered}
 use Rattle.core_rules.specs.Ready.{made_at}
 use Rattle.static_semantics.specs.Inferring.{under, under_bound}
-use Rattle.core_rules.proofs.RecBinding.{rec_first, rec_second, rec_done, rec_of, recs_next, recs_fail, has_first}
+use Rattle.core_rules.proofs.RecBinding.{rec_first, rec_second, rec_done, rec_of, recs_begin, recs_next, recs_fail, recs_stop, recs_end, has_first}
 use Rattle.core_rules.proofs.Under.{recs_under, binds_alone, val_first, val_second, val_memory, val_third, val_done, val_distinct, val_front}
 use Rattle.core_rules.proofs.WholeVal.{val_stops, val_whole, under_as}
 use Rattle.core_rules.specs.Bindings.{IsBind, AreBinds}
@@ -23,100 +23,100 @@ use Rattle.pattern_elab.proofs.Scoping.{core_later}
 use Rattle.pattern_elab.specs.Scopes.{scope_of, bound_of}
 use Rattle.sml_trees.specs.declared.exp.Dec.{Dec}
 use Rattle.sml_trees.specs.declared.exp.Rule.{out-Rule, Rule}
-use Rattle.std.proofs.Common.{rules, refl, sym, ap, ap₂, ◌∙◌, map, [], ◌∷◌, ◌++◌, List}
-use Rattle.type_nodes.specs.Tables.{state}
+use Rattle.std.proofs.Common.{rules, refl, sym, ap, ap₂, ◌∙◌, subst, map, [], ◌∷◌, ◌++◌, List}
+use Rattle.type_nodes.specs.Tables.{Table, IsFrontOf, state}
 use Rattle.sml_types.proofs.Frames.{drop_past}
 use Rattle.type_phrases.proofs.PartsRead.{drop_item}
 use Rattle.value_closing.specs.Groups.{groups_of}
 use Rattle.core_elab.proofs.+elab_in_scope.Goals as goal
 
-pub elab_in_scope-returns-in-Int : goal.elab_in_scope-returns-in-Int
-elab_in_scope-returns-in-Int t c =
+pub exp::elab_in_scope-returns-in-Int : goal.exp::elab_in_scope-returns-in-Int
+exp::elab_in_scope-returns-in-Int t c =
     as_phrase (ap exp_phrase c.in-Int.is ∙ exp_phrase-Int c.in-Int.field-0 c.in-Int.at)
     (plain (moment c.args.g.now c.args.t.now c.args.scope.now) c.elab_int.new.t
     (ExpPhrase.Int c.in-Int.field-0 c.in-Int.at) c.elab_int.result c.elab_int.ensures.infers c.elab_int.ensures.has
     c.elab_int.ensures.ids c.requires.core)
 
-pub elab_in_scope-returns-in-Str : goal.elab_in_scope-returns-in-Str
-elab_in_scope-returns-in-Str t c =
+pub exp::elab_in_scope-returns-in-Str : goal.exp::elab_in_scope-returns-in-Str
+exp::elab_in_scope-returns-in-Str t c =
     as_phrase (ap exp_phrase c.in-Str.is ∙ exp_phrase-Str c.in-Str.field-0 c.in-Str.at)
     (plain (moment c.args.g.now c.args.t.now c.args.scope.now) c.elab_string.new.t
     (ExpPhrase.Str c.in-Str.field-0 c.in-Str.at) c.elab_string.result c.elab_string.ensures.infers c.elab_string.ensures.has
     c.elab_string.ensures.ids c.requires.core)
 
-pub elab_in_scope-returns-in-Char : goal.elab_in_scope-returns-in-Char
-elab_in_scope-returns-in-Char t c =
+pub exp::elab_in_scope-returns-in-Char : goal.exp::elab_in_scope-returns-in-Char
+exp::elab_in_scope-returns-in-Char t c =
     as_phrase (ap exp_phrase c.in-Char.is ∙ exp_phrase-Char c.in-Char.field-0 c.in-Char.at)
     (plain (moment c.args.g.now c.args.t.now c.args.scope.now) c.elab_char.new.t
     (ExpPhrase.Char c.in-Char.field-0 c.in-Char.at) c.elab_char.result c.elab_char.ensures.infers c.elab_char.ensures.has
     c.elab_char.ensures.ids c.requires.core)
 
-pub elab_in_scope-returns-in-Long : goal.elab_in_scope-returns-in-Long
-elab_in_scope-returns-in-Long t c =
+pub exp::elab_in_scope-returns-in-Long : goal.exp::elab_in_scope-returns-in-Long
+exp::elab_in_scope-returns-in-Long t c =
     as_phrase (ap exp_phrase c.in-Long.is ∙ exp_phrase-Long c.in-Long.long c.in-Long.at)
     (plain (moment c.args.g.now c.args.t.now c.args.scope.now) c.elab_long.new.t
     (ExpPhrase.Long c.in-Long.long c.in-Long.at) c.elab_long.result c.elab_long.ensures.infers c.elab_long.ensures.has
     c.elab_long.ensures.ids c.requires.core)
 
-pub elab_field-returns-in_err-check_label : goal.elab_field-returns-in_err-check_label
-elab_field-returns-in_err-check_label t c =
+pub exp::elab_field-returns-in_err-check_label : goal.exp::elab_field-returns-in_err-check_label
+exp::elab_field-returns-in_err-check_label t c =
     passed c.from_residual.result c.in_err-check_label.field-0.0 c.from_residual.ensures.1
     (field_first {m0 = (moment c.args.g.now c.args.t.now c.args.scope.now)} c.args.field.now c.args.rows.now c.requires.scope.core
     (c.in_err-check_label.ensures.check c.args.t.now (scope_of c.args.g.now c.args.scope.now) refl))
 
-pub elab_field-returns-in_err-id : goal.elab_field-returns-in_err-id
-elab_field-returns-in_err-id t c =
+pub exp::elab_field-returns-in_err-id : goal.exp::elab_field-returns-in_err-id
+exp::elab_field-returns-in_err-id t c =
     passed c.from_residual-in_err-id.result c.in_err-id.field-0.0 c.from_residual-in_err-id.ensures.1
     (field_second c.args.field.now c.args.rows.now c.requires.scope.core
     (c.in_ok-check_label.ensures.check c.args.t.now (scope_of c.args.g.now c.args.scope.now) refl)
     c.in_err-id.ensures)
 
-pub elab_field-returns : goal.elab_field-returns
-elab_field-returns t c =
+pub exp::elab_field-returns : goal.exp::elab_field-returns
+exp::elab_field-returns t c =
     field_done c.args.field.now c.args.rows.now c.bind.new.self c.requires.scope.core
     (c.in_ok-check_label.ensures.check c.args.t.now (scope_of c.args.g.now c.args.scope.now) refl)
     c.in_ok-check_label.ensures.free c.requires.rows c.in_ok-id.ensures
     (c.in_ok-bind.ensures.ok ∙ ap (λ n. c.args.rows.now ++ (n, c.in_ok-id.id) ∷ []) c.in_ok-copy.ensures)
 
-pub elab_fields-loop-field-init : goal.elab_fields-loop-field-init
-elab_fields-loop-field-init t c =
+pub exp::elab_fields-loop-field-init : goal.exp::elab_fields-loop-field-init
+exp::elab_fields-loop-field-init t c =
     fields_begin (moment c.args.g.now c.args.t.now c.args.scope.now) c.args.fields.now c.new-rows.result c.requires.core
     c.new-rows.ensures
 
-pub elab_fields-loop-field-preserved : goal.elab_fields-loop-field-preserved
-elab_fields-loop-field-preserved t c =
+pub exp::elab_fields-loop-field-preserved : goal.exp::elab_fields-loop-field-preserved
+exp::elab_fields-loop-field-preserved t c =
     fields_next c.elab_field.new.rows c.loop-field.invariant c.loop-field-test.true c.field-item.is
     c.in_ok-elab_field.ensures
 
-pub elab_fields-returns-in_err-elab_field : goal.elab_fields-returns-in_err-elab_field
-elab_fields-returns-in_err-elab_field t c =
+pub exp::elab_fields-returns-in_err-elab_field : goal.exp::elab_fields-returns-in_err-elab_field
+exp::elab_fields-returns-in_err-elab_field t c =
     passed c.from_residual.result c.in_err-elab_field.field-0.0 c.from_residual.ensures.1
     (fields_fail c.elab_field.new.rows c.loop-field.invariant c.loop-field-test.true c.field-item.is
     c.in_err-elab_field.ensures)
 
-pub elab_fields-returns : goal.elab_fields-returns
-elab_fields-returns t c =
+pub exp::elab_fields-returns : goal.exp::elab_fields-returns
+exp::elab_fields-returns t c =
     fields_end c.loop-field.invariant c.loop-field-test.false
 
-pub elab_match-loop-rule-init : goal.elab_match-loop-rule-init
-elab_match-loop-rule-init t c =
+pub exp::elab_match-loop-rule-init : goal.exp::elab_match-loop-rule-init
+exp::elab_match-loop-rule-init t c =
     match_begin (moment c.args.g.now c.args.t.now c.args.scope.now) c.args.rules.now c.requires.core
 
-pub elab_match-loop-rule-preserved : goal.elab_match-loop-rule-preserved
-elab_match-loop-rule-preserved t c =
+pub exp::elab_match-loop-rule-preserved : goal.exp::elab_match-loop-rule-preserved
+exp::elab_match-loop-rule-preserved t c =
     match_next c.loop-rule.invariant c.loop-rule-test.true c.rule-item.is c.in_ok-elab_rule.ensures
 
-pub elab_match-returns-in_err-elab_rule : goal.elab_match-returns-in_err-elab_rule
-elab_match-returns-in_err-elab_rule t c =
+pub exp::elab_match-returns-in_err-elab_rule : goal.exp::elab_match-returns-in_err-elab_rule
+exp::elab_match-returns-in_err-elab_rule t c =
     passed c.from_residual.result c.in_err-elab_rule.field-0.0 c.from_residual.ensures.1
     (match_fails c.loop-rule.invariant c.loop-rule-test.true c.rule-item.is c.in_err-elab_rule.ensures)
 
-pub elab_match-returns : goal.elab_match-returns
-elab_match-returns t c =
+pub exp::elab_match-returns : goal.exp::elab_match-returns
+exp::elab_match-returns t c =
     match_ends c.loop-rule.invariant c.loop-rule-test.false (c.match_type.ensures c.loop-rule.g)
 
-pub elab_under-elab_in_scope-result-requires : goal.elab_under-elab_in_scope-result-requires
-elab_under-elab_in_scope-result-requires t c = (
+pub exp::elab_under-elab_in_scope-result-requires : goal.exp::elab_under-elab_in_scope-result-requires
+exp::elab_under-elab_in_scope-result-requires t c = (
   search rules,
   entered (moment c.args.g.now c.args.t.now c.args.scope.now)
       (moment c.args.g.now c.args.t.now c.enter_variables.new.scope)
@@ -126,58 +126,58 @@ elab_under-elab_in_scope-result-requires t c = (
       c.requires.state,
 )
 
-pub elab_in_scope-returns-in_err-function-in-App : goal.elab_in_scope-returns-in_err-function-in-App
-elab_in_scope-returns-in_err-function-in-App t c =
+pub exp::elab_in_scope-returns-in_err-function-in-App : goal.exp::elab_in_scope-returns-in_err-function-in-App
+exp::elab_in_scope-returns-in_err-function-in-App t c =
     passed c.from_residual-in_err-function-in-App.result c.in_err-function-in-App.field-0.0 c.from_residual-in_err-function-in-App.ensures.1
     (as_phrase (ap exp_phrase c.in-App.is ∙ exp_phrase-App c.in-App.function c.in-App.argument c.in-App.at
     ∙ ap (λ p. ExpPhrase.App (exp_phrase p) (exp_phrase c.in-App.argument) c.in-App.at) (sym c.get.ensures))
     (app_first (exp_phrase c.get.result.now) (exp_phrase c.in-App.argument) c.in-App.at c.in_err-function-in-App.ensures))
 
-pub elab_in_scope-returns-in_err-argument-in-App : goal.elab_in_scope-returns-in_err-argument-in-App
-elab_in_scope-returns-in_err-argument-in-App t c =
+pub exp::elab_in_scope-returns-in_err-argument-in-App : goal.exp::elab_in_scope-returns-in_err-argument-in-App
+exp::elab_in_scope-returns-in_err-argument-in-App t c =
     passed c.from_residual-in_err-argument-in-App.result c.in_err-argument-in-App.field-0.0 c.from_residual-in_err-argument-in-App.ensures.1
     (as_phrase (ap exp_phrase c.in-App.is ∙ exp_phrase-App c.in-App.function c.in-App.argument c.in-App.at
     ∙ ap₂ (λ p q. ExpPhrase.App (exp_phrase p) (exp_phrase q) c.in-App.at) (sym c.get.ensures) (sym c.get-in-App.ensures))
     (app_second (exp_phrase c.get.result.now) (exp_phrase c.get-in-App.result.now) c.in-App.at c.requires.core
     c.in_ok-function-in-App.ensures c.in_err-argument-in-App.ensures))
 
-pub elab_in_scope-returns-in_ok-argument-in-App : goal.elab_in_scope-returns-in_ok-argument-in-App
-elab_in_scope-returns-in_ok-argument-in-App t c =
+pub exp::elab_in_scope-returns-in_ok-argument-in-App : goal.exp::elab_in_scope-returns-in_ok-argument-in-App
+exp::elab_in_scope-returns-in_ok-argument-in-App t c =
     as_phrase (ap exp_phrase c.in-App.is ∙ exp_phrase-App c.in-App.function c.in-App.argument c.in-App.at
     ∙ ap₂ (λ p q. ExpPhrase.App (exp_phrase p) (exp_phrase q) c.in-App.at) (sym c.get.ensures) (sym c.get-in-App.ensures))
     (app_done (exp_phrase c.get.result.now) (exp_phrase c.get-in-App.result.now) c.in-App.at c.requires.core
     c.in_ok-function-in-App.ensures c.in_ok-argument-in-App.ensures c.apply.ensures)
 
-pub elab_in_scope-returns-in_err-rows-in-Record : goal.elab_in_scope-returns-in_err-rows-in-Record
-elab_in_scope-returns-in_err-rows-in-Record t c =
+pub exp::elab_in_scope-returns-in_err-rows-in-Record : goal.exp::elab_in_scope-returns-in_err-rows-in-Record
+exp::elab_in_scope-returns-in_err-rows-in-Record t c =
     passed c.from_residual.result c.in_err-rows-in-Record.field-0.0 c.from_residual.ensures.1
     (as_phrase (ap exp_phrase c.in-Record.is ∙ exp_phrase-Record c.in-Record.fields c.in-Record.at
     ∙ ap (λ fields. ExpPhrase.Record (exp_fields (map exp_field_phrase fields)) c.in-Record.at) (sym c.as_slice.ensures))
     (record_first (exp_fields (map exp_field_phrase c.as_slice.result.now)) c.in-Record.at c.in_err-rows-in-Record.ensures))
 
-pub elab_in_scope-returns-in_ok-rows-in-Record : goal.elab_in_scope-returns-in_ok-rows-in-Record
-elab_in_scope-returns-in_ok-rows-in-Record t c =
+pub exp::elab_in_scope-returns-in_ok-rows-in-Record : goal.exp::elab_in_scope-returns-in_ok-rows-in-Record
+exp::elab_in_scope-returns-in_ok-rows-in-Record t c =
     as_phrase (ap exp_phrase c.in-Record.is ∙ exp_phrase-Record c.in-Record.fields c.in-Record.at
     ∙ ap (λ fields. ExpPhrase.Record (exp_fields (map exp_field_phrase fields)) c.in-Record.at) (sym c.as_slice.ensures))
     (record_done (exp_fields (map exp_field_phrase c.as_slice.result.now)) c.in-Record.at c.requires.core c.in_ok-rows-in-Record.ensures
     c.make_record.ensures)
 
-pub elab_in_scope-returns-in_err-id-in-Typed : goal.elab_in_scope-returns-in_err-id-in-Typed
-elab_in_scope-returns-in_err-id-in-Typed t c =
+pub exp::elab_in_scope-returns-in_err-id-in-Typed : goal.exp::elab_in_scope-returns-in_err-id-in-Typed
+exp::elab_in_scope-returns-in_err-id-in-Typed t c =
     passed c.from_residual-in_err-id-in-Typed.result c.in_err-id-in-Typed.field-0.0 c.from_residual-in_err-id-in-Typed.ensures.1
     (as_phrase (ap exp_phrase c.in-Typed.is ∙ exp_phrase-Typed c.in-Typed.inner c.in-Typed.ty c.in-Typed.at
     ∙ ap (λ p. ExpPhrase.Typed (exp_phrase p) (ty_phrase c.in-Typed.ty) c.in-Typed.at) (sym c.get-in-Typed.ensures))
     (typed_first (exp_phrase c.get-in-Typed.result.now) (ty_phrase c.in-Typed.ty) c.in-Typed.at c.in_err-id-in-Typed.ensures))
 
-pub elab_in_scope-returns-in_ok-id-in-Typed : goal.elab_in_scope-returns-in_ok-id-in-Typed
-elab_in_scope-returns-in_ok-id-in-Typed t c =
+pub exp::elab_in_scope-returns-in_ok-id-in-Typed : goal.exp::elab_in_scope-returns-in_ok-id-in-Typed
+exp::elab_in_scope-returns-in_ok-id-in-Typed t c =
     as_phrase (ap exp_phrase c.in-Typed.is ∙ exp_phrase-Typed c.in-Typed.inner c.in-Typed.ty c.in-Typed.at
     ∙ ap (λ p. ExpPhrase.Typed (exp_phrase p) (ty_phrase c.in-Typed.ty) c.in-Typed.at) (sym c.get-in-Typed.ensures))
     (typed_done (exp_phrase c.get-in-Typed.result.now) (ty_phrase c.in-Typed.ty) c.in-Typed.at c.requires.core
     c.in_ok-id-in-Typed.ensures c.constrain.ensures)
 
-pub elab_in_scope-returns-in_err-id-in-Handle : goal.elab_in_scope-returns-in_err-id-in-Handle
-elab_in_scope-returns-in_err-id-in-Handle t c =
+pub exp::elab_in_scope-returns-in_err-id-in-Handle : goal.exp::elab_in_scope-returns-in_err-id-in-Handle
+exp::elab_in_scope-returns-in_err-id-in-Handle t c =
     passed c.from_residual-in_err-id-in-Handle.result c.in_err-id-in-Handle.field-0.0 c.from_residual-in_err-id-in-Handle.ensures.1
     (as_phrase (ap exp_phrase c.in-Handle.is ∙ exp_phrase-Handle c.in-Handle.inner c.in-Handle.rules c.in-Handle.at
     ∙ ap (λ p. ExpPhrase.Handle (exp_phrase p) (rules_of (map rule_phrase c.in-Handle.rules)) c.in-Handle.at)
@@ -185,8 +185,8 @@ elab_in_scope-returns-in_err-id-in-Handle t c =
     (handle_first (exp_phrase c.get-in-Handle.result.now) (rules_of (map rule_phrase c.in-Handle.rules)) c.in-Handle.at
     c.in_err-id-in-Handle.ensures))
 
-pub elab_in_scope-returns-in_err-handler-in-Handle : goal.elab_in_scope-returns-in_err-handler-in-Handle
-elab_in_scope-returns-in_err-handler-in-Handle t c =
+pub exp::elab_in_scope-returns-in_err-handler-in-Handle : goal.exp::elab_in_scope-returns-in_err-handler-in-Handle
+exp::elab_in_scope-returns-in_err-handler-in-Handle t c =
     passed c.from_residual-in_err-handler-in-Handle.result c.in_err-handler-in-Handle.field-0.0 c.from_residual-in_err-handler-in-Handle.ensures.1
     (as_phrase (ap exp_phrase c.in-Handle.is ∙ exp_phrase-Handle c.in-Handle.inner c.in-Handle.rules c.in-Handle.at
     ∙ ap₂ (λ p rules. ExpPhrase.Handle (exp_phrase p) (rules_of (map rule_phrase rules)) c.in-Handle.at)
@@ -194,73 +194,73 @@ elab_in_scope-returns-in_err-handler-in-Handle t c =
     (handle_second (exp_phrase c.get-in-Handle.result.now) (rules_of (map rule_phrase c.as_slice-in-Handle.result.now)) c.in-Handle.at
     c.requires.core c.in_ok-id-in-Handle.ensures c.in_err-handler-in-Handle.ensures))
 
-pub elab_in_scope-returns-in_ok-handler-in-Handle : goal.elab_in_scope-returns-in_ok-handler-in-Handle
-elab_in_scope-returns-in_ok-handler-in-Handle t c =
+pub exp::elab_in_scope-returns-in_ok-handler-in-Handle : goal.exp::elab_in_scope-returns-in_ok-handler-in-Handle
+exp::elab_in_scope-returns-in_ok-handler-in-Handle t c =
     as_phrase (ap exp_phrase c.in-Handle.is ∙ exp_phrase-Handle c.in-Handle.inner c.in-Handle.rules c.in-Handle.at
     ∙ ap₂ (λ p rules. ExpPhrase.Handle (exp_phrase p) (rules_of (map rule_phrase rules)) c.in-Handle.at)
     (sym c.get-in-Handle.ensures) (sym c.as_slice-in-Handle.ensures))
     (handle_done (exp_phrase c.get-in-Handle.result.now) (rules_of (map rule_phrase c.as_slice-in-Handle.result.now)) c.in-Handle.at
     c.requires.core c.in_ok-id-in-Handle.ensures c.in_ok-handler-in-Handle.ensures c.handle.ensures)
 
-pub elab_in_scope-returns-in_err-id-in-Raise : goal.elab_in_scope-returns-in_err-id-in-Raise
-elab_in_scope-returns-in_err-id-in-Raise t c =
+pub exp::elab_in_scope-returns-in_err-id-in-Raise : goal.exp::elab_in_scope-returns-in_err-id-in-Raise
+exp::elab_in_scope-returns-in_err-id-in-Raise t c =
     passed c.from_residual-in_err-id-in-Raise.result c.in_err-id-in-Raise.field-0.0 c.from_residual-in_err-id-in-Raise.ensures.1
     (as_phrase (ap exp_phrase c.in-Raise.is ∙ exp_phrase-Raise c.in-Raise.inner c.in-Raise.at
     ∙ ap (λ p. ExpPhrase.Raise (exp_phrase p) c.in-Raise.at) (sym c.get-in-Raise.ensures))
     (raise_first (exp_phrase c.get-in-Raise.result.now) c.in-Raise.at c.in_err-id-in-Raise.ensures))
 
-pub elab_in_scope-returns-in_ok-id-in-Raise : goal.elab_in_scope-returns-in_ok-id-in-Raise
-elab_in_scope-returns-in_ok-id-in-Raise t c =
+pub exp::elab_in_scope-returns-in_ok-id-in-Raise : goal.exp::elab_in_scope-returns-in_ok-id-in-Raise
+exp::elab_in_scope-returns-in_ok-id-in-Raise t c =
     as_phrase (ap exp_phrase c.in-Raise.is ∙ exp_phrase-Raise c.in-Raise.inner c.in-Raise.at
     ∙ ap (λ p. ExpPhrase.Raise (exp_phrase p) c.in-Raise.at) (sym c.get-in-Raise.ensures))
     (raise_done (exp_phrase c.get-in-Raise.result.now) c.in-Raise.at c.requires.core c.in_ok-id-in-Raise.ensures
     c.raise.ensures)
 
-pub elab_in_scope-returns-in_err-id-in-Fn : goal.elab_in_scope-returns-in_err-id-in-Fn
-elab_in_scope-returns-in_err-id-in-Fn t c =
+pub exp::elab_in_scope-returns-in_err-id-in-Fn : goal.exp::elab_in_scope-returns-in_err-id-in-Fn
+exp::elab_in_scope-returns-in_err-id-in-Fn t c =
     passed c.from_residual-in_err-id-in-Fn.result c.in_err-id-in-Fn.field-0.0 c.from_residual-in_err-id-in-Fn.ensures.1
     (as_phrase (ap exp_phrase c.in-Fn.is ∙ exp_phrase-Fn c.in-Fn.rules c.in-Fn.at
     ∙ ap (λ rules. ExpPhrase.Fn (rules_of (map rule_phrase rules)) c.in-Fn.at) (sym c.as_slice-in-Fn.ensures))
     (fn_first (rules_of (map rule_phrase c.as_slice-in-Fn.result.now)) c.in-Fn.at c.in_err-id-in-Fn.ensures))
 
-pub elab_in_scope-returns-in_ok-id-in-Fn : goal.elab_in_scope-returns-in_ok-id-in-Fn
-elab_in_scope-returns-in_ok-id-in-Fn t c =
+pub exp::elab_in_scope-returns-in_ok-id-in-Fn : goal.exp::elab_in_scope-returns-in_ok-id-in-Fn
+exp::elab_in_scope-returns-in_ok-id-in-Fn t c =
     as_phrase (ap exp_phrase c.in-Fn.is ∙ exp_phrase-Fn c.in-Fn.rules c.in-Fn.at
     ∙ ap (λ rules. ExpPhrase.Fn (rules_of (map rule_phrase rules)) c.in-Fn.at) (sym c.as_slice-in-Fn.ensures))
     (fn_done (rules_of (map rule_phrase c.as_slice-in-Fn.result.now)) c.in-Fn.at c.requires.core c.in_ok-id-in-Fn.ensures
     c.sized.ensures.answer c.sized.ensures.same)
 
-pub elab_rule-returns-in_err-from : goal.elab_rule-returns-in_err-from
-elab_rule-returns-in_err-from t c =
+pub exp::elab_rule-returns-in_err-from : goal.exp::elab_rule-returns-in_err-from
+exp::elab_rule-returns-in_err-from t c =
     passed c.from_residual.result c.in_err-from.field-0.0 c.from_residual.ensures.1
     (rule_first c.args.first c.args.rule.now c.in_err-from.ensures.pattern)
 
-pub elab_rule-returns-in_err-exp : goal.elab_rule-returns-in_err-exp
-elab_rule-returns-in_err-exp t c =
+pub exp::elab_rule-returns-in_err-exp : goal.exp::elab_rule-returns-in_err-exp
+exp::elab_rule-returns-in_err-exp t c =
     passed c.from_residual-in_err-exp.result c.in_err-exp.field-0.0 c.from_residual-in_err-exp.ensures.1
     (rule_second c.args.first c.args.rule.now c.requires.scope.core c.in_ok-from.ensures.pattern c.in_err-exp.ensures)
 
-pub elab_rule-returns-in_err-to : goal.elab_rule-returns-in_err-to
-elab_rule-returns-in_err-to t c =
+pub exp::elab_rule-returns-in_err-to : goal.exp::elab_rule-returns-in_err-to
+exp::elab_rule-returns-in_err-to t c =
     passed c.from_residual-in_err-to.result c.in_err-to.field-0.0 c.from_residual-in_err-to.ensures.1
     (rule_third c.args.first c.args.rule.now c.requires.scope.core c.in_ok-from.ensures.pattern c.in_ok-exp.ensures
     c.requires.first c.place_of_exp.ensures c.to_of.ensures c.in_err-to.ensures)
 
-pub elab_rule-returns : goal.elab_rule-returns
-elab_rule-returns t c =
+pub exp::elab_rule-returns : goal.exp::elab_rule-returns
+exp::elab_rule-returns t c =
     rule_done c.args.first c.args.rule.now c.requires.scope.core c.in_ok-from.ensures.pattern c.in_ok-exp.ensures
     c.requires.first c.place_of_exp.ensures c.to_of.ensures c.in_ok-to.ensures
 
-pub elab_under-returns : goal.elab_under-returns
-elab_under-returns t c =
+pub exp::elab_under-returns : goal.exp::elab_under-returns
+exp::elab_under-returns t c =
     under_done c.args.bound.now (exp_phrase c.args.exp.now) c.requires.core
     (c.in_ok-enter_variables.ensures.ok c.args.g.now) c.elab_in_scope-result.ensures
     (c.leave.ensures c.args.scope.now c.mark-before.ensures.is
     (front_same c.args.scope.now c.enter_variables.new.scope c.elab_in_scope-result.new.scope
     (c.in_ok-enter_variables.ensures.ok c.args.g.now).front c.elab_in_scope-result.ensures.left))
 
-pub elab_bind-returns-in_err-pat : goal.elab_bind-returns-in_err-pat
-elab_bind-returns-in_err-pat t c =
+pub binds::elab_bind-returns-in_err-pat : goal.binds::elab_bind-returns-in_err-pat
+binds::elab_bind-returns-in_err-pat t c =
     passed_on (IsBind (moment c.args.g.now c.args.t.now c.args.scope.now) (rule_phrase c.args.rule.now)
     c.args.bound.now c.elab_pat.new.bound (groups_of c.args.groups.now) (groups_of c.args.groups.now)
     (moment c.args.g.now c.elab_pat.new.t c.args.scope.now)) c.from_residual.result c.in_err-pat.field-0.0
@@ -270,15 +270,15 @@ elab_bind-returns-in_err-pat t c =
     (pat_phrase (out-Rule c.args.rule.now).pat, exp_phrase (out-Rule c.args.rule.now).exp)
     (groups_of c.args.groups.now) c.requires.core c.in_err-pat.ensures))
 
-pub elab_bind-elab_in_scope-requires : goal.elab_bind-elab_in_scope-requires
-elab_bind-elab_in_scope-requires t c = (
+pub binds::elab_bind-elab_in_scope-requires : goal.binds::elab_bind-elab_in_scope-requires
+binds::elab_bind-elab_in_scope-requires t c = (
   search rules,
   table_later c.args.g.now c.args.t.now c.elab_pat.new.t c.args.scope.now c.requires c.is_kept.ensures
       c.in_ok-pat.ensures.goes.ids,
 )
 
-pub elab_bind-returns-in_err-exp : goal.elab_bind-returns-in_err-exp
-elab_bind-returns-in_err-exp t c =
+pub binds::elab_bind-returns-in_err-exp : goal.binds::elab_bind-returns-in_err-exp
+binds::elab_bind-returns-in_err-exp t c =
     passed_on (IsBind (moment c.args.g.now c.args.t.now c.args.scope.now) (rule_phrase c.args.rule.now)
     c.args.bound.now c.elab_pat.new.bound (groups_of c.args.groups.now) (groups_of c.args.groups.now)
     (moment c.elab_in_scope.new.g c.elab_in_scope.new.t c.elab_in_scope.new.scope)) c.from_residual-in_err-exp.result
@@ -288,8 +288,8 @@ elab_bind-returns-in_err-exp t c =
     (pat_phrase (out-Rule c.args.rule.now).pat, exp_phrase (out-Rule c.args.rule.now).exp)
     (groups_of c.args.groups.now) c.requires.core c.in_ok-pat.ensures c.in_err-exp.ensures))
 
-pub elab_bind-returns-in_err-joined : goal.elab_bind-returns-in_err-joined
-elab_bind-returns-in_err-joined t c =
+pub binds::elab_bind-returns-in_err-joined : goal.binds::elab_bind-returns-in_err-joined
+binds::elab_bind-returns-in_err-joined t c =
     passed_on (IsBind (moment c.args.g.now c.args.t.now c.args.scope.now) (rule_phrase c.args.rule.now)
     c.args.bound.now c.elab_pat.new.bound (groups_of c.args.groups.now) (groups_of c.args.groups.now)
     (moment c.elab_in_scope.new.g c.joined.new.t c.elab_in_scope.new.scope)) c.from_residual-in_err-joined.result
@@ -300,8 +300,8 @@ elab_bind-returns-in_err-joined t c =
     (groups_of c.args.groups.now) c.requires.core c.in_ok-pat.ensures c.in_ok-exp.ensures c.place_of_pat.ensures
     c.in_err-joined.ensures))
 
-pub elab_bind-returns-in_err-add_binding : goal.elab_bind-returns-in_err-add_binding
-elab_bind-returns-in_err-add_binding t c =
+pub binds::elab_bind-returns-in_err-add_binding : goal.binds::elab_bind-returns-in_err-add_binding
+binds::elab_bind-returns-in_err-add_binding t c =
     passed_on (IsBind (moment c.args.g.now c.args.t.now c.args.scope.now) (rule_phrase c.args.rule.now)
     c.args.bound.now c.elab_pat.new.bound (groups_of c.args.groups.now) (groups_of c.add_binding.new.groups)
     (moment c.elab_in_scope.new.g c.joined.new.t c.elab_in_scope.new.scope))
@@ -312,23 +312,23 @@ elab_bind-returns-in_err-add_binding t c =
     (groups_of c.args.groups.now) c.requires.core c.in_ok-pat.ensures c.in_ok-exp.ensures c.place_of_pat.ensures
     c.in_ok-joined.ensures))
 
-pub elab_bind-returns : goal.elab_bind-returns
-elab_bind-returns t c =
+pub binds::elab_bind-returns : goal.binds::elab_bind-returns
+binds::elab_bind-returns t c =
     bind_of (rule_phrase-kept c.args.rule.now)
     (bind_done {m0 = moment c.args.g.now c.args.t.now c.args.scope.now}
     (pat_phrase (out-Rule c.args.rule.now).pat, exp_phrase (out-Rule c.args.rule.now).exp)
     (groups_of c.args.groups.now) c.len-start.result c.requires.core c.in_ok-pat.ensures c.in_ok-exp.ensures
     c.place_of_pat.ensures c.in_ok-joined.ensures c.len-start.ensures c.in_ok-add_binding.ensures.ok)
 
-pub elab_binds-loop-rule-preserved : goal.elab_binds-loop-rule-preserved
-elab_binds-loop-rule-preserved t c =
+pub binds::elab_binds-loop-rule-preserved : goal.binds::elab_binds-loop-rule-preserved
+binds::elab_binds-loop-rule-preserved t c =
     binds_next c.loop-rule.invariant
     (ap (λ (rules : List Rule). map rule_phrase rules)
     (drop_item c.args.rules.now c.loop-rule.rule-index c.rule-item.result c.loop-rule-test.true c.rule-item.is))
     c.in_ok-elab_bind.ensures
 
-pub elab_binds-returns-in_err-elab_bind : goal.elab_binds-returns-in_err-elab_bind
-elab_binds-returns-in_err-elab_bind t c =
+pub binds::elab_binds-returns-in_err-elab_bind : goal.binds::elab_binds-returns-in_err-elab_bind
+binds::elab_binds-returns-in_err-elab_bind t c =
     passed_on (AreBinds (moment c.args.g.now c.args.t.now c.args.scope.now) (map rule_phrase c.args.rules.now)
     c.args.bound.now c.elab_bind.new.bound (groups_of c.args.groups.now) (groups_of c.elab_bind.new.groups)
     (moment c.elab_bind.new.g c.elab_bind.new.t c.elab_bind.new.scope)) c.from_residual.result
@@ -338,68 +338,56 @@ elab_binds-returns-in_err-elab_bind t c =
     (drop_item c.args.rules.now c.loop-rule.rule-index c.rule-item.result c.loop-rule-test.true c.rule-item.is))
     c.in_err-elab_bind.ensures)
 
-pub elab_rec_exp-returns-in_err-exp : goal.elab_rec_exp-returns-in_err-exp
-elab_rec_exp-returns-in_err-exp t c =
+pub rec_exps::elab_rec_exp-returns-in_err-exp : goal.rec_exps::elab_rec_exp-returns-in_err-exp
+rec_exps::elab_rec_exp-returns-in_err-exp t c =
     passed c.from_residual.result c.in_err-exp.field-0.0 c.from_residual.ensures.1
     (rec_of c.args.ty (rule_phrase-kept c.args.rule.now)
     (rec_first (pat_phrase (out-Rule c.args.rule.now).pat, exp_phrase (out-Rule c.args.rule.now).exp) c.args.ty
     c.in_err-exp.ensures))
 
-pub elab_rec_exp-returns-in_err-joined : goal.elab_rec_exp-returns-in_err-joined
-elab_rec_exp-returns-in_err-joined t c =
+pub rec_exps::elab_rec_exp-returns-in_err-joined : goal.rec_exps::elab_rec_exp-returns-in_err-joined
+rec_exps::elab_rec_exp-returns-in_err-joined t c =
     passed c.from_residual-in_err-joined.result c.in_err-joined.field-0.0 c.from_residual-in_err-joined.ensures.1
     (rec_of c.args.ty (rule_phrase-kept c.args.rule.now)
     (rec_second (pat_phrase (out-Rule c.args.rule.now).pat, exp_phrase (out-Rule c.args.rule.now).exp) c.args.ty
     c.in_ok-exp.exp c.place_of_pat.result c.requires.scope.core c.requires.ty c.in_ok-exp.ensures c.place_of_pat.ensures
     c.in_err-joined.ensures))
 
-pub elab_rec_exp-returns : goal.elab_rec_exp-returns
-elab_rec_exp-returns t c =
+pub rec_exps::elab_rec_exp-returns : goal.rec_exps::elab_rec_exp-returns
+rec_exps::elab_rec_exp-returns t c =
     rec_of c.args.ty (rule_phrase-kept c.args.rule.now)
     (rec_done (pat_phrase (out-Rule c.args.rule.now).pat, exp_phrase (out-Rule c.args.rule.now).exp) c.args.ty
     c.in_ok-exp.exp c.place_of_pat.result c.requires.scope.core c.requires.ty c.in_ok-exp.ensures c.place_of_pat.ensures
     c.in_ok-joined.ensures)
 
-pub elab_rec_exps-elab_rec_exp-requires-clause-ty : goal.elab_rec_exps-elab_rec_exp-requires-clause-ty
-elab_rec_exps-elab_rec_exp-requires-clause-ty t c = has_first c.loop-rule.t c.loop-rule.invariant.have c.in-Some.ensures.cases.0
-
-pub elab_rec_exps-loop-rule-preserved : goal.elab_rec_exps-loop-rule-preserved
-elab_rec_exps-loop-rule-preserved t c =
+pub rec_exps::elab_rec_exps-loop-rule-preserved : goal.rec_exps::elab_rec_exps-loop-rule-preserved
+rec_exps::elab_rec_exps-loop-rule-preserved t c =
     recs_next c.loop-rule.invariant
     (ap (λ (rules : List Rule). map rule_phrase rules)
     (drop_item c.args.recs.now c.loop-rule.rule-index c.rule-item.result c.loop-rule-test.true c.rule-item.is))
     c.in-Some.ensures.cases.0 c.in_ok-elab_rec_exp-in-Some.ensures
 
-pub elab_rec_exps-returns-in_err-elab_rec_exp-in-Some : goal.elab_rec_exps-returns-in_err-elab_rec_exp-in-Some
-elab_rec_exps-returns-in_err-elab_rec_exp-in-Some t c =
+pub rec_exps::elab_rec_exps-returns-in_err-elab_rec_exp-in-Some : goal.rec_exps::elab_rec_exps-returns-in_err-elab_rec_exp-in-Some
+rec_exps::elab_rec_exps-returns-in_err-elab_rec_exp-in-Some t c =
     passed c.from_residual.result c.in_err-elab_rec_exp-in-Some.field-0.0 c.from_residual.ensures.1
     (recs_fail c.loop-rule.invariant
     (ap (λ (rules : List Rule). map rule_phrase rules)
     (drop_item c.args.recs.now c.loop-rule.rule-index c.rule-item.result c.loop-rule-test.true c.rule-item.is))
     c.in-Some.ensures.cases.0 c.in_err-elab_rec_exp-in-Some.ensures)
 
-pub elab_recs_under-returns : goal.elab_recs_under-returns
-elab_recs_under-returns t c =
+pub val::elab_recs_under-returns : goal.val::elab_recs_under-returns
+val::elab_recs_under-returns t c =
     recs_under c.args.bound.now (map rule_phrase c.args.recs.now) c.args.types.now c.requires.scope.core
     (c.in_ok-enter_variables.ensures.ok c.args.g.now) c.elab_rec_exps-result.ensures
     (c.leave.ensures c.args.scope.now c.mark-before.ensures.is
     (front_same c.args.scope.now c.enter_variables.new.scope c.elab_rec_exps-result.new.scope
     (c.in_ok-enter_variables.ensures.ok c.args.g.now).front c.elab_rec_exps-result.ensures.left))
 
-pub elab_recs_under-elab_rec_exps-result-requires-clause-scope : goal.elab_recs_under-elab_rec_exps-result-requires-clause-scope
-elab_recs_under-elab_rec_exps-result-requires-clause-scope t c =
-    entered (moment c.args.g.now c.args.t.now c.args.scope.now)
-    (moment c.args.g.now c.args.t.now c.enter_variables.new.scope)
-    (under_bound (bound_of c.args.bound.now) (scope_at (moment c.args.g.now c.args.t.now c.args.scope.now)))
-    (c.in_ok-enter_variables.ensures.ok c.args.g.now).seen
-    ((c.in_ok-enter_variables.ensures.ok c.args.g.now).there c.args.t.now c.requires.scope.core) c.requires.scope.kept
-    c.requires.scope.state
+pub val::elab_val_under-elab_rec_pats-requires : goal.val::elab_val_under-elab_rec_pats-requires
+val::elab_val_under-elab_rec_pats-requires t c = c.in_ok-elab_binds.ensures.elabs.core
 
-pub elab_val_under-elab_rec_pats-requires : goal.elab_val_under-elab_rec_pats-requires
-elab_val_under-elab_rec_pats-requires t c = c.in_ok-elab_binds.ensures.elabs.core
-
-pub elab_val_under-returns-in_err-elab_binds : goal.elab_val_under-returns-in_err-elab_binds
-elab_val_under-returns-in_err-elab_binds t c =
+pub val::elab_val_under-returns-in_err-elab_binds : goal.val::elab_val_under-returns-in_err-elab_binds
+val::elab_val_under-returns-in_err-elab_binds t c =
     passed c.from_residual.result c.in_err-elab_binds.field-0.0 c.from_residual.ensures.1
     (val_first (state c.args.since.now).next c.args.at c.args.own.now (map rule_phrase c.args.binds.now)
     (map rule_phrase c.args.recs.now)
@@ -407,8 +395,8 @@ elab_val_under-returns-in_err-elab_binds t c =
     (groups_of c.new-groups.result) (groups_of c.elab_binds.new.groups) c.new-bound.ensures
     (ap groups_of c.new-groups.ensures) c.in_err-elab_binds.ensures))
 
-pub elab_val_under-returns-in_err-types : goal.elab_val_under-returns-in_err-types
-elab_val_under-returns-in_err-types t c =
+pub val::elab_val_under-returns-in_err-types : goal.val::elab_val_under-returns-in_err-types
+val::elab_val_under-returns-in_err-types t c =
     passed c.from_residual-in_err-types.result c.in_err-types.field-0.0 c.from_residual-in_err-types.ensures.1
     (val_second (state c.args.since.now).next c.args.at c.args.own.now (map rule_phrase c.args.binds.now)
     (map rule_phrase c.args.recs.now)
@@ -418,8 +406,8 @@ elab_val_under-returns-in_err-types t c =
     (ap groups_of c.new-groups.ensures) c.in_ok-elab_binds.ensures)
     c.in_err-types.ensures)
 
-pub elab_val_under-close_val-requires-clause-front : goal.elab_val_under-close_val-requires-clause-front
-elab_val_under-close_val-requires-clause-front t c =
+pub val::elab_val_under-close_val-requires-clause-front : goal.val::elab_val_under-close_val-requires-clause-front
+val::elab_val_under-close_val-requires-clause-front t c =
     val_front (state c.args.since.now).next c.args.at c.args.own.now (map rule_phrase c.args.binds.now)
     (map rule_phrase c.args.recs.now)
     c.requires.scope.core
@@ -428,8 +416,8 @@ elab_val_under-close_val-requires-clause-front t c =
     (ap groups_of c.new-groups.ensures) c.in_ok-elab_binds.ensures)
     c.in_ok-types.ensures c.args.since.now c.in_ok-own_bound.own_bound c.requires.front c.in_ok-elab_recs_under.ensures
 
-pub elab_val_under-close_val-requires-clause-distinct : goal.elab_val_under-close_val-requires-clause-distinct
-elab_val_under-close_val-requires-clause-distinct t c =
+pub val::elab_val_under-close_val-requires-clause-distinct : goal.val::elab_val_under-close_val-requires-clause-distinct
+val::elab_val_under-close_val-requires-clause-distinct t c =
     val_distinct (state c.args.since.now).next c.args.at c.args.own.now (map rule_phrase c.args.binds.now)
     (map rule_phrase c.args.recs.now)
     c.requires.scope.core
@@ -438,8 +426,8 @@ elab_val_under-close_val-requires-clause-distinct t c =
     (ap groups_of c.new-groups.ensures) c.in_ok-elab_binds.ensures)
     c.in_ok-types.ensures
 
-pub elab_val_under-returns : goal.elab_val_under-returns
-elab_val_under-returns t c =
+pub val::elab_val_under-returns : goal.val::elab_val_under-returns
+val::elab_val_under-returns t c =
     val_done (state c.args.since.now).next c.args.at c.args.own.now (map rule_phrase c.args.binds.now)
     (map rule_phrase c.args.recs.now)
     c.requires.scope.core
@@ -451,17 +439,8 @@ elab_val_under-returns t c =
     (c.close_val.ensures.answer (scope_at (moment c.elab_recs_under.new.g c.elab_recs_under.new.t
     c.elab_recs_under.new.scope)) refl) c.close_val.ensures.structures
 
-pub elab_val_under-elab_recs_under-requires-clause-scope : goal.elab_val_under-elab_recs_under-requires-clause-scope
-elab_val_under-elab_recs_under-requires-clause-scope t c =
-    recs_ready (map rule_phrase c.args.binds.now) (map rule_phrase c.args.recs.now) c.in_ok-own_bound.own_bound
-    c.len-start.result c.requires.scope
-    (binds_alone (map rule_phrase c.args.binds.now) c.new-bound.result c.elab_binds.new.bound
-    (groups_of c.new-groups.result) (groups_of c.elab_binds.new.groups) c.new-bound.ensures
-    (ap groups_of c.new-groups.ensures) c.in_ok-elab_binds.ensures) c.is_kept.ensures c.in_ok-types.ensures
-    c.is_kept-2.ensures c.len-start.ensures c.in_ok-own_bound.ensures
-
-pub elab_val_under-returns-in_err-own_bound : goal.elab_val_under-returns-in_err-own_bound
-elab_val_under-returns-in_err-own_bound t c =
+pub val::elab_val_under-returns-in_err-own_bound : goal.val::elab_val_under-returns-in_err-own_bound
+val::elab_val_under-returns-in_err-own_bound t c =
     passed c.from_residual-in_err-own_bound.result fault.NoMemory c.from_residual-in_err-own_bound.ensures.1
     (val_memory (state c.args.since.now).next c.args.at c.args.own.now (map rule_phrase c.args.binds.now)
     (map rule_phrase c.args.recs.now)
@@ -471,8 +450,8 @@ elab_val_under-returns-in_err-own_bound t c =
     (ap groups_of c.new-groups.ensures) c.in_ok-elab_binds.ensures)
     c.in_ok-types.ensures)
 
-pub elab_val_under-returns-in_err-elab_recs_under : goal.elab_val_under-returns-in_err-elab_recs_under
-elab_val_under-returns-in_err-elab_recs_under t c =
+pub val::elab_val_under-returns-in_err-elab_recs_under : goal.val::elab_val_under-returns-in_err-elab_recs_under
+val::elab_val_under-returns-in_err-elab_recs_under t c =
     passed c.from_residual-in_err-elab_recs_under.result c.in_err-elab_recs_under.field-0.0
     c.from_residual-in_err-elab_recs_under.ensures.1
     (val_third (state c.args.since.now).next c.args.at c.args.own.now (map rule_phrase c.args.binds.now)
@@ -484,24 +463,15 @@ elab_val_under-returns-in_err-elab_recs_under t c =
     c.in_ok-types.ensures c.in_ok-own_bound.own_bound c.len-start.result c.len-start.ensures
     c.in_ok-own_bound.ensures c.in_err-elab_recs_under.ensures)
 
-pub elab_val-returns-in_err-own : goal.elab_val-returns-in_err-own
-elab_val-returns-in_err-own t c =
+pub val::elab_val-returns-in_err-own : goal.val::elab_val-returns-in_err-own
+val::elab_val-returns-in_err-own t c =
     passed c.from_residual.result c.in_err-own.field-0.0 c.from_residual.ensures.1
     (val_stops c.args.tyvars.now (map rule_phrase c.args.binds.now) (map rule_phrase c.args.recs.now) c.args.at
     c.requires.core c.requires.state c.in_err-own.ensures.ids c.in_err-own.field-0.0 c.in_err-own.ensures.infers
     c.in_err-own.ensures.err)
 
-pub elab_val-elab_val_under-result-requires-clause-scope : goal.elab_val-elab_val_under-result-requires-clause-scope
-elab_val-elab_val_under-result-requires-clause-scope t c =
-    own_ready c.args.g.now c.args.t.now c.own_variables.new.t c.args.scope.now c.own_variables.new.scope
-    c.args.tyvars.now (map rule_phrase c.args.binds.now) (map rule_phrase c.args.recs.now) c.in_ok-own.own c.requires
-    c.is_kept.ensures c.in_ok-own.ensures.infers c.in_ok-own.ensures.ok
-    (c.in_ok-own.ensures.ok.there c.own_variables.new.t c.in_ok-own.ensures.made
-    (core_later c.args.g.now c.args.t.now c.own_variables.new.t c.args.scope.now c.in_ok-own.ensures.ids
-    c.requires.core))
-
-pub elab_val-returns : goal.elab_val-returns
-elab_val-returns t c =
+pub val::elab_val-returns : goal.val::elab_val-returns
+val::elab_val-returns t c =
     val_whole c.args.tyvars.now (map rule_phrase c.args.binds.now) (map rule_phrase c.args.recs.now) c.args.at
     c.requires.core c.requires.state c.in_ok-own.ensures.ids c.in_ok-own.own c.in_ok-own.ensures.infers
     c.in_ok-own.ensures.ok
@@ -514,55 +484,29 @@ elab_val-returns t c =
     (front_same c.args.scope.now c.own_variables.new.scope c.elab_val_under-result.new.scope
     c.in_ok-own.ensures.ok.front c.elab_val_under-result.ensures.left))
 
-pub elab_in_scope-elab_in_scope-in-App-requires : goal.elab_in_scope-elab_in_scope-in-App-requires
-elab_in_scope-elab_in_scope-in-App-requires t c = (
-  search rules,
-  later c.requires c.is_kept.ensures c.in_ok-function-in-App.ensures.goes
-      c.in_ok-function-in-App.ensures.left,
-)
-
-pub elab_in_scope-elab_match-requires : goal.elab_in_scope-elab_match-requires
-elab_in_scope-elab_match-requires t c = (
+pub exp::elab_in_scope-elab_match-requires : goal.exp::elab_in_scope-elab_match-requires
+exp::elab_in_scope-elab_match-requires t c = (
   search rules,
   later c.requires c.is_kept-in-Handle.ensures c.in_ok-id-in-Handle.ensures.goes
       c.in_ok-id-in-Handle.ensures.left,
 )
 
-pub elab_in_scope-elab_body-requires : goal.elab_in_scope-elab_body-requires
-elab_in_scope-elab_body-requires t c = (
+pub exp::elab_in_scope-elab_body-requires : goal.exp::elab_in_scope-elab_body-requires
+exp::elab_in_scope-elab_body-requires t c = (
   search rules,
   behind (dec_phrase c.get-in-Let.result.now) c.in_ok-made-in-Let.made c.requires
       c.is_kept-in-Let.ensures c.in_ok-made-in-Let.ensures,
 )
 
-pub elab_fields-elab_field-requires-clause-scope : goal.elab_fields-elab_field-requires-clause-scope
-elab_fields-elab_field-requires-clause-scope t c =
-    later {old = moment c.args.g.now c.args.t.now c.args.scope.now} c.requires c.is_kept.ensures
-    c.loop-field.invariant.goes c.loop-field.invariant.same
-
-pub elab_match-elab_rule-requires-clause-scope : goal.elab_match-elab_rule-requires-clause-scope
-elab_match-elab_rule-requires-clause-scope t c =
-    later {old = moment c.args.g.now c.args.t.now c.args.scope.now} c.requires c.is_kept.ensures
-    c.loop-rule.invariant.goes c.loop-rule.invariant.same
-
-pub elab_binds-elab_bind-requires : goal.elab_binds-elab_bind-requires
-elab_binds-elab_bind-requires t c = (
+pub binds::elab_binds-elab_bind-requires : goal.binds::elab_binds-elab_bind-requires
+binds::elab_binds-elab_bind-requires t c = (
   search rules,
   later {old = moment c.args.g.now c.args.t.now c.args.scope.now} c.requires c.is_kept.ensures
       c.loop-rule.invariant.goes c.loop-rule.invariant.same,
 )
 
-pub elab_rec_exps-elab_rec_exp-requires-clause-scope : goal.elab_rec_exps-elab_rec_exp-requires-clause-scope
-elab_rec_exps-elab_rec_exp-requires-clause-scope t c =
-    later {old = moment c.args.g.now c.args.t.now c.args.scope.now} c.requires.scope c.is_kept.ensures
-    c.loop-rule.invariant.goes c.loop-rule.invariant.same
-
-pub elab_rule-elab_under-requires : goal.elab_rule-elab_under-requires
-elab_rule-elab_under-requires t c =
-    (search rules, c.in_ok-from.ensures.ready c.requires.scope)
-
-pub elab_body-elab_in_scope-result-requires : goal.elab_body-elab_in_scope-result-requires
-elab_body-elab_in_scope-result-requires t c = (
+pub exp::elab_body-elab_in_scope-result-requires : goal.exp::elab_body-elab_in_scope-result-requires
+exp::elab_body-elab_in_scope-result-requires t c = (
   search rules,
   entered (moment c.args.g.now c.args.t.now c.args.scope.now)
       (moment c.args.g.now c.args.t.now c.enter_made.new.scope)
@@ -572,8 +516,8 @@ elab_body-elab_in_scope-result-requires t c = (
       ((c.in_ok-enter_made.ensures.ok c.args.g.now c.requires.envs).there c.args.t.now c.requires.core) c.requires.kept c.requires.state,
 )
 
-pub elab_body-returns : goal.elab_body-returns
-elab_body-returns t c =
+pub exp::elab_body-returns : goal.exp::elab_body-returns
+exp::elab_body-returns t c =
     body_done c.args.made (exp_phrase c.args.exp.now) c.requires.core
     (c.in_ok-enter_made.ensures.ok c.args.g.now c.requires.envs)
     c.elab_in_scope-result.ensures
@@ -581,8 +525,8 @@ elab_body-returns t c =
     (front_same c.args.scope.now c.enter_made.new.scope c.elab_in_scope-result.new.scope
     (c.in_ok-enter_made.ensures.ok c.args.g.now c.requires.envs).front c.elab_in_scope-result.ensures.left))
 
-pub elab_shown-elab_declared-result-requires : goal.elab_shown-elab_declared-result-requires
-elab_shown-elab_declared-result-requires t c = (
+pub declared::elab_shown-elab_declared-result-requires : goal.declared::elab_shown-elab_declared-result-requires
+declared::elab_shown-elab_declared-result-requires t c = (
   search rules,
   entered (moment c.args.g.now c.args.t.now c.args.scope.now)
       (moment c.args.g.now c.args.t.now c.enter_made.new.scope)
@@ -592,8 +536,8 @@ elab_shown-elab_declared-result-requires t c = (
       ((c.in_ok-enter_made.ensures.ok c.args.g.now c.requires.envs).there c.args.t.now c.requires.core) c.requires.kept c.requires.state,
 )
 
-pub elab_shown-returns : goal.elab_shown-returns
-elab_shown-returns t c =
+pub declared::elab_shown-returns : goal.declared::elab_shown-returns
+declared::elab_shown-returns t c =
     shown_done c.args.made (dec_phrase c.args.dec.now) c.requires.core
     (c.in_ok-enter_made.ensures.ok c.args.g.now c.requires.envs)
     c.elab_declared-result.ensures
@@ -601,80 +545,80 @@ elab_shown-returns t c =
     (front_same c.args.scope.now c.enter_made.new.scope c.elab_declared-result.new.scope
     (c.in_ok-enter_made.ensures.ok c.args.g.now c.requires.envs).front c.elab_declared-result.ensures.elabs.left))
 
-pub elab_in_scope-returns-in_err-made-in-Let : goal.elab_in_scope-returns-in_err-made-in-Let
-elab_in_scope-returns-in_err-made-in-Let t c =
+pub exp::elab_in_scope-returns-in_err-made-in-Let : goal.exp::elab_in_scope-returns-in_err-made-in-Let
+exp::elab_in_scope-returns-in_err-made-in-Let t c =
     passed c.from_residual-in_err-made-in-Let.result c.in_err-made-in-Let.field-0.0 c.from_residual-in_err-made-in-Let.ensures.1
     (as_phrase (ap exp_phrase c.in-Let.is ∙ exp_phrase-Let c.in-Let.dec c.in-Let.body c.in-Let.at
     ∙ ap (λ p. ExpPhrase.Let (dec_phrase p) (exp_phrase c.in-Let.body) c.in-Let.at) (sym c.get-in-Let.ensures))
     (let_first (dec_phrase c.get-in-Let.result.now) (exp_phrase c.in-Let.body) c.in-Let.at c.in_err-made-in-Let.ensures))
 
-pub elab_in_scope-returns-in_err-id-in-Let : goal.elab_in_scope-returns-in_err-id-in-Let
-elab_in_scope-returns-in_err-id-in-Let t c =
+pub exp::elab_in_scope-returns-in_err-id-in-Let : goal.exp::elab_in_scope-returns-in_err-id-in-Let
+exp::elab_in_scope-returns-in_err-id-in-Let t c =
     passed c.from_residual-in_err-id-in-Let.result c.in_err-id-in-Let.field-0.0 c.from_residual-in_err-id-in-Let.ensures.1
     (as_phrase (ap exp_phrase c.in-Let.is ∙ exp_phrase-Let c.in-Let.dec c.in-Let.body c.in-Let.at
     ∙ ap₂ (λ p q. ExpPhrase.Let (dec_phrase p) (exp_phrase q) c.in-Let.at) (sym c.get-in-Let.ensures) (sym c.get-in-Let-2.ensures))
     (let_second (dec_phrase c.get-in-Let.result.now) (exp_phrase c.get-in-Let-2.result.now) c.in-Let.at c.requires.core
     c.in_ok-made-in-Let.ensures c.in_err-id-in-Let.ensures))
 
-pub elab_in_scope-returns-in_ok-id-in-Let : goal.elab_in_scope-returns-in_ok-id-in-Let
-elab_in_scope-returns-in_ok-id-in-Let t c =
+pub exp::elab_in_scope-returns-in_ok-id-in-Let : goal.exp::elab_in_scope-returns-in_ok-id-in-Let
+exp::elab_in_scope-returns-in_ok-id-in-Let t c =
     (as_phrase (ap exp_phrase c.in-Let.is ∙ exp_phrase-Let c.in-Let.dec c.in-Let.body c.in-Let.at
     ∙ ap₂ (λ p q. ExpPhrase.Let (dec_phrase p) (exp_phrase q) c.in-Let.at) (sym c.get-in-Let.ensures) (sym c.get-in-Let-2.ensures))
     (let_numbered (dec_phrase c.get-in-Let.result.now) (exp_phrase c.get-in-Let-2.result.now) c.in-Let.at
     c.made-from-in-Let.result c.made-to-in-Let.result c.requires.core c.in_ok-made-in-Let.ensures
     c.in_ok-id-in-Let.ensures c.made-from-in-Let.ensures c.made-to-in-Let.ensures c.end_let.ensures))
 
-pub elab_declared-returns-in-Types : goal.elab_declared-returns-in-Types
-elab_declared-returns-in-Types t c =
+pub declared::elab_declared-returns-in-Types : goal.declared::elab_declared-returns-in-Types
+declared::elab_declared-returns-in-Types t c =
     as_dec (ap dec_phrase c.in-Types.is ∙ dec_phrase-Types c.in-Types.binds c.in-Types.at
     ∙ ap (λ binds. DecPhrase.Types (map typ_phrase binds) c.in-Types.at) (sym c.as_slice-in-Types.ensures))
     c.declare_types.ensures
 
-pub elab_declared-returns-in-Datatypes : goal.elab_declared-returns-in-Datatypes
-elab_declared-returns-in-Datatypes t c =
+pub declared::elab_declared-returns-in-Datatypes : goal.declared::elab_declared-returns-in-Datatypes
+declared::elab_declared-returns-in-Datatypes t c =
     as_dec (ap dec_phrase c.in-Datatypes.is ∙ dec_phrase-Datatypes c.in-Datatypes.binds c.in-Datatypes.at
     ∙ ap (λ binds. DecPhrase.Datatypes (map dat_phrase binds) c.in-Datatypes.at) (sym c.as_slice-in-Datatypes.ensures))
     c.declare_datatypes.ensures
 
-pub elab_declared-returns-in-Replication : goal.elab_declared-returns-in-Replication
-elab_declared-returns-in-Replication t c =
+pub declared::elab_declared-returns-in-Replication : goal.declared::elab_declared-returns-in-Replication
+declared::elab_declared-returns-in-Replication t c =
     as_dec (ap dec_phrase c.in-Replication.is
     ∙ dec_phrase-Replication c.in-Replication.name c.in-Replication.long c.in-Replication.at) c.declare_replica.ensures
 
-pub elab_declared-returns-in-Open : goal.elab_declared-returns-in-Open
-elab_declared-returns-in-Open t c =
+pub declared::elab_declared-returns-in-Open : goal.declared::elab_declared-returns-in-Open
+declared::elab_declared-returns-in-Open t c =
     as_dec (ap dec_phrase c.in-Open.is ∙ dec_phrase-Open c.in-Open.longs c.in-Open.at
     ∙ ap (λ longs. DecPhrase.Open longs c.in-Open.at) (sym c.as_slice-in-Open.ensures)) c.declare_open.ensures
 
-pub elab_declared-returns-in-Sequence : goal.elab_declared-returns-in-Sequence
-elab_declared-returns-in-Sequence t c =
+pub declared::elab_declared-returns-in-Sequence : goal.declared::elab_declared-returns-in-Sequence
+declared::elab_declared-returns-in-Sequence t c =
     as_dec (ap dec_phrase c.in-Sequence.is ∙ dec_phrase-Sequence c.in-Sequence.decs c.in-Sequence.field-1
     ∙ ap (λ decs. DecPhrase.Sequence (dec_phrases (map dec_phrase decs)) c.in-Sequence.field-1)
     (sym c.as_slice-in-Sequence.ensures)) c.elab_sequence.ensures
 
-pub elab_sequence-returns : goal.elab_sequence-returns
-elab_sequence-returns t c =
+pub declared::elab_sequence-returns : goal.declared::elab_sequence-returns
+declared::elab_sequence-returns t c =
     decs_all c.elab_each-outcome.result c.made_where.result c.requires.core c.elab_each-outcome.ensures
     (c.leave.ensures c.args.scope.now c.mark-before.ensures.is c.elab_each-outcome.ensures.front) c.made_where.ensures
 
-pub elab_each-loop-dec-init : goal.elab_each-loop-dec-init
-elab_each-loop-dec-init t c =
+pub declared::elab_each-loop-dec-init : goal.declared::elab_each-loop-dec-init
+declared::elab_each-loop-dec-init t c =
     decs_begin (moment c.args.g.now c.args.t.now c.args.scope.now) (dec_phrases (map dec_phrase c.args.decs.now))
     c.args.all.now c.requires.scope c.requires.front c.requires.all
 
-pub elab_each-elab_declared-requires : goal.elab_each-elab_declared-requires
-elab_each-elab_declared-requires t c = (search rules, decs_ready c.loop-dec.invariant c.is_kept.ensures)
+pub declared::elab_each-elab_declared-requires : goal.declared::elab_each-elab_declared-requires
+declared::elab_each-elab_declared-requires t c = (search rules, decs_ready c.loop-dec.invariant c.is_kept.ensures)
 
-pub elab_each-loop-dec-preserved : goal.elab_each-loop-dec-preserved
-elab_each-loop-dec-preserved t c =
+pub declared::elab_each-loop-dec-preserved : goal.declared::elab_each-loop-dec-preserved
+declared::elab_each-loop-dec-preserved t c =
     decs_next c.loop-dec.invariant
     (ap (λ (decs : List Dec). dec_phrases (map dec_phrase decs))
     (drop_item c.args.decs.now c.loop-dec.dec-index c.dec-item.result c.loop-dec-test.true c.dec-item.is))
     c.is_kept.ensures c.is_kept-2.ensures c.in_ok-made.ensures
     (c.in_ok-enter_behind.ensures.scope c.elab_declared.new.g c.in_ok-made.ensures.envs) c.in_ok-enter_behind.ensures.all
 
-pub elab_each-returns-in_err-made : goal.elab_each-returns-in_err-made
-elab_each-returns-in_err-made t c =
+pub declared::elab_each-returns-in_err-made : goal.declared::elab_each-returns-in_err-made
+declared::elab_each-returns-in_err-made t c =
     passed_on (AreEntered (moment c.args.g.now c.args.t.now c.args.scope.now)
     (dec_phrases (map dec_phrase c.args.decs.now)) c.loop-dec.all
     (moment c.elab_declared.new.g c.elab_declared.new.t c.elab_declared.new.scope)) c.from_residual.result
@@ -684,8 +628,8 @@ elab_each-returns-in_err-made t c =
     (drop_item c.args.decs.now c.loop-dec.dec-index c.dec-item.result c.loop-dec-test.true c.dec-item.is))
     c.in_err-made.ensures)
 
-pub elab_each-returns-in_err-enter_behind : goal.elab_each-returns-in_err-enter_behind
-elab_each-returns-in_err-enter_behind t c =
+pub declared::elab_each-returns-in_err-enter_behind : goal.declared::elab_each-returns-in_err-enter_behind
+declared::elab_each-returns-in_err-enter_behind t c =
     passed_on (AreEntered (moment c.args.g.now c.args.t.now c.args.scope.now)
     (dec_phrases (map dec_phrase c.args.decs.now)) c.enter_behind.new.all
     (moment c.elab_declared.new.g c.elab_declared.new.t c.enter_behind.new.scope))
@@ -695,45 +639,45 @@ elab_each-returns-in_err-enter_behind t c =
     (drop_item c.args.decs.now c.loop-dec.dec-index c.dec-item.result c.loop-dec-test.true c.dec-item.is))
     c.in_ok-made.ensures c.in_err-enter_behind.ensures.err)
 
-pub elab_each-returns : goal.elab_each-returns
-elab_each-returns t c =
+pub declared::elab_each-returns : goal.declared::elab_each-returns
+declared::elab_each-returns t c =
     decs_end c.loop-dec.invariant (ap (λ (decs : List Dec). dec_phrases (map dec_phrase decs))
     (drop_past c.args.decs.now c.loop-dec.dec-index c.loop-dec-test.false))
 
-pub elab_declared-returns-in-Structures : goal.elab_declared-returns-in-Structures
-elab_declared-returns-in-Structures t c = dec_memory {m = moment c.args.g.now c.args.t.now c.args.scope.now} c.requires.core
+pub declared::elab_declared-returns-in-Structures : goal.declared::elab_declared-returns-in-Structures
+declared::elab_declared-returns-in-Structures t c = dec_memory {m = moment c.args.g.now c.args.t.now c.args.scope.now} c.requires.core
 
-pub elab_declared-returns-in-Val : goal.elab_declared-returns-in-Val
-elab_declared-returns-in-Val t c =
+pub declared::elab_declared-returns-in-Val : goal.declared::elab_declared-returns-in-Val
+declared::elab_declared-returns-in-Val t c =
     as_dec (ap dec_phrase c.in-Val.is ∙ dec_phrase-Val c.in-Val.tyvars c.in-Val.binds c.in-Val.recs c.in-Val.at
     ∙ ap (λ names. DecPhrase.Val names (rules_of (map rule_phrase c.in-Val.binds)) (rules_of (map rule_phrase
     c.in-Val.recs)) c.in-Val.at) (sym c.as_slice.ensures))
     (val_declared (DecPhrase.Val c.as_slice.result.now (rules_of (map rule_phrase c.in-Val.binds))
     (rules_of (map rule_phrase c.in-Val.recs)) c.in-Val.at) c.elab_val.ensures)
 
-pub elab_declared-returns-in-Exceptions : goal.elab_declared-returns-in-Exceptions
-elab_declared-returns-in-Exceptions t c =
+pub declared::elab_declared-returns-in-Exceptions : goal.declared::elab_declared-returns-in-Exceptions
+declared::elab_declared-returns-in-Exceptions t c =
     as_dec (ap dec_phrase c.in-Exceptions.is ∙ dec_phrase-Exceptions c.in-Exceptions.binds c.in-Exceptions.at
     ∙ ap (λ binds. DecPhrase.Exceptions (map ex_phrase binds) c.in-Exceptions.at) (sym c.as_slice-in-Exceptions.ensures))
     c.declare_exceptions.ensures
 
-pub elab_declared-returns-in_err-before-in-Local : goal.elab_declared-returns-in_err-before-in-Local
-elab_declared-returns-in_err-before-in-Local t c =
+pub declared::elab_declared-returns-in_err-before-in-Local : goal.declared::elab_declared-returns-in_err-before-in-Local
+declared::elab_declared-returns-in_err-before-in-Local t c =
     dec_passed c.from_residual.result c.in_err-before-in-Local.field-0.0 c.from_residual.ensures.1
     (as_dec (ap dec_phrase c.in-Local.is ∙ dec_phrase-Local c.in-Local.hidden c.in-Local.shown c.in-Local.at
     ∙ ap (λ p. DecPhrase.Local (dec_phrase p) (dec_phrase c.in-Local.shown) c.in-Local.at) (sym c.get.ensures))
     (local_first (dec_phrase c.get.result.now) (dec_phrase c.in-Local.shown) c.in-Local.at
     c.in_err-before-in-Local.ensures))
 
-pub elab_declared-elab_shown-requires : goal.elab_declared-elab_shown-requires
-elab_declared-elab_shown-requires t c = (
+pub declared::elab_declared-elab_shown-requires : goal.declared::elab_declared-elab_shown-requires
+declared::elab_declared-elab_shown-requires t c = (
   search rules,
   behind (dec_phrase c.get.result.now) c.in_ok-before-in-Local.before c.requires c.is_kept.ensures
       c.in_ok-before-in-Local.ensures,
 )
 
-pub elab_declared-returns-in_err-made-in-Local : goal.elab_declared-returns-in_err-made-in-Local
-elab_declared-returns-in_err-made-in-Local t c =
+pub declared::elab_declared-returns-in_err-made-in-Local : goal.declared::elab_declared-returns-in_err-made-in-Local
+declared::elab_declared-returns-in_err-made-in-Local t c =
     dec_passed c.from_residual-in_err-made-in-Local.result c.in_err-made-in-Local.field-0.0
     c.from_residual-in_err-made-in-Local.ensures.1
     (as_dec (ap dec_phrase c.in-Local.is ∙ dec_phrase-Local c.in-Local.hidden c.in-Local.shown c.in-Local.at
@@ -742,11 +686,11 @@ elab_declared-returns-in_err-made-in-Local t c =
     (local_second (dec_phrase c.get.result.now) (dec_phrase c.get-in-Local.result.now) c.in-Local.at c.requires.core
     c.in_ok-before-in-Local.ensures c.in_err-made-in-Local.ensures))
 
-pub elab_declared-check_made-requires : goal.elab_declared-check_made-requires
-elab_declared-check_made-requires t c = c.in_ok-made-in-Local.ensures.envs
+pub declared::elab_declared-check_made-requires : goal.declared::elab_declared-check_made-requires
+declared::elab_declared-check_made-requires t c = c.in_ok-made-in-Local.ensures.envs
 
-pub elab_declared-returns-in_ok-made-in-Local : goal.elab_declared-returns-in_ok-made-in-Local
-elab_declared-returns-in_ok-made-in-Local t c =
+pub declared::elab_declared-returns-in_ok-made-in-Local : goal.declared::elab_declared-returns-in_ok-made-in-Local
+declared::elab_declared-returns-in_ok-made-in-Local t c =
     as_dec (ap dec_phrase c.in-Local.is ∙ dec_phrase-Local c.in-Local.hidden c.in-Local.shown c.in-Local.at
     ∙ ap₂ (λ p q. DecPhrase.Local (dec_phrase p) (dec_phrase q) c.in-Local.at) (sym c.get.ensures)
     (sym c.get-in-Local.ensures))
@@ -754,12 +698,106 @@ elab_declared-returns-in_ok-made-in-Local t c =
     c.in_ok-before-in-Local.ensures c.in_ok-made-in-Local.ensures c.check_made.ensures.same
     c.check_made.ensures.answer c.check_made.ensures.it)
 
-pub elab_binds-loop-rule-init : goal.elab_binds-loop-rule-init
-elab_binds-loop-rule-init t c =
+pub binds::elab_binds-loop-rule-init : goal.binds::elab_binds-loop-rule-init
+binds::elab_binds-loop-rule-init t c =
     binds_begin (moment c.args.g.now c.args.t.now c.args.scope.now) (map rule_phrase c.args.rules.now) c.args.bound.now
     (groups_of c.args.groups.now) c.requires.core
 
-pub elab_binds-returns : goal.elab_binds-returns
-elab_binds-returns t c =
+pub binds::elab_binds-returns : goal.binds::elab_binds-returns
+binds::elab_binds-returns t c =
     binds_end c.loop-rule.invariant (ap (λ (rules : List Rule). map rule_phrase rules)
     (drop_past c.args.rules.now c.loop-rule.rule-index c.loop-rule-test.false))
+
+pub exp::elab_in_scope-elab_in_scope-requires-in-App : goal.exp::elab_in_scope-elab_in_scope-requires-in-App
+exp::elab_in_scope-elab_in_scope-requires-in-App t c = (
+  search rules,
+  later c.requires c.is_kept.ensures c.in_ok-function-in-App.ensures.goes
+      c.in_ok-function-in-App.ensures.left,
+)
+
+pub exp::elab_fields-elab_field-requires : goal.exp::elab_fields-elab_field-requires
+exp::elab_fields-elab_field-requires t c = (
+  search rules,
+  record {
+    scope = later {old = moment c.args.g.now c.args.t.now c.args.scope.now} c.requires c.is_kept.ensures
+        c.loop-field.invariant.goes c.loop-field.invariant.same;
+    rows = c.loop-field.invariant.have;
+  },
+)
+
+pub exp::elab_match-elab_rule-requires : goal.exp::elab_match-elab_rule-requires
+exp::elab_match-elab_rule-requires t c = (
+  search rules,
+  record {
+    scope = later {old = moment c.args.g.now c.args.t.now c.args.scope.now} c.requires c.is_kept.ensures
+        c.loop-rule.invariant.goes c.loop-rule.invariant.same;
+    first = c.loop-rule.invariant.has;
+  },
+)
+
+pub rec_exps::elab_rec_exps-elab_rec_exp-requires : goal.rec_exps::elab_rec_exps-elab_rec_exp-requires
+rec_exps::elab_rec_exps-elab_rec_exp-requires t c = (
+  search rules,
+  record {
+    scope = later {old = moment c.args.g.now c.args.t.now c.args.scope.now} c.requires.scope c.is_kept.ensures
+        c.loop-rule.invariant.goes c.loop-rule.invariant.same;
+    ty = has_first c.loop-rule.t c.loop-rule.invariant.have c.in-Some.ensures.cases.0;
+  },
+)
+
+pub val::elab_recs_under-elab_rec_exps-result-requires : goal.val::elab_recs_under-elab_rec_exps-result-requires
+val::elab_recs_under-elab_rec_exps-result-requires t c = (
+  search rules,
+  record {
+    scope = entered (moment c.args.g.now c.args.t.now c.args.scope.now)
+        (moment c.args.g.now c.args.t.now c.enter_variables.new.scope)
+        (under_bound (bound_of c.args.bound.now) (scope_at (moment c.args.g.now c.args.t.now c.args.scope.now)))
+        (c.in_ok-enter_variables.ensures.ok c.args.g.now).seen
+        ((c.in_ok-enter_variables.ensures.ok c.args.g.now).there c.args.t.now c.requires.scope.core) c.requires.scope.kept
+        c.requires.scope.state;
+    types = c.requires.types;
+  },
+)
+
+pub val::elab_val-elab_val_under-result-requires : goal.val::elab_val-elab_val_under-result-requires
+val::elab_val-elab_val_under-result-requires t c = (
+  search rules,
+  record {
+    scope = own_ready c.args.g.now c.args.t.now c.own_variables.new.t c.args.scope.now c.own_variables.new.scope
+        c.args.tyvars.now (map rule_phrase c.args.binds.now) (map rule_phrase c.args.recs.now) c.in_ok-own.own c.requires
+        c.is_kept.ensures c.in_ok-own.ensures.infers c.in_ok-own.ensures.ok
+        (c.in_ok-own.ensures.ok.there c.own_variables.new.t c.in_ok-own.ensures.made
+        (core_later c.args.g.now c.args.t.now c.own_variables.new.t c.args.scope.now c.in_ok-own.ensures.ids
+        c.requires.core));
+    front = subst (λ (z : Table). IsFrontOf z c.own_variables.new.t) (sym c.mark-since.ensures)
+        c.in_ok-own.ensures.ids.front;
+  },
+)
+
+pub val::elab_val_under-elab_recs_under-requires : goal.val::elab_val_under-elab_recs_under-requires
+val::elab_val_under-elab_recs_under-requires t c = (
+  search rules,
+  record {
+    scope = recs_ready (map rule_phrase c.args.binds.now) (map rule_phrase c.args.recs.now) c.in_ok-own_bound.own_bound
+        c.len-start.result c.requires.scope
+        (binds_alone (map rule_phrase c.args.binds.now) c.new-bound.result c.elab_binds.new.bound
+        (groups_of c.new-groups.result) (groups_of c.elab_binds.new.groups) c.new-bound.ensures
+        (ap groups_of c.new-groups.ensures) c.in_ok-elab_binds.ensures) c.is_kept.ensures c.in_ok-types.ensures
+        c.is_kept-2.ensures c.len-start.ensures c.in_ok-own_bound.ensures;
+    types = c.in_ok-types.ensures.answers.have;
+  },
+)
+
+pub rec_exps::elab_rec_exps-loop-rule-init : goal.rec_exps::elab_rec_exps-loop-rule-init
+rec_exps::elab_rec_exps-loop-rule-init t c =
+    recs_begin (moment c.args.g.now c.args.t.now c.args.scope.now) (map rule_phrase c.args.recs.now) c.args.types.now
+    c.as_slice-left.result.now c.requires.scope.core c.requires.types c.as_slice-left.ensures
+
+pub rec_exps::elab_rec_exps-returns-in-None : goal.rec_exps::elab_rec_exps-returns-in-None
+rec_exps::elab_rec_exps-returns-in-None t c =
+    recs_stop c.loop-rule.invariant
+
+pub rec_exps::elab_rec_exps-returns : goal.rec_exps::elab_rec_exps-returns
+rec_exps::elab_rec_exps-returns t c =
+    recs_end c.loop-rule.invariant (ap (λ (rules : List Rule). map rule_phrase rules)
+    (drop_past c.args.recs.now c.loop-rule.rule-index c.loop-rule-test.false))

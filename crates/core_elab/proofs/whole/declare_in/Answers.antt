@@ -29,7 +29,7 @@ returns-in_err-made-clause-infers c =
     (dec_phrase c.args.dec.now) (progress c.args.t.now c.args.g.now))
     (λ (id : EnvId). (env_at c.elab_declared.new.g id, progress c.elab_declared.new.t c.elab_declared.new.g)) r)
     c.from_residual.result c.in_err-made.field-0.0 c.from_residual.ensures.1
-    (dec_refused {h = c.elab_declared.new.g} {u = c.elab_declared.new.t} c.args.env (dec_phrase c.args.dec.now)
+    (dec_refused c.elab_declared.new.g c.elab_declared.new.t c.args.env (dec_phrase c.args.dec.now)
     (c.new-scope.ensures.seen c.args.g.now own_entry) c.new-scope.ensures.written c.in_err-made.ensures)
 
 pub returns-in_err-made-clause-ids : goal.returns-in_err-made-clause-ids
