@@ -15,7 +15,7 @@ use Rattle.sml_trees.specs.declared.full_str.FullStrBind.{FullStrBind, out-FullS
 use Rattle.sml_trees.specs.declared.exp.Dec.TheVariants as dec
 use Rattle.sml_trees.specs.declared.exp.StrExp.TheVariants as str
 use Rattle.bare_forms.specs.Signatures.{bare_sig}
-use Rattle.bare_forms.specs.Expressions.{placed_dec, sequence_dec, first_at, bare_dec}
+use Rattle.bare_forms.specs.Expressions.{placed_dec, sequence_dec, bare_dec}
 use Rattle.bare_forms.specs.Structures.{placed_str, str_bind_of, str_dec_level, str_level, str_bind_level, bare_str_dec, bare_str, bare_str_bind}
 
 -- ---- declarations
@@ -84,14 +84,13 @@ bare_str-Functor name arg at =
     ap bare_str (sym (full_str.rolls-Functor name arg at))
     ∙ fold-roll-FullStrExp _ _ _ str_dec_level str_level str_bind_level (FullStrExp-F.Functor name arg at)
 
-pub bare_str-FunctorOfDecs : (name : Name) (decs : List FullStrDec) (at : At)
-    → bare_str (full_str.FunctorOfDecs name decs at)
-    ≡ placed_str at (str.Functor name (str.Struct (sequence_dec (first_at at (map bare_str_dec decs)) (map bare_str_dec decs))
-    (first_at at (map bare_str_dec decs))) at)
+pub bare_str-FunctorOfDecs : (name : Name) (decs : List FullStrDec) (begin at : At)
+    → bare_str (full_str.FunctorOfDecs name decs begin at)
+    ≡ placed_str at (str.Functor name (str.Struct (sequence_dec begin (map bare_str_dec decs)) begin) at)
 unfolding bare_str_dec bare_str bare_str_bind
-bare_str-FunctorOfDecs name decs at =
-    ap bare_str (sym (full_str.rolls-FunctorOfDecs name decs at))
-    ∙ fold-roll-FullStrExp _ _ _ str_dec_level str_level str_bind_level (FullStrExp-F.FunctorOfDecs name decs at)
+bare_str-FunctorOfDecs name decs begin at =
+    ap bare_str (sym (full_str.rolls-FunctorOfDecs name decs begin at))
+    ∙ fold-roll-FullStrExp _ _ _ str_dec_level str_level str_bind_level (FullStrExp-F.FunctorOfDecs name decs begin at)
 
 pub bare_str-Within : (decs : List FullStrDec) (inner : FullStrExp) (at : At)
     → bare_str (full_str.Within decs inner at)

@@ -130,11 +130,6 @@ decs_of each = each.decs
 abbrev pub sequence_dec : At → List PlacedDec → Dec
 sequence_dec at decs = dec.Sequence (flat_map decs_of decs) at
 
--- where the first declaration stands
-abbrev pub first_at : At → List PlacedDec → At
-first_at at [] = at
-first_at at (each ∷ others) = each.at
-
 abbrev pub placed_dec : At → List Dec → PlacedDec
 placed_dec at decs = record { at = at; decs = decs }
 

@@ -15,7 +15,7 @@ use Rattle.sml_trees.specs.declared.exp.StrExp.{StrExp}
 use Rattle.sml_trees.specs.declared.exp.StrExp.TheVariants as str
 use Rattle.bare_forms.specs.declared.placed.PlacedStr.{PlacedStr}
 use Rattle.bare_forms.specs.Signatures.{bare_sig}
-use Rattle.bare_forms.specs.Expressions.{PlacedDec, placed_dec, sequence_dec, first_at, bare_dec}
+use Rattle.bare_forms.specs.Expressions.{PlacedDec, placed_dec, sequence_dec, bare_dec}
 
 -- ---- structures that are bound
 
@@ -40,8 +40,8 @@ str_bind_level bind = str_bind_of bind.name bind.seal bind.body
 abbrev pub placed_str : At → StrExp → PlacedStr
 placed_str at str = record { at = at; str = str }
 
--- The Definition, Appendix A, structure expressions: `funid (strdec)` is `funid (struct strdec end)`, which begins
--- where its first declaration begins
+-- The Definition, Appendix A, structure expressions: `funid (strdec)` is `funid (struct strdec end)`, and the structure
+-- begins where `strdec` is written, at its first semicolon too
 abbrev pub str_level :
     FullStrExp-F PlacedDec PlacedStr StrBind
     → PlacedStr
@@ -50,8 +50,8 @@ str_level (FullStrExp-F.Named long at) = placed_str at (str.Named long at)
 str_level (FullStrExp-F.Transparent inner sig at) = placed_str at (str.Transparent inner.str (bare_sig sig) at)
 str_level (FullStrExp-F.Opaque inner sig at) = placed_str at (str.Opaque inner.str (bare_sig sig) at)
 str_level (FullStrExp-F.Functor name arg at) = placed_str at (str.Functor name arg.str at)
-str_level (FullStrExp-F.FunctorOfDecs name decs at) =
-    let begin = first_at at decs in placed_str at (str.Functor name (str.Struct (sequence_dec begin decs) begin) at)
+str_level (FullStrExp-F.FunctorOfDecs name decs begin at) =
+    placed_str at (str.Functor name (str.Struct (sequence_dec begin decs) begin) at)
 str_level (FullStrExp-F.Within decs inner at) = placed_str at (str.Within (sequence_dec at decs) inner.str at)
 
 -- ---- declarations

@@ -1,2 +1,4 @@
 pub mod Walking
 pub mod Sizing
+pub mod Meeting
+pub mod Nesting

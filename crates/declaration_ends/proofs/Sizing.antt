@@ -21,12 +21,9 @@ use Rattle.type_nodes.specs.Tables.{Table, Has, state, type_of, whole}
 use Rattle.type_schemes.specs.Schemes.{HaveAll}
 use Rattle.type_functions.specs.Applied.{with_types}
 use Rattle.sml_modules.specs.Items.{map_rows}
-use Rattle.env_parts.specs.declared.facts.Facts.{Facts}
 use Rattle.env_parts.specs.Types.{tree_size, trees_size, holds_free, any_holds_free, facts_of, types_in, types_in_structures, types_in_types, types_in_values}
 use Rattle.env_parts.specs.Types as parts
-use Rattle.sml_modules.specs.declared.id.EnvId.{EnvId}
-use Rattle.sml_modules.specs.declared.parts.NamedEnv.{NamedEnv}
-use Rattle.sml_modules.specs.Graphs.{Graph, env_at, structure_rows, type_rows}
+use Rattle.sml_modules.specs.Graphs.{Graph, structure_rows, type_rows}
 use Rattle.sml_modules.specs.declared.parts.NamedType.{NamedType}
 use Rattle.sml_modules.proofs.Setting.{all_map}
 use Rattle.static_semantics.specs.BasicTypes.{unit_ty, int_ty}
@@ -40,7 +37,6 @@ use Rattle.type_phrases.specs.Inferred.{Answers, Refuses, home_scope}
 use Rattle.type_phrases.proofs.Steps.{refused}
 use Rattle.pattern_elab.specs.declared.own.OwnVariable.{OwnVariable}
 use Rattle.pattern_elab.specs.Scopes.{own_entry}
-use Rattle.declaration_ends.specs.Closed.{IsClosedEnv, AreClosedEnvs}
 use Rattle.declaration_ends.specs.Sizes.{AreAll, is_large_in, any_large, large_value, large_type, flag, any_flag}
 
 -- ---- one tree
@@ -251,7 +247,7 @@ larger a b = by_tests (ltb 65536 a) (ltb 65536 b) (ltb 65536 (max a b)) refl ref
         let m : max a b ≤ 65536 = ltb-false 65536 (max a b) g in absurd (omega (arith, k, m))
     by_tests false false false e f g = refl
 
-facts_large : (s : Substitution) (xs : List Tree) → (facts_of xs).has_free ≡ false
+pub facts_large : (s : Substitution) (xs : List Tree) → (facts_of xs).has_free ≡ false
     → ltb 65536 (facts_of xs).largest ≡ any_large s xs
 facts_large s [] h = refl
 facts_large s (x ∷ xs) h =
@@ -275,59 +271,10 @@ mutual
   same_trees (Env.MakeEnv ss ts vs) = ap₂ (λ (a b : List Tree). a ++ b) (same_structures ss)
       (ap₂ (λ (a b : List Tree). a ++ b) (same_types ts) (same_values vs))
 
-  same_structures : (ss : Structures) → structure_bodies ss ≡ types_in_structures ss
+  pub same_structures : (ss : Structures) → structure_bodies ss ≡ types_in_structures ss
   same_structures Structures.Nil = refl
   same_structures (Structures.Cons name env rest) =
       ap₂ (λ (a b : List Tree). a ++ b) (same_trees env) (same_structures rest)
-
-pub env_large : (g : Graph) (env : EnvId) (s : Substitution) (f : Facts) → f ≡ facts_of (types_in (env_at g env))
-    → IsClosedEnv g env → ltb 65536 f.largest ≡ any_large s (bodies (env_at g env))
-env_large g env s f e h =
-    ap (λ (x : Facts). ltb 65536 x.largest) e
-    ∙ facts_large s (types_in (env_at g env)) h.closed
-    ∙ ap (any_large s) (sym (same_trees (env_at g env)))
-
-structures_flagged : (s : Substitution) (table : Named Env)
-    → any_flag (map_rows (λ (e : Env). flag (any_large s (bodies e))) table)
-    ≡ any_large s (structure_bodies (structures_of table))
-structures_flagged s [] = refl
-structures_flagged s (row ∷ table) =
-    ap₂ (λ a b. a || b) (flag_is (any_large s (bodies row.1))) (structures_flagged s table)
-    ∙ sym (list_any-append (is_large_in s) (bodies row.1) (structure_bodies (structures_of table)))
-
-abbrev pub structure_flags : Substitution → Graph → List NamedEnv → Named ℕ
-structure_flags s g entries = map_rows (λ (e : Env). flag (any_large s (bodies e))) (structure_rows g entries)
-
-pub closed_next : (g : Graph) (items entries : List NamedEnv) (i : ℕ) (x : NamedEnv) → items ≡ entries
-    → i < length items → x ≡ get_or items i x → AreClosedEnvs g (drop i entries)
-    → IsClosedEnv g x.env × AreClosedEnvs g (drop (i + 1) entries)
-closed_next g items entries i x e h k all =
-    subst (AreClosedEnvs g) (subst (λ ys. drop i ys ≡ x ∷ drop (i + 1) ys) e
-    (drop_next i items x h ∙ ap (λ y. y ∷ drop (i + 1) items) (sym k))) all
-
-pub structure_noted : (s : Substitution) (g : Graph) (items entries : List NamedEnv) (i : ℕ) (x : NamedEnv)
-    (rows new : Named ℕ) (large : Bool) → items ≡ entries → i < length items → x ≡ get_or items i x
-    → large ≡ any_large s (bodies (env_at g x.env)) → new ≡ with_entry x.name (flag large) rows
-    → with_all (structure_flags s g (drop i entries)) rows ≡ with_all (structure_flags s g entries) []
-    → with_all (structure_flags s g (drop (i + 1) entries)) new ≡ with_all (structure_flags s g entries) []
-structure_noted s g items entries i x rows new large e h k l n inv =
-    let is : drop i entries ≡ x ∷ drop (i + 1) entries = subst (λ ys. drop i ys ≡ x ∷ drop (i + 1) ys) e
-    (drop_next i items x h ∙ ap (λ y. y ∷ drop (i + 1) items) (sym k)) in
-    ap (with_all (structure_flags s g (drop (i + 1) entries))) (n ∙ ap (λ b. with_entry x.name (flag b) rows) l)
-    ∙ ap (λ xs. with_all (structure_flags s g xs) rows) (sym is)
-    ∙ inv
-
-pub all_structures : (s : Substitution) (g : Graph) (items entries : List NamedEnv) (i : ℕ) (rows : Named ℕ) (b : Bool)
-    → items ≡ entries → length items ≤ i
-    → with_all (structure_flags s g (drop i entries)) rows ≡ with_all (structure_flags s g entries) []
-    → b ≡ any_flag rows
-    → b ≡ any_large s (structure_bodies (structures_of (with_all (structure_rows g entries) [])))
-all_structures s g items entries i rows b e h inv k =
-    let end : drop i entries ≡ [] = subst (λ ys. drop i ys ≡ []) e (drop_past i items h) in
-    k
-    ∙ ap any_flag (ap (λ xs. with_all (structure_flags s g xs) rows) (sym end) ∙ inv
-    ∙ all_map (λ (x : Env). flag (any_large s (bodies x))) (structure_rows g entries) [])
-    ∙ structures_flagged s (with_all (structure_rows g entries) [])
 
 -- ---- the whole
 

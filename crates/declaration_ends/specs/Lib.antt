@@ -1,3 +1,3 @@
 pub mod Leaving
 pub mod Sizes
-pub mod Closed
+pub mod Structures

@@ -5,6 +5,7 @@ mod leaving;
 mod made;
 mod passed;
 mod sizes;
+mod structures;
 
 pub use leaving::within_let;
 pub use made::sized_made;

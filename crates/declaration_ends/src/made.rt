@@ -3,25 +3,23 @@
 ghost use Rattle.std.specs.Prelude.{◌≡◌, [], eqb, IfOk, OnOk};
 ghost use Rattle.std.specs.List.{list_any};
 ghost use Rattle.semantic_objects.specs.Tables.{with_entry, with_all};
-ghost use Rattle.semantic_objects.specs.Environments.{structures_of};
-ghost use Rattle.unification.specs.Types.{Substitution};
-ghost use Rattle.sml_modules.specs.Graphs.{env_at, structure_rows, type_rows};
+ghost use Rattle.sml_modules.specs.Graphs.{HasEnvs, type_rows};
 ghost use Rattle.type_nodes.specs.Tables.{state};
-ghost use Rattle.static_semantics.specs.Inferring.{bodies, structure_bodies, type_bodies, value_bodies, sized_dec};
+ghost use Rattle.static_semantics.specs.Inferring.{type_bodies, value_bodies, sized_dec};
 ghost use Rattle.core_scopes.specs.Scopes.{entry_of};
 ghost use Rattle.core_scopes.specs.Marks.{env_of_made, value_rows};
 ghost use Rattle.type_phrases.specs.Inferred.{Answers, home_scope, progress};
 ghost use Rattle.pattern_elab.specs.Scopes.{own_entry};
-ghost use Rattle.declaration_ends.specs.Closed.{IsClosedEnv, AreClosedEnvs};
-ghost use Rattle.declaration_ends.specs.Sizes.{any_large, large_type, large_value, flag, any_flag};
+ghost use Rattle.declaration_ends.specs.Sizes.{any_large, large_value, flag, any_flag};
 
-use crate::sizes::is_large;
+use crate::sizes::{is_large, is_large_type};
+use crate::structures::any_structure_large;
 use cm_base::{Fault, List, NoMemory, Text};
 use core_scopes::{Made, NamedInScope, ValueInScope};
 use env_parts::Rows;
 use pattern_elab::{OwnVariable, refuse};
-use semantic_objects::{TyId, TypeStr};
-use sml_modules::{EnvGraph, EnvId, NamedEnv, NamedType};
+use semantic_objects::TyId;
+use sml_modules::{EnvGraph, NamedType};
 use sml_trees::At;
 use sml_types::TypeTable;
 use std::alloc::Global;
@@ -51,29 +49,6 @@ fn is_large_value(
             Ok(counted > 65_536)
         }
     }
-}
-
-/// Whether a type of a type structure is too large: that of its type function or one of its constructors.
-fn is_large_type(alloc: Global, t: &mut TypeTable, entry: &TypeStr) -> Result<bool, NoMemory>
-    ensures large { IfOk result (λ large. large ≡ large_type (state t.old).stands entry.now) }
-    ensures same { t.new ≡ t.old }
-{
-    let large = is_large(
-        alloc,
-        t,
-        entry.function.arity as usize,
-        &entry.function.body,
-    )?;
-    if large {
-        return Ok(true);
-    }
-    for con in entry.cons.as_slice() {
-        let large = is_large(alloc, t, con.scheme.marks().len(), con.scheme.body())?;
-        if large {
-            return Ok(true);
-        }
-    }
-    Ok(false)
 }
 
 /// A fact as a number.
@@ -147,34 +122,10 @@ fn any_type_large(
     any_noted(alloc, &rows)
 }
 
-/// Whether a type in an environment without variables of the table is too large. Nothing is gone through.
-fn is_large_env(g: &EnvGraph, env: EnvId) -> bool
-    requires { IsClosedEnv g.now env }
-    ensures { (s : Substitution) → result ≡ any_large s (bodies (env_at g.now env)) }
-{
-    g.facts(env).largest > 65_536
-}
-
-/// Whether a type in the structures is too large that stand under their names at last.
-fn any_structure_large(
-    alloc: Global,
-    g: &EnvGraph,
-    structures: &List<NamedEnv>,
-) -> Result<bool, NoMemory>
-    requires { AreClosedEnvs g.now structures.now }
-    ensures { IfOk result (λ large. (s : Substitution) → large
-        ≡ any_large s (structure_bodies (structures_of (with_all (structure_rows g.now structures.now) [])))) }
-{
-    let mut rows = Rows::new(alloc);
-    for named in structures.as_slice() {
-        note(&mut rows, &named.name, is_large_env(g, named.env))?;
-    }
-    any_noted(alloc, &rows)
-}
-
 /// The end of a declaration: 38 at its place where a type of what it made has more than 65,536 nodes as it is known now.
-/// Of two of one name the later counts. In the structures that it made stands no variable of a table; `facts` of the
-/// graph tells it. The table is as it was. Each tree is gone through once and not above the limit, and no structure is.
+/// Of two of one name the later counts. The table is as it was. Each tree is gone through once and not above the limit,
+/// and each part of a structure at most once, however often it is shared; one in which no variable of a table stands isn't
+/// gone through.
 pub fn sized_made(
     alloc: Global,
     g: &EnvGraph,
@@ -182,13 +133,13 @@ pub fn sized_made(
     at: At,
     made: &Made<OwnVariable>,
 ) -> Result<(), Fault>
-    requires { AreClosedEnvs g.now made.now.structures }
+    requires { HasEnvs g.now made.now.structures }
     ensures answer { Answers
         (sized_dec (home_scope g.now) at (env_of_made g.now own_entry made.now, progress t.old g.now))
         (λ (done : Unit {0}). (env_of_made g.now own_entry made.now, progress t.old g.now)) result }
     ensures same { t.new ≡ t.old }
 {
-    let large = any_structure_large(alloc, g, &made.structures)?;
+    let large = any_structure_large(alloc, g, t, &made.structures)?;
     if large {
         return Err(refuse(alloc, g, 38, at));
     }

@@ -6,11 +6,11 @@ ghost use Rattle.type_nodes.specs.Facts.{capped};
 ghost use Rattle.type_nodes.specs.Tables.{state};
 ghost use Rattle.static_semantics.specs.Inferring.{seen, is_too_large};
 ghost use Rattle.type_phrases.specs.Inferred.{KeepsTypes};
-ghost use Rattle.declaration_ends.specs.Sizes.{AreAll};
+ghost use Rattle.declaration_ends.specs.Sizes.{AreAll, large_type};
 
 use cm_base::{List, NoMemory};
 use pattern_elab::int_type;
-use semantic_objects::{TyId, TypeFn, TypeTree};
+use semantic_objects::{TyId, TypeFn, TypeStr, TypeTree};
 use sml_types::TypeTable;
 use std::alloc::Global;
 
@@ -68,4 +68,31 @@ pub(crate) fn is_large(
 {
     let counted = size_of(alloc, t, count, tree)?;
     Ok(counted > 65_536)
+}
+
+/// Whether a type of a type structure is too large: that of its type function or one of its constructors.
+pub(crate) fn is_large_type(
+    alloc: Global,
+    t: &mut TypeTable,
+    entry: &TypeStr,
+) -> Result<bool, NoMemory>
+    ensures large { IfOk result (λ large. large ≡ large_type (state t.old).stands entry.now) }
+    ensures same { t.new ≡ t.old }
+{
+    let large = is_large(
+        alloc,
+        t,
+        entry.function.arity as usize,
+        &entry.function.body,
+    )?;
+    if large {
+        return Ok(true);
+    }
+    for con in entry.cons.as_slice() {
+        let large = is_large(alloc, t, con.scheme.marks().len(), con.scheme.body())?;
+        if large {
+            return Ok(true);
+        }
+    }
+    Ok(false)
 }

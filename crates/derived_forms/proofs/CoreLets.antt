@@ -62,7 +62,7 @@ use Rattle.bare_forms.specs.Signatures.{bare_sig, bare_sig_bind}
 use Rattle.bare_forms.specs.Runs.{Part, run_of}
 use Rattle.bare_forms.specs.RunValues.{part_value}
 use Rattle.bare_forms.specs.Nodes.{rule, field, constant_exp, long_pat, long_exp, unit_exp, pair_exp, exp_fields_from, case_exp, if_exp, or_else, and_also, then_exp, while_call, while_body, while_dec, while_exp, cons_exp, rest_exp, items_exp, list_exp, sequence_from, sequence_exp, body_exp, joined_exp, applied_exp, missing_exp, arg_text, subject_fields, subject_exp, args_pat, clause_rule, arg_fn, curried, fun_of, fun_rule}
-use Rattle.bare_forms.specs.Expressions.{PlacedDec, result_exp, plain_rules, rec_binds, rec_rules, rule_of, decs_of, sequence_dec, first_at, dec_level, exp_level, exp_item_level, clause_level, exp_field_level, fun_bind_level, rule_level, val_bind_level, bare_dec, bare_exp, bare_item, bare_clause, bare_field, bare_fun_bind, bare_rule, bare_val_bind}
+use Rattle.bare_forms.specs.Expressions.{PlacedDec, result_exp, plain_rules, rec_binds, rec_rules, rule_of, decs_of, sequence_dec, dec_level, exp_level, exp_item_level, clause_level, exp_field_level, fun_bind_level, rule_level, val_bind_level, bare_dec, bare_exp, bare_item, bare_clause, bare_field, bare_fun_bind, bare_rule, bare_val_bind}
 use Rattle.bare_forms.specs.Structures.{sealed, str_dec_level, str_level, str_bind_level, bare_str_dec, bare_str, bare_str_bind}
 use Rattle.bare_forms.specs.Units.{param_text, opening, functor_of, bare_functor, bare_topdec, bare_of}
 use Rattle.bare_forms.proofs.RunFusion.{run-value}
@@ -719,9 +719,9 @@ str_parts (FullStrExp-F.Named long at) = core-str_Named long at
 str_parts (FullStrExp-F.Transparent inner g at) = core-str_Transparent (bare_str inner.0).str (bare_sig g) at inner.1
 str_parts (FullStrExp-F.Opaque inner g at) = core-str_Opaque (bare_str inner.0).str (bare_sig g) at inner.1
 str_parts (FullStrExp-F.Functor name arg at) = core-str_Functor name (bare_str arg.0).str at arg.1
-str_parts (FullStrExp-F.FunctorOfDecs name decs at) =
-    core-str_Functor name (str.Struct (sequence_dec (first_at at (map bare_str_dec (map (λ h. h.0) decs))) (map bare_str_dec (map (λ h. h.0) decs))) (first_at at (map bare_str_dec (map (λ h. h.0) decs)))) at
-    (core-str_Struct (sequence_dec (first_at at (map bare_str_dec (map (λ h. h.0) decs))) (map bare_str_dec (map (λ h. h.0) decs))) (first_at at (map bare_str_dec (map (λ h. h.0) decs))) (lets-Sequence (flat_map decs_of (map bare_str_dec (map (λ h. h.0) decs))) (first_at at (map bare_str_dec (map (λ h. h.0) decs))) (each-flat LetsD decs_of (map bare_str_dec (map (λ h. h.0) decs)) (each-map (λ d. Each LetsD (decs_of d)) bare_str_dec (map (λ h. h.0) decs) (each-held (λ x. StrDecIs x) decs)))))
+str_parts (FullStrExp-F.FunctorOfDecs name decs begin at) =
+    core-str_Functor name (str.Struct (sequence_dec begin (map bare_str_dec (map (λ h. h.0) decs))) begin) at
+    (core-str_Struct (sequence_dec begin (map bare_str_dec (map (λ h. h.0) decs))) begin (lets-Sequence (flat_map decs_of (map bare_str_dec (map (λ h. h.0) decs))) begin (each-flat LetsD decs_of (map bare_str_dec (map (λ h. h.0) decs)) (each-map (λ d. Each LetsD (decs_of d)) bare_str_dec (map (λ h. h.0) decs) (each-held (λ x. StrDecIs x) decs)))))
 str_parts (FullStrExp-F.Within decs inner at) =
     core-str_Within (sequence_dec at (map bare_str_dec (map (λ h. h.0) decs))) (bare_str inner.0).str at (lets-Sequence (flat_map decs_of (map bare_str_dec (map (λ h. h.0) decs))) at (each-flat LetsD decs_of (map bare_str_dec (map (λ h. h.0) decs)) (each-map (λ d. Each LetsD (decs_of d)) bare_str_dec (map (λ h. h.0) decs) (each-held (λ x. StrDecIs x) decs)))) inner.1
 

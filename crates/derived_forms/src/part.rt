@@ -16,8 +16,7 @@ use phrase_forms::bare::to_list;
 use phrase_forms::pat::{to_pat, to_pats};
 use phrase_forms::ty::to_ty;
 use sml_trees::{
-    At, Dec, Exp, FullDatBind, FullDec, FullExBind, FullExp, FullHead, FullPat, FullTy,
-    FullTypBind, Name,
+    At, Dec, Exp, FullDatBind, FullExBind, FullExp, FullHead, FullPat, FullTy, FullTypBind, Name,
 };
 use std::alloc::Global;
 
@@ -121,26 +120,6 @@ pub fn exceptions_dec(
     ensures { IfOk result (λ made. made ≡ dec.Exceptions (map bare_ex_bind binds.now) at ∷ []) }
 {
     one(alloc, Dec::Exceptions(to_list(alloc, binds)?, at))
-}
-
-/// Where a declaration stands.
-#[tactic(auto, using(bare_forms::proofs::ExpLevels::dec_forms))]
-pub fn place_of_dec(dec: &FullDec) -> At
-    ensures { result ≡ (spec.bare_dec dec.now).at }
-{
-    match dec {
-        FullDec::Val(_, _, at) => *at,
-        FullDec::Fun(_, _, at) => *at,
-        FullDec::Types(_, at) => *at,
-        FullDec::Datatypes(_, at) => *at,
-        FullDec::Replication(_, _, at) => *at,
-        FullDec::Exceptions(_, at) => *at,
-        FullDec::Local(_, _, at) => *at,
-        FullDec::Open(_, at) => *at,
-        FullDec::Infix(_, _, at) => *at,
-        FullDec::Infixr(_, _, at) => *at,
-        FullDec::Nonfix(_, at) => *at,
-    }
 }
 
 /// Where an expression is written.

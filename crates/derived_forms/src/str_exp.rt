@@ -5,7 +5,6 @@ ghost use Rattle.bare_forms.specs.Expressions as exps;
 ghost use Rattle.bare_forms.specs.Structures as spec;
 
 use crate::exp::to_dec;
-use crate::part::place_of_dec;
 use bare_forms::held::{appended, both, with};
 use bare_forms::name::{copy_long, copy_name};
 use bare_forms::placed::PlacedStr;
@@ -46,28 +45,6 @@ fn str_bind_of(
     Ok(StrBind { name, body })
 }
 
-/// Where the first declaration stands.
-fn first_dec(at: At, decs: &[FullStrDec]) -> At
-    ensures { result ≡ exps.first_at at (map spec.bare_str_dec decs.now) }
-{
-    match decs {
-        [] => at,
-        [first, ..] => place_of_str_dec(first),
-    }
-}
-
-/// Where a declaration stands.
-#[tactic(auto, using(bare_forms::proofs::StrLevels::str_dec_forms))]
-fn place_of_str_dec(dec: &FullStrDec) -> At
-    ensures { result ≡ (spec.bare_str_dec dec.now).at }
-{
-    match dec {
-        FullStrDec::Core(dec) => place_of_dec(dec),
-        FullStrDec::Structures(_, at) => *at,
-        FullStrDec::Local(_, _, at) => *at,
-    }
-}
-
 /// Where a structure expression is written.
 #[tactic(auto, using(bare_forms::proofs::StrLevels::str_forms))]
 pub fn place_of_str(str: &FullStrExp) -> At
@@ -79,7 +56,7 @@ pub fn place_of_str(str: &FullStrExp) -> At
         FullStrExp::Transparent(_, _, at) => *at,
         FullStrExp::Opaque(_, _, at) => *at,
         FullStrExp::Functor(_, _, at) => *at,
-        FullStrExp::FunctorOfDecs(_, _, at) => *at,
+        FullStrExp::FunctorOfDecs(_, _, _, at) => *at,
         FullStrExp::Within(_, _, at) => *at,
     }
 }
@@ -140,9 +117,8 @@ pub fn to_str(alloc: Global, str: &FullStrExp) -> Result<StrExp, NoMemory>
         FullStrExp::Functor(name, arg, at) => {
             functor_str(alloc, *at, name, to_str(alloc, arg.get())?)
         }
-        FullStrExp::FunctorOfDecs(name, decs, at) => {
-            let begin = first_dec(*at, decs.as_slice());
-            let arg = struct_of(alloc, begin, to_str_decs(alloc, begin, decs.as_slice())?)?;
+        FullStrExp::FunctorOfDecs(name, decs, begin, at) => {
+            let arg = struct_of(alloc, *begin, to_str_decs(alloc, *begin, decs.as_slice())?)?;
             functor_str(alloc, *at, name, arg)
         }
         FullStrExp::Within(decs, inner, at) => {

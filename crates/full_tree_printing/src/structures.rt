@@ -54,7 +54,9 @@ pub fn str_exp(to: &mut Printer, tree: &FullStrExp) {
         FullStrExp::Transparent(body, given, at) => sealed(to, body.get(), b":", given, *at),
         FullStrExp::Opaque(body, given, at) => sealed(to, body.get(), b":>", given, *at),
         FullStrExp::Functor(name, argument, at) => applied(to, name, argument.get(), *at),
-        FullStrExp::FunctorOfDecs(name, all, at) => applied_to_decs(to, name, all, *at),
+        FullStrExp::FunctorOfDecs(name, all, begin, at) => {
+            applied_to_decs(to, name, all, *begin, *at)
+        }
         FullStrExp::Within(all, body, at) => {
             to.begin(b"let", *at);
             to.put(b" ");
@@ -95,9 +97,9 @@ fn applied(to: &mut Printer, name: &Name, argument: &FullStrExp, at: At) {
 
 /// Adds a functor with declarations as its argument.
 #[cycle(full_str)]
-fn applied_to_decs(to: &mut Printer, name: &Name, all: &List<FullStrDec>, at: At) {
+fn applied_to_decs(to: &mut Printer, name: &Name, all: &List<FullStrDec>, begin: At, at: At) {
     to.leaf(name, at);
-    to.put(b"(<");
-    str_decs(to, all);
-    to.put(b">)")
+    to.put(b"(");
+    structure(to, all, begin);
+    to.put(b")")
 }

@@ -1,12 +1,13 @@
 -- How structures are read, a step at a time.
 use Rattle.std.proofs.Common.{◌≡◌, ℕ, zero, suc, ◌+◌, ◌-◌, ◌<◌, ◌≤◌, List, [], ◌∷◌, Option, Some, None, Bool, true, false, Result, Ok, Err, refl, sym, ap, subst, ◌∙◌, drop, length, nat_lt, take, arith}
 use Rattle.std.proofs.lemmas.Bool.{lt-ltb}
-use Rattle.grammars.specs.Grammar.{Grammar, End, begins, head_or}
+use Rattle.grammars.specs.Grammar.{Grammar, End, ◌>>◌, begins, head_or}
 use Rattle.grammars.specs.Reading.{Out, chain, read}
 use Rattle.grammars.proofs.Complete.{goes, stops}
 use Rattle.grammars.proofs.Rounds.{many_go, many_end, not_longer}
 use Rattle.sml_lexer.specs.declared.lexeme.Lexeme.{Lexeme}
 use Rattle.sml_trees.specs.declared.full_str.FullStrExp.{FullStrExp}
+use Rattle.sml_trees.specs.declared.full_str.FullStrExp.TheVariants as t
 use Rattle.sml_trees.specs.declared.full_sig.FullSigExp.{FullSigExp}
 use Rattle.sml_trees.specs.declared.name.At.{At}
 use Rattle.sml_trees.specs.declared.name.Name.{Name}
@@ -18,16 +19,16 @@ use Rattle.phrase_reading.specs.declared.tall.Tall.{Tall}
 use Rattle.infix_names.specs.Fixities.{Fixities}
 use Rattle.core_bindings.specs.Decs.{Decs}
 use Rattle.phrase_reading.specs.Reads.{Stops}
-use Rattle.phrase_reading.specs.Words.{g, is, word}
+use Rattle.phrase_reading.specs.Words.{g, is, word, token}
 use Rattle.phrase_reading.specs.declared.stop.Stop.{Stop}
 use Rattle.phrase_reading.specs.declared.stop.Stop.TheVariants as stop
 use Rattle.phrase_reading.specs.declared.words.Word.TheVariants as w
 use Rattle.phrase_reading.proofs.NameSteps.{marked_go, marked_stop}
 use Rattle.core_expressions.proofs.DecSteps.{opened_go, opened_deep}
 use Rattle.infix_names.proofs.Kept.{kept_then}
-use Rattle.signature_parser.specs.Rounds.{next_begin}
+use Rattle.signature_parser.specs.Rounds.{next_begin, if_begins}
 use Rattle.module_parser.specs.StrLevels.{str_level, str_below}
-use Rattle.module_parser.specs.Structures.{StrLevel, starts_str, if_str, next_str, str, seal_behind, maybe_seal, str_within, str_dec_of, str_dec_word, is_str_round, str_round, str_decs_from, of_str, of_decs, argument, seals_on, if_seal, next_seal, seals, seal_of}
+use Rattle.module_parser.specs.Structures.{StrLevel, starts_str, if_str, next_str, str, seal_behind, maybe_seal, str_within, str_dec_of, str_dec_word, is_str_round, str_round, str_decs_from, str_decs_behind, no_str_decs, of_str, of_decs, of_strdec, first_at, argument, seals_on, if_seal, next_seal, seals, seal_of}
 use Rattle.signature_parser.specs.declared.joined.Joined.{Joined}
 use Rattle.signature_parser.proofs.SigSteps.{begin_go, begin_end, begin_kept, begin_stops, begin_left}
 
@@ -131,17 +132,47 @@ argument_go parts fs called place x (y ∷ xs) h = by_test (starts_str y) refl h
 
 pub argument_stop : (parts : StrLevel) (fs : Fixities) (called : Name) (place : At) (xs : List Lexeme)
     → next_str (head_or xs None) ≡ None
-    → read (argument parts fs called place) xs ≡ read (of_decs parts fs called place) xs
+    → read (argument parts fs called place) xs ≡ read (of_strdec parts fs called place) xs
 unfolding argument
 argument_stop parts fs called place [] h = refl
 argument_stop parts fs called place (y ∷ xs) h = by_test (starts_str y) refl h
   where
     by_test : (b : Bool) → starts_str y ≡ b → if_str b y ≡ None
-        → read (argument parts fs called place) (y ∷ xs) ≡ read (of_decs parts fs called place) (y ∷ xs)
+        → read (argument parts fs called place) (y ∷ xs) ≡ read (of_strdec parts fs called place) (y ∷ xs)
     by_test true fact h = absurd (cc)
     by_test false fact h = stops (starts_str y) _ _ fact
 
 pub ruleset argument_steps = (argument_go, argument_stop)
+
+-- ---- the declarations of an argument
+
+abbrev closed : Name → At → At → Out Lexeme (Decs FullStrDec) → Out Lexeme (Tall FullStrExp)
+closed called begin place o =
+    chain o (λ inner rest. read (token w.Close
+    >> Grammar.pure (record { tree = t.FunctorOfDecs called inner.decs begin place; height = inner.height + 1 })) rest)
+
+pub strdec_is : (n : ℕ) (fs : Fixities) (called : Name) (place : At) (xs : List Lexeme)
+    → read (of_strdec (str_level n) fs called place) xs
+    ≡ read (of_decs ((str_level n).decs fs) called (first_at (next_begin is_str_round (head_or xs None)) place) place) xs
+unfolding of_strdec of_decs str_decs_behind str_decs_from
+strdec_is n fs called place [] = refl
+strdec_is n fs called place (y ∷ xs) = by_test (is_str_round (word y)) refl
+  where
+    by_test : (b : Bool) → is_str_round (word y) ≡ b
+        → read (of_strdec (str_level n) fs called place) (y ∷ xs)
+        ≡ closed called (first_at (if_begins b y) place) place (read ((str_level n).decs fs) (y ∷ xs))
+    by_test true fact =
+        goes (is_str_round (word y)) _ _ fact
+        ∙ ap (closed called (first_at (Some y) place) place)
+        (sym (begin_go is_str_round (str_round n (str_below n)) (no_str_decs fs) y (y ∷ xs)
+        (ap (λ (b : Bool). if_begins b y) fact)))
+    by_test false fact =
+        stops (is_str_round (word y)) _ _ fact
+        ∙ ap (closed called (first_at None place) place)
+        (sym (begin_end is_str_round (str_round n (str_below n)) (no_str_decs fs) (y ∷ xs)
+        (ap (λ (b : Bool). if_begins b y) fact)))
+
+pub ruleset strdec_steps = (strdec_is)
 
 -- ---- signatures behind structure expressions
 

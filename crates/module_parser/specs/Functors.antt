@@ -23,14 +23,14 @@ use Rattle.sml_trees.specs.declared.name.Name.{Name}
 use Rattle.phrase_reading.specs.Names.{if_taken}
 use Rattle.infix_names.specs.Fixities.{initial}
 use Rattle.phrase_reading.specs.Sized.{part}
-use Rattle.phrase_reading.specs.Words.{g, word, at, named, token}
+use Rattle.phrase_reading.specs.Words.{g, word, named, token}
 use Rattle.phrase_reading.specs.declared.tall.Tall.{Tall}
 use Rattle.phrase_reading.specs.declared.words.Word.TheVariants as w
 use Rattle.signature_parser.specs.Joined.{module_name_of, module_name, alone}
 use Rattle.signature_parser.specs.SigLevels.{sig_level, sig_below}
 use Rattle.signature_parser.specs.Specifications.{is_spec_round, spec_round, specs_from, no_specs}
 use Rattle.module_parser.specs.StrLevels.{str_level}
-use Rattle.module_parser.specs.Structures.{maybe_seal, str}
+use Rattle.module_parser.specs.Structures.{first_at, maybe_seal, str}
 use Rattle.signature_parser.specs.declared.joined.Joined.{Joined}
 
 -- strid : sigexp, behind the name
@@ -42,8 +42,7 @@ named_param n called = do
 
 -- where specifications begin: at this lexeme, or at the functor's name where there are none
 abbrev pub begin_at : Option Lexeme → Name → At
-begin_at (Some x) functor = at x
-begin_at None functor = record { line = functor.line; col = functor.col }
+begin_at x functor = first_at x (record { line = functor.line; col = functor.col })
 
 -- specifications from this first lexeme on
 unfoldable pub specs_at : ℕ → Name → Lexeme → g (Tall FullParam)

@@ -2,12 +2,13 @@
 -- less.
 use Rattle.std.specs.Prelude.{ℕ, zero, suc}
 use Rattle.grammars.specs.Grammar.Grammar.{refuse}
-use Rattle.module_parser.specs.Structures.{StrLevel, str_behind, str_decs_of}
+use Rattle.module_parser.specs.Structures.{StrLevel, str_behind, str_decs_of, str_decs_behind}
 
 abbrev pub str_level_of : ℕ → StrLevel → StrLevel
 str_level_of n parts = record {
   str_after = str_behind n parts;
   decs = str_decs_of n parts;
+  decs_behind = str_decs_behind n parts;
 }
 
 -- Nothing is read where no level is left: the lexeme before it opens one too many.
@@ -15,6 +16,7 @@ abbrev pub no_str_level : StrLevel
 no_str_level = record {
   str_after = λ fs x. refuse;
   decs = λ fs. refuse;
+  decs_behind = λ fs x. refuse;
 }
 
 -- the phrases of one level less than so many

@@ -54,6 +54,8 @@ pub record StrLevel : Type 1 where
   pub str_after : Fixities → Lexeme → g (Joined FullStrExp)
   -- declarations and semicolons, none or more
   pub decs : Fixities → g (Decs FullStrDec)
+  -- declarations and semicolons from this first lexeme on, behind it
+  pub decs_behind : Fixities → Lexeme → g (Decs FullStrDec)
 
 -- whether a structure expression begins with the lexeme
 abbrev pub starts_str : Lexeme → Bool
@@ -67,6 +69,16 @@ if_str false x = None
 abbrev pub next_str : Option Lexeme → Option Lexeme
 next_str None = None
 next_str (Some x) = if_str (starts_str x) x
+
+-- whether a declaration begins with this word, or it is a semicolon
+abbrev pub is_str_round : Option Word → Bool
+is_str_round (Some w.Structure) = true
+is_str_round (Some w.Semicolon) = true
+is_str_round found = starts_dec_word found
+
+-- no declarations
+abbrev pub no_str_decs : Fixities → Decs FullStrDec
+no_str_decs fs = record { decs = []; fixities = fs; height = 0 }
 
 -- a structure expression
 abbrev pub str : StrLevel → Fixities → g (Joined FullStrExp)
@@ -127,17 +139,28 @@ of_str argument called place = do
   token w.Close
   pure (over (λ (argument : FullStrExp). t.Functor called argument place) found)
 
--- funid ( strdec ), behind the parenthesis
-unfoldable pub of_decs : StrLevel → Fixities → Name → At → g (Tall FullStrExp)
-of_decs parts fs called place = do
-  inner ← parts.decs fs
+-- funid ( strdec ), where these are the declarations and they begin there
+unfoldable pub of_decs : g (Decs FullStrDec) → Name → At → At → g (Tall FullStrExp)
+of_decs decs called begin place = do
+  inner ← decs
   token w.Close
-  pure (record { tree = t.FunctorOfDecs called inner.decs place; height = inner.height + 1 })
+  pure (record { tree = t.FunctorOfDecs called inner.decs begin place; height = inner.height + 1 })
+
+-- where what an argument holds begins: at this lexeme, or at the functor where there is nothing
+abbrev pub first_at : Option Lexeme → At → At
+first_at (Some x) functor = at x
+first_at None functor = functor
+
+-- funid ( strdec ), behind the parenthesis: the declarations begin at their first lexeme, which may be a semicolon
+unfoldable pub of_strdec : StrLevel → Fixities → Name → At → g (Tall FullStrExp)
+of_strdec parts fs called place =
+    on (λ x. is_str_round (word x)) (λ x. of_decs (parts.decs_behind fs x) called (first_at (Some x) place) place)
+    (of_decs (pure (no_str_decs fs)) called (first_at None place) place)
 
 -- a functor's argument, behind the parenthesis
 unfoldable pub argument : StrLevel → Fixities → Name → At → g (Tall FullStrExp)
 argument parts fs called place =
-    on starts_str (λ x. of_str (parts.str_after fs x) called place) (of_decs parts fs called place)
+    on starts_str (λ x. of_str (parts.str_after fs x) called place) (of_strdec parts fs called place)
 
 abbrev pub str_name : Lexeme → List (List ℕ) → Tall FullStrExp
 str_name x parts = leaf (t.Named (long_named x parts) (at x))
@@ -238,12 +261,6 @@ str_dec_word n parts fs x _ = core_dec n fs x
 abbrev pub str_dec_of : ℕ → StrLevel → Fixities → Lexeme → g (Decs FullStrDec)
 str_dec_of n parts fs x = opened n (str_dec_word n parts fs x (word x))
 
--- whether a declaration begins with this word, or it is a semicolon
-abbrev pub is_str_round : Option Word → Bool
-is_str_round (Some w.Structure) = true
-is_str_round (Some w.Semicolon) = true
-is_str_round found = starts_dec_word found
-
 -- one more declaration
 unfoldable pub next_str_dec : ℕ → StrLevel → Decs FullStrDec → Lexeme → g (Decs FullStrDec)
 next_str_dec n parts found x = do
@@ -260,4 +277,10 @@ str_decs_from n parts found = many (λ _ x. is_str_round (word x)) (str_round n 
 
 -- declarations and semicolons, none or more
 abbrev pub str_decs_of : ℕ → StrLevel → Fixities → g (Decs FullStrDec)
-str_decs_of n parts fs = str_decs_from n parts (record { decs = []; fixities = fs; height = 0 })
+str_decs_of n parts fs = str_decs_from n parts (no_str_decs fs)
+
+-- declarations and semicolons from this first lexeme on, behind it
+unfoldable pub str_decs_behind : ℕ → StrLevel → Fixities → Lexeme → g (Decs FullStrDec)
+str_decs_behind n parts fs x = do
+  first ← str_round n parts (no_str_decs fs) x
+  str_decs_from n parts first

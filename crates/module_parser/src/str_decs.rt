@@ -39,7 +39,7 @@ fn is_str_round(word: Option<Word>) -> bool
 }
 
 /// The next lexeme, if it begins a declaration in a structure or is a semicolon.
-fn next_str_dec<'a>(lexemes: &Lexemes<'a>) -> Option<&'a Lexeme>
+pub fn next_str_dec<'a>(lexemes: &Lexemes<'a>) -> Option<&'a Lexeme>
     ensures { option_copied result ≡ next_begin is_str_round (head_or lexemes.now.rest.now None) }
 {
     match lexemes.peek() {

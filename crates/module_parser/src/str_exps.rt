@@ -8,11 +8,12 @@ ghost use Rattle.phrase_reading.specs.Reads.{Reads};
 ghost use Rattle.phrase_reading.specs.Words.{is, at, made};
 ghost use Rattle.signature_parser.specs.Joined.{module_name_of};
 ghost use Rattle.module_parser.specs.StrLevels.{str_level};
-ghost use Rattle.module_parser.specs.Structures.{starts_str, str, str_bind, struct_str, let_str, of_str, of_decs, argument, str_name, str_named, str_atom, str_within, next_str};
+ghost use Rattle.module_parser.specs.Structures.{starts_str, str, str_bind, struct_str, let_str, of_str, of_decs, of_strdec, argument, first_at, is_str_round, str_name, str_named, str_atom, str_within, next_str};
 ghost use Rattle.signature_parser.specs.Joined.{alone};
+ghost use Rattle.signature_parser.specs.Rounds.{next_begin};
 
 use crate::seals::{maybe_seal, seals};
-use crate::str_decs::str_decs;
+use crate::str_decs::{next_str_dec, str_decs};
 use cm_base::{List, Text};
 use core_bindings::infix_decs::{is_strid, strid_of};
 use infix_names::fixity::Fixities;
@@ -200,7 +201,7 @@ fn argument(
         lexemes.take();
         return of_str(alloc, lexemes, fixities, levels, first, name, place);
     }
-    of_decs(alloc, lexemes, fixities, levels, name, place)
+    of_strdec(alloc, lexemes, fixities, levels, name, place)
 }
 
 /// `funid ( strexp )`, behind the first lexeme of the argument.
@@ -226,10 +227,20 @@ fn of_str(
     Ok(one_above(FullStrExp::Functor(name, found.tree, place), found.height)?)
 }
 
+/// Where declarations begin: at the next lexeme, or at the functor where there are none.
+fn begin_of(lexemes: &Lexemes<'_>, functor: At) -> At
+    ensures { result ≡ first_at (next_begin is_str_round (head_or lexemes.now.rest.now None)) functor }
+{
+    match next_str_dec(lexemes) {
+        Some(first) => lexeme::at(first),
+        None => functor,
+    }
+}
+
 /// `funid ( strdec )`, behind the parenthesis.
 #[cycle(strs)]
-#[tactic(auto, unfolding(crate::specs::Structures::of_decs))]
-fn of_decs(
+#[tactic(auto, using(crate::proofs::StrSteps::strdec_steps))]
+fn of_strdec(
     alloc: Global,
     lexemes: &mut Lexemes<'_>,
     fixities: &mut Fixities,
@@ -238,7 +249,27 @@ fn of_decs(
     place: At,
 ) -> Result<Tall<FullStrExp>, Stop>
     ensures same { OnOk result (fixities.new ≡ fixities.old) }
-    ensures reads { Reads (of_decs (str_level levels) fixities.old name place) lexemes.old.rest.now
+    ensures reads { Reads (of_strdec (str_level levels) fixities.old name place) lexemes.old.rest.now
+        result lexemes.new.rest.now }
+{
+    let begin = begin_of(lexemes, place);
+    of_decs(alloc, lexemes, fixities, levels, name, begin, place)
+}
+
+/// `funid ( strdec )`, behind the parenthesis, with the place where the declarations begin.
+#[cycle(strs)]
+#[tactic(auto, unfolding(crate::specs::Structures::of_decs))]
+fn of_decs(
+    alloc: Global,
+    lexemes: &mut Lexemes<'_>,
+    fixities: &mut Fixities,
+    levels: u32,
+    name: Name,
+    begin: At,
+    place: At,
+) -> Result<Tall<FullStrExp>, Stop>
+    ensures same { OnOk result (fixities.new ≡ fixities.old) }
+    ensures reads { Reads (of_decs ((str_level levels).decs fixities.old) name begin place) lexemes.old.rest.now
         result lexemes.new.rest.now }
 {
     let start = fixities.len();
@@ -246,7 +277,7 @@ fn of_decs(
     let (inner, ()) = both(inner, lexemes.expect(Word::Close))?;
     fixities.truncate(start);
     Ok(one_above(
-        FullStrExp::FunctorOfDecs(name, inner.tree, place),
+        FullStrExp::FunctorOfDecs(name, inner.tree, begin, place),
         inner.height,
     )?)
 }

@@ -53,11 +53,11 @@ str_repeats-Struct decs at =
     ap str_repeats (sym (full_str.rolls-Struct decs at))
     ∙ fold-roll-FullStrExp _ _ _ str_dec_level str_level str_bind_level (FullStrExp-F.Struct decs at)
 
-pub str_repeats-FunctorOfDecs : (name : Name) (decs : List FullStrDec) (at : At)
-    → str_repeats (full_str.FunctorOfDecs name decs at) ≡ all_repeats (map str_dec_repeats decs)
-str_repeats-FunctorOfDecs name decs at =
-    ap str_repeats (sym (full_str.rolls-FunctorOfDecs name decs at))
-    ∙ fold-roll-FullStrExp _ _ _ str_dec_level str_level str_bind_level (FullStrExp-F.FunctorOfDecs name decs at)
+pub str_repeats-FunctorOfDecs : (name : Name) (decs : List FullStrDec) (begin at : At)
+    → str_repeats (full_str.FunctorOfDecs name decs begin at) ≡ all_repeats (map str_dec_repeats decs)
+str_repeats-FunctorOfDecs name decs begin at =
+    ap str_repeats (sym (full_str.rolls-FunctorOfDecs name decs begin at))
+    ∙ fold-roll-FullStrExp _ _ _ str_dec_level str_level str_bind_level (FullStrExp-F.FunctorOfDecs name decs begin at)
 
 pub str_repeats-Within : (decs : List FullStrDec) (inner : FullStrExp) (at : At)
     → str_repeats (full_str.Within decs inner at) ≡ all_repeats (map str_dec_repeats decs) ++ str_repeats inner

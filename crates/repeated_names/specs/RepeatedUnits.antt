@@ -25,7 +25,7 @@ str_level (FullStrExp-F.Named long at) = []
 str_level (FullStrExp-F.Transparent inner sig at) = inner ++ sig_repeats sig
 str_level (FullStrExp-F.Opaque inner sig at) = inner ++ sig_repeats sig
 str_level (FullStrExp-F.Functor name arg at) = arg
-str_level (FullStrExp-F.FunctorOfDecs name decs at) = all_repeats decs
+str_level (FullStrExp-F.FunctorOfDecs name decs begin at) = all_repeats decs
 str_level (FullStrExp-F.Within decs inner at) = all_repeats decs ++ inner
 
 abbrev pub str_dec_level : FullStrDec-F (List At) (List At) Member → List At

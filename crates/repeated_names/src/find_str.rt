@@ -52,7 +52,7 @@ pub fn find_str(finder: &mut Finder, str: &FullStrExp) -> Result<(), NoMemory>
             find_sig(finder, sig)
         }
         FullStrExp::Functor(_, arg, _) => find_str(finder, arg.get()),
-        FullStrExp::FunctorOfDecs(_, decs, _) => find_str_decs(finder, decs.as_slice()),
+        FullStrExp::FunctorOfDecs(_, decs, _, _) => find_str_decs(finder, decs.as_slice()),
         FullStrExp::Within(decs, inner, _) => {
             find_str_decs(finder, decs.as_slice())?;
             find_str(finder, inner.get())

@@ -17,7 +17,7 @@ pub table_with : {A : Type 0} (R : A → Type 0) (name : List ℕ) (x : A) (tabl
 table_with {A} R name x table h k =
     ((sets_entries A).kept name x table k.0, rows_with R name x table h k.1)
 
-all_kept : {A : Type 0} (rows table : Table A) → IsTable table → IsTable (with_all rows table)
+pub all_kept : {A : Type 0} (rows table : Table A) → IsTable table → IsTable (with_all rows table)
 all_kept [] table h = h
 all_kept {A} (row ∷ rows) table h =
     all_kept rows (with_entry row.0 row.1 table) ((sets_entries A).kept row.0 row.1 table h)

@@ -15,7 +15,7 @@ use Rattle.sml_trees.specs.declared.exp.Dec.{Dec}
 use Rattle.sml_trees.specs.declared.exp.StrExp.TheVariants as str
 use Rattle.bare_forms.specs.declared.placed.PlacedStr.{PlacedStr}
 use Rattle.bare_forms.specs.Signatures.{bare_sig}
-use Rattle.bare_forms.specs.Expressions.{PlacedDec, placed_dec, decs_of, sequence_dec, first_at}
+use Rattle.bare_forms.specs.Expressions.{PlacedDec, placed_dec, decs_of, sequence_dec}
 use Rattle.bare_forms.specs.Structures.{sealed, bare_str_dec, bare_str, bare_str_bind}
 use Rattle.bare_forms.proofs.StrLevels.{bare_str_dec-Core, bare_str_dec-Structures, bare_str_dec-Local, bare_str-Struct, bare_str-Named, bare_str-Transparent, bare_str-Opaque, bare_str-Functor, bare_str-FunctorOfDecs, bare_str-Within, bare_str_bind-kept}
 use Rattle.tree_heights.specs.Heights.{highest, dec_height, str_height, sig_height, str_bind_height}
@@ -99,11 +99,11 @@ unfolding full_str
 full_str-Functor name arg at =
     made_str _ _ _ (bare_str-Functor name arg at) (node.str_height-Functor name (bare_str arg).str at)
 
-pub full_str-FunctorOfDecs : (name : Name) (decs : List FullStrDec) (at : At)
-    → full_str (wstr.FunctorOfDecs name decs at) ≡ suc (suc (str_decs_height decs))
-full_str-FunctorOfDecs name decs at =
-    made_str _ _ _ (bare_str-FunctorOfDecs name decs at)
-    (node.str_height-Functor name _ at ∙ ap suc (struct-height (first_at at (map bare_str_dec decs)) decs))
+pub full_str-FunctorOfDecs : (name : Name) (decs : List FullStrDec) (begin at : At)
+    → full_str (wstr.FunctorOfDecs name decs begin at) ≡ suc (suc (str_decs_height decs))
+full_str-FunctorOfDecs name decs begin at =
+    made_str _ _ _ (bare_str-FunctorOfDecs name decs begin at)
+    (node.str_height-Functor name _ at ∙ ap suc (struct-height begin decs))
 
 pub full_str-Within : (decs : List FullStrDec) (inner : FullStrExp) (at : At)
     → full_str (wstr.Within decs inner at) ≡ suc (max (str_decs_height decs) (full_str inner))

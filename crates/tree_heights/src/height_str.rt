@@ -68,7 +68,7 @@ pub fn str_height(alloc: Global, str: &FullStrExp) -> Result<usize, NoMemory>
             above(inner.max(sig_height(sig)?))
         }
         FullStrExp::Functor(_, arg, _) => above(str_height(alloc, arg.get())?),
-        FullStrExp::FunctorOfDecs(_, decs, _) => {
+        FullStrExp::FunctorOfDecs(_, decs, _, _) => {
             above(above(above(str_decs_height(alloc, decs.as_slice())?)?)?)
         }
         FullStrExp::Within(decs, inner, _) => {

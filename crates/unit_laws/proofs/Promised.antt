@@ -55,14 +55,14 @@ top_read good sealing (TopPhrase.Signatures binds at) h = h
 top_read good sealing (TopPhrase.Functors binds at) h = h
 top_read good sealing (TopPhrase.Funsigs binds at) h = h
 
-unit_read : (good : List ℕ → Bool) (sealing : Bool) (tops : List TopPhrase) → AllItems (TopSpelt good) tops
+pub unit_read : (good : List ℕ → Bool) (sealing : Bool) (tops : List TopPhrase) → AllItems (TopSpelt good) tops
     → AllItems (TopSpelt good) (read_unit sealing tops)
 unit_read good sealing [] h = tt
 unit_read good sealing (top ∷ tops) h = (top_read good sealing top h.0, unit_read good sealing tops h.1)
 
 -- ---- what is made of some nodes is made of more
 
-abbrev More : Nodes → Nodes → Type 0
+abbrev pub More : Nodes → Nodes → Type 0
 More q r = (c : Symbol) (parts : ℕ) → q c parts ≡ true → r c parts ≡ true
 
 env_more : (q r : Nodes) → More q r → (env : Env) → EnvOf q env → EnvOf r env
@@ -77,13 +77,13 @@ more_allowing names q r f (symbol.Name name) parts h =
     (λ e. or_right (is_listed name names && eqb parts name.arity) (r (symbol.Name name) parts)
     (f (symbol.Name name) parts e))
 
-signature_more : (q r : Nodes) → More q r → (sig : Signature) → SignatureOf q sig → SignatureOf r sig
+pub signature_more : (q r : Nodes) → More q r → (sig : Signature) → SignatureOf q sig → SignatureOf r sig
 signature_more q r f sig h = record {
   bound = h.bound;
   env = env_more (allowing sig.bound q) (allowing sig.bound r) (more_allowing sig.bound q r f) sig.env h.env;
 }
 
-functor_more : (q r : Nodes) → More q r → (fun : Functor) → FunctorOf q fun → FunctorOf r fun
+pub functor_more : (q r : Nodes) → More q r → (fun : Functor) → FunctorOf q fun → FunctorOf r fun
 functor_more q r f fun h = record {
   bound = h.bound;
   param = env_more _ _ (more_allowing fun.bound q r f) fun.param h.param;
@@ -91,7 +91,7 @@ functor_more q r f fun h = record {
   result = env_more _ _ (more_allowing (fun.bound ++ fun.further) q r f) fun.result h.result;
 }
 
-top_more : (q r : Nodes) → More q r → (top : Top) → TopOf q top → TopOf r top
+pub top_more : (q r : Nodes) → More q r → (top : Top) → TopOf q top → TopOf r top
 top_more q r f top h = record {
   env = env_more q r f top.env h.env;
   signatures = rows_more (SignatureOf q) (SignatureOf r) top.signatures (signature_more q r f) h.signatures;
@@ -99,7 +99,7 @@ top_more q r f top h = record {
   funsigs = rows_more (FunctorOf q) (FunctorOf r) top.funsigs (functor_more q r f) h.funsigs;
 }
 
-is_more : (good : List ℕ → Bool) (q r : Nodes) (top : Top) (st : Progress) → More q r → Admits good r
+pub is_more : (good : List ℕ → Bool) (q r : Nodes) (top : Top) (st : Progress) → More q r → Admits good r
     → IsOfTop good top st q → IsOfTop good top st r
 is_more good q r top st f a h = record {
   admits = a;
@@ -140,7 +140,7 @@ owner_is home owner.Basis h = absurd (cc)
 owner_is home (owner.«Unit» unit) h = ap owner.«Unit» (sym (text_is home unit h))
 owner_is home owner.Bound h = absurd (cc)
 
-known_below : (good : List ℕ → Bool) (home : List ℕ) (next : ℕ) (known : TyName → Bool) → AreKnown home next known
+pub known_below : (good : List ℕ → Bool) (home : List ℕ) (next : ℕ) (known : TyName → Bool) → AreKnown home next known
     → More (well_formed good known) (below_number home next)
 known_below good home next known h symbol.Arrow parts e = refl
 known_below good home next known h (symbol.Record labels) parts e = refl

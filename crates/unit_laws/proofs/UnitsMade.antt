@@ -37,7 +37,7 @@ labelled : {A B : Type 0} (Q : B → Type 0) (sc : Scope) (name : Name) (rows : 
 labelled Q sc name rows next h = given_where Q (is_some (entry name.text rows)) 40 sc (name_at name) next h
 
 -- with everything put in
-known_made : (good : List ℕ → Bool) (home : List ℕ) (top : Top) (st : Progress) (sc : Scope) (name : Name)
+pub known_made : (good : List ℕ → Bool) (home : List ℕ) (top : Top) (st : Progress) (sc : Scope) (name : Name)
     (r : Env × Progress) → ModMade good home top st r → Given (ModMade good home top st) (without_variables sc name r)
 known_made good home top st sc name r k =
     given_where (ModMade good home top st) (has_variable (known_env r.0 r.1)) 42 sc (name_at name) _
@@ -78,7 +78,7 @@ FromTable R good top made st q = IsOfTop good top st q × AllRows (R q) made
 abbrev TableOf : {A : Type 0} → (Nodes → A → Type 0) → Table A × Progress → Nodes → Type 0
 TableOf R r q = StateOf q r.1.types × AllRows (R q) r.0
 
-abbrev OneOf : {A : Type 0} → (Nodes → A → Type 0) → A × Progress → Nodes → Type 0
+abbrev pub OneOf : {A : Type 0} → (Nodes → A → Type 0) → A × Progress → Nodes → Type 0
 OneOf R r q = StateOf q r.1.types × R q r.0
 
 row_after : {A : Type 0} (R : Nodes → A → Type 0) (good : List ℕ → Bool) (q : Nodes) (top : Top) (made : Table A)
@@ -112,10 +112,10 @@ signatures_made good home top (SigBinds.Bind name sig rest) made st p h =
 -- ---- functors
 
 -- a signature for the parameter, open inside
-abbrev ParamOf : Signature → Signature × Progress → Nodes → Type 0
+abbrev pub ParamOf : Signature → Signature × Progress → Nodes → Type 0
 ParamOf param inside q = SignatureOf q param × OutOf inside q
 
-with_param : (good : List ℕ → Bool) (q : Nodes) (top : Top) (name : Name) (param : Signature)
+pub with_param : (good : List ℕ → Bool) (q : Nodes) (top : Top) (name : Name) (param : Signature)
     (inside : Signature × Progress) (st : Progress) → IsOfTop good top st q → ParamOf param inside q
     → IsOfTop good (top_with_param name inside.0.env top) inside.1 q
 with_param good q top name param inside st h k = record {
@@ -130,7 +130,7 @@ with_param good q top name param inside st h k = record {
   state = k.1.0;
 }
 
-body_made : (good : List ℕ → Bool) (depth : ℕ) (home : List ℕ) (top : Top) (bind : FunPhrase) (param : Signature)
+pub body_made : (good : List ℕ → Bool) (depth : ℕ) (home : List ℕ) (top : Top) (bind : FunPhrase) (param : Signature)
     (inside : Signature × Progress) (st : Progress) → FunSpelt good bind
     → IsReadyFor home (IsOfTop good top st) st.names
     → Makes home (IsOfTop good top st) st inside.1 (ParamOf param inside)
@@ -179,7 +179,7 @@ listed_back name [] ys h = h
 listed_back name (x ∷ xs) ys h = or_right (Rattle.semantic_objects.specs.Symbols.same_name name x)
     (is_listed name (xs ++ ys)) (listed_back name xs ys h)
 
-result_sig_made : (good : List ℕ → Bool) (home : List ℕ) (top : Top) (bind : FunsigPhrase) (param : Signature)
+pub result_sig_made : (good : List ℕ → Bool) (home : List ℕ) (top : Top) (bind : FunsigPhrase) (param : Signature)
     (inside : Signature × Progress) (st : Progress) → FunsigSpelt good bind
     → length inside.0.bound ≡ length param.bound
     → IsReadyFor home (IsOfTop good top st) st.names
@@ -217,7 +217,7 @@ result_sig_made good home top bind param inside st p same h k =
     )))
 
 -- the parameter of a binding
-param_made : (good : List ℕ → Bool) (home : List ℕ) (top : Top) (st : Progress) (p : Signature × Progress)
+pub param_made : (good : List ℕ → Bool) (home : List ℕ) (top : Top) (st : Progress) (p : Signature × Progress)
     → Makes home (FromSigs good top.signatures (core_scope home top) st) st p.1 (ClosedOf p)
     → Makes home (IsOfTop good top st) st (opened home p.0 p.1).1 (ParamOf p.0 (opened home p.0 p.1))
 param_made good home top st p k =
@@ -281,10 +281,10 @@ funsigs_made good home top (bind ∷ binds) made st p h =
 
 -- ---- the top level
 
-abbrev TopMade : (List ℕ → Bool) → List ℕ → Top → Progress → Top × Progress → Type 0
+abbrev pub TopMade : (List ℕ → Bool) → List ℕ → Top → Progress → Top × Progress → Type 0
 TopMade good home top st r = Makes home (IsOfTop good top st) st r.1 (OneOf TopOf r)
 
-top_made : (good : List ℕ → Bool) (depth : ℕ) (home : List ℕ) (top : Top) (dec : TopPhrase) (st : Progress)
+pub top_made : (good : List ℕ → Bool) (depth : ℕ) (home : List ℕ) (top : Top) (dec : TopPhrase) (st : Progress)
     → TopSpelt good dec → IsReadyFor home (IsOfTop good top st) st.names
     → Given (TopMade good home top st) (infer_top depth home top dec st)
 top_made good depth home top (TopPhrase.Structures binds at) st p h =
@@ -365,7 +365,7 @@ both_of q first second h k = record {
   funsigs = rows_with_all (FunctorOf q) second.funsigs first.funsigs k.funsigs h.funsigs;
 }
 
-after_dec : (good : List ℕ → Bool) (q : Nodes) (top : Top) (st : Progress) (r : Top × Progress) → IsOfTop good top st q
+pub after_dec : (good : List ℕ → Bool) (q : Nodes) (top : Top) (st : Progress) (r : Top × Progress) → IsOfTop good top st q
     → OneOf TopOf r q → IsOfTop good (top_with top r.0) r.1 q
 after_dec good q top st r h k = record { admits = h.admits; scope = both_of q top r.0 h.scope k.1; state = k.0 }
 

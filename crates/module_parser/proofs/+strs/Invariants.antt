@@ -49,20 +49,23 @@ decreases-str_exps::str_bind l = 16 * l.levels + 4
 abbrev pub decreases-str_decs::local_str : goal.decreases-str_decs::local_str
 decreases-str_decs::local_str l = 16 * l.levels + 4
 
+abbrev pub decreases-str_exps::of_strdec : goal.decreases-str_exps::of_strdec
+decreases-str_exps::of_strdec l = 16 * l.levels + 5
+
 abbrev pub decreases-str_exps::argument : goal.decreases-str_exps::argument
-decreases-str_exps::argument l = 16 * l.levels + 5
+decreases-str_exps::argument l = 16 * l.levels + 6
 
 abbrev pub decreases-str_decs::str_binds_from : goal.decreases-str_decs::str_binds_from
 decreases-str_decs::str_binds_from l = 16 * l.levels + 5
 
 abbrev pub decreases-str_exps::short_named : goal.decreases-str_exps::short_named
-decreases-str_exps::short_named l = 16 * l.levels + 6
+decreases-str_exps::short_named l = 16 * l.levels + 7
 
 abbrev pub decreases-str_decs::str_binds : goal.decreases-str_decs::str_binds
 decreases-str_decs::str_binds l = 16 * l.levels + 6
 
 abbrev pub decreases-str_exps::str_atom : goal.decreases-str_exps::str_atom
-decreases-str_exps::str_atom l = 16 * l.levels + 7
+decreases-str_exps::str_atom l = 16 * l.levels + 8
 
 abbrev pub decreases-str_decs::structures : goal.decreases-str_decs::structures
 decreases-str_decs::structures l = 16 * l.levels + 7

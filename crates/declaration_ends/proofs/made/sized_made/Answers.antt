@@ -17,7 +17,7 @@ returns-then-large-clause-answer c =
     c.refuse.result
     (or_left (any_large s (structures_of_made c.args.g.now made))
     (any_large s (types_of_made made) || any_large s (values_of_made made))
-    (sym (c.in_ok-large.ensures s) ∙ c.if-large.true)) c.refuse.ensures
+    (sym c.in_ok-large.ensures.large ∙ c.if-large.true)) c.refuse.ensures
 
 pub returns-then-large-2-clause-answer : goal.returns-then-large-2-clause-answer
 returns-then-large-2-clause-answer c =
@@ -29,7 +29,9 @@ returns-then-large-2-clause-answer c =
     (or_right (any_large s (structures_of_made c.args.g.now made))
     (any_large s (types_of_made made) || any_large s (values_of_made made))
     (or_left (any_large s (types_of_made made)) (any_large s (values_of_made made))
-    (sym c.in_ok-large-2.ensures.large ∙ c.if-large-2.true))) c.refuse-then-large-2.ensures
+    (sym (c.in_ok-large-2.ensures.large
+    ∙ ap (λ u. any_large (state u).stands (types_of_made c.args.made.now)) c.in_ok-large.ensures.same)
+    ∙ c.if-large-2.true))) c.refuse-then-large-2.ensures
 
 pub returns-then-large-3-clause-answer : goal.returns-then-large-3-clause-answer
 returns-then-large-3-clause-answer c =
@@ -42,14 +44,18 @@ returns-then-large-3-clause-answer c =
     (any_large s (types_of_made made) || any_large s (values_of_made made))
     (or_right (any_large s (types_of_made made)) (any_large s (values_of_made made))
     (sym (c.in_ok-large-3.ensures.large
-    ∙ ap (λ u. any_large (state u).stands (values_of_made c.args.made.now)) c.in_ok-large-2.ensures.same)
+    ∙ ap (λ u. any_large (state u).stands (values_of_made c.args.made.now))
+    (c.in_ok-large-2.ensures.same ∙ c.in_ok-large.ensures.same))
     ∙ c.if-large-3.true))) c.refuse-then-large-3.ensures
 
 pub returns-clause-answer : goal.returns-clause-answer
 returns-clause-answer c =
     made_sized c.args.g.now c.args.at c.args.made.now (progress c.args.t.now c.args.g.now) c.in_ok-large.large
-    c.in_ok-large-2.large c.in_ok-large-3.large (c.in_ok-large.ensures (state c.args.t.now).stands) c.if-large.false
-    c.in_ok-large-2.ensures.large c.if-large-2.false
+    c.in_ok-large-2.large c.in_ok-large-3.large c.in_ok-large.ensures.large c.if-large.false
+    (c.in_ok-large-2.ensures.large
+    ∙ ap (λ u. any_large (state u).stands (types_of_made c.args.made.now)) c.in_ok-large.ensures.same)
+    c.if-large-2.false
     (c.in_ok-large-3.ensures.large
-    ∙ ap (λ u. any_large (state u).stands (values_of_made c.args.made.now)) c.in_ok-large-2.ensures.same)
+    ∙ ap (λ u. any_large (state u).stands (values_of_made c.args.made.now))
+    (c.in_ok-large-2.ensures.same ∙ c.in_ok-large.ensures.same))
     c.if-large-3.false

@@ -3,7 +3,7 @@ use Rattle.type_nodes.specs.Tables.{state}
 use Rattle.static_semantics.specs.Inferring.{con_bodies}
 use Rattle.declaration_ends.specs.Sizes.{is_large_in}
 use Rattle.declaration_ends.proofs.Sizing.{any_here, any_behind, none_any, cons_next, cons_end}
-use Rattle.declaration_ends.proofs.made.is_large_type.Goals as goal
+use Rattle.declaration_ends.proofs.sizes.is_large_type.Goals as goal
 
 pub loop-con-init : goal.loop-con-init
 loop-con-init c =

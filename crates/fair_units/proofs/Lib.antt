@@ -1,0 +1,4 @@
+pub mod Shapes
+pub mod Envs
+pub mod Names
+pub mod Units
