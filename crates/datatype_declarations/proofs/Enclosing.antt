@@ -3,7 +3,7 @@ use Rattle.std.proofs.Common.{◌≡◌, ℕ, List, [], length, map, take, refl,
 use Rattle.std.proofs.lemmas.List.{take_all}
 use Rattle.semantic_objects.specs.declared.name.TyId.{TyId}
 use Rattle.semantic_objects.specs.declared.entry.ValueEntry.{ValueEntry}
-use Rattle.semantic_objects.specs.Tables.{Table as Named, with_all}
+use Rattle.semantic_objects.specs.Tables.{with_all}
 use Rattle.semantic_objects.specs.Environments.{Env, env_of}
 use Rattle.type_nodes.specs.Tables.{Table, type_of, state}
 use Rattle.bare_phrases.specs.PhraseOf.{dat_phrase}
@@ -54,6 +54,21 @@ keeps_after old now new h k =
           ∙ ap (λ (xs : List Item). as_top (at xs id.place)) h.items;
     }
 
+keeps_itself : (g : Graph) → Keeps g g
+keeps_itself g = record {
+  has_env = λ id h. h;
+  env = λ id h. refl;
+  has_signature = λ id h. h;
+  signature = λ id h. refl;
+  has_functor = λ id h. h;
+  functor = λ id h. refl;
+  has_top = λ id h. h;
+  top = λ id h. refl;
+}
+
+pub keeps_named : (old new : Graph) → MakesNames old new → Keeps old new
+keeps_named old new h = keeps_after old new new h (keeps_itself new)
+
 pub names_none : (g : Graph) → MakesNames g g
 names_none g = record { items = refl; home = refl; made = take_all (length g.made) g.made (omega arith) }
 
@@ -70,7 +85,7 @@ declares_given old now new env id h k = record {
 }
 
 -- what is wanted of the call in a scope
-abbrev wanted_of : (old : Graph) → Table → EnvId → List DatBind → Answer (Env × Progress)
+abbrev pub wanted_of : (old : Graph) → Table → EnvId → List DatBind → Answer (Env × Progress)
 wanted_of old t env binds =
     datatypes_of (outermost old.home (env_at old env)) reserved_constructors (map dat_phrase binds) (progress t old)
 

@@ -3,6 +3,7 @@
 ghost use Rattle.std.specs.Prelude.{◌≡◌, [], map, IfOk, OnErr};
 ghost use Rattle.semantic_objects.specs.declared.entry.ValueEntry.{ValueEntry};
 ghost use Rattle.type_nodes.specs.Tables.{Table};
+ghost use Rattle.sml_modules.specs.Graphs.{Keeps};
 ghost use Rattle.bare_phrases.specs.PhraseOf.{dat_phrase};
 ghost use Rattle.static_semantics.specs.BasicTypes.{reserved_constructors};
 ghost use Rattle.static_semantics.specs.DatatypeInference.{datatypes_of};
@@ -35,9 +36,9 @@ fn reserved(alloc: Global) -> Result<List<Text>, NoMemory>
 
 /// What a `datatype` declaration binds in a scope: each type with its constructors, and the constructors as values. It
 /// answers as `datatypes_in` does, with 34 at a constructor that is called `true`, `false`, `nil`, `::`, `ref` or `it`.
-/// Sizes aren't looked at. The types have the next names of the graph, in written order. The scope is left as it was, and
-/// so is the table after a refusal; the graph is after a diagnostic, and where memory lacks it may have made some of the
-/// names. The Definition of Standard ML (Revised), rules 17, 28 and 29, and sections 2.9 and 4.9.
+/// Sizes aren't looked at. The types have the next names of the graph, in written order, and all its ids stay what they
+/// were. The scope is left as it was, and so is the table after a refusal; the graph is after a diagnostic, and where
+/// memory lacks it may have made some of the names. The Definition of Standard ML (Revised), rules 17, 28 and 29, and sections 2.9 and 4.9.
 pub fn elab_datatypes<V: Copy + Drop>(
     alloc: Global,
     g: &mut EnvGraph,
@@ -53,6 +54,7 @@ pub fn elab_datatypes<V: Copy + Drop>(
     ensures ids { KeepsTypes t.old t.new }
     ensures refused { OnErr result (t.new ≡ t.old) }
     ensures names { MakesNames g.old g.new }
+    ensures keeps { Keeps g.old g.new }
     ensures graph { LeftByDiag result g.old g.new }
     ensures scope { scope.new ≡ scope.old }
 {
