@@ -8,6 +8,7 @@ ghost use Rattle.value_closing.specs.Groups.{groups_of};
 ghost use Rattle.core_rules.specs.Bindings.{IsBind, AreBinds};
 
 use crate::exp::elab_in_scope;
+use crate::ready::is_ready;
 use cm_base::{Fault, List};
 use core_rules::{joined, place_of_pat};
 use name_trails::NameTrail;
@@ -35,7 +36,7 @@ fn elab_bind(
 {
     let start = bound.len();
     let pat = elab_pat(alloc, g, t, scope, &rule.pat, bound)?;
-    t.is_kept();
+    is_ready(g, t, scope);
     let exp = elab_in_scope(alloc, g, t, scope, &rule.exp)?;
     joined(alloc, g, t, place_of_pat(&rule.pat), pat, exp)?;
     add_binding(alloc, g, scope, &rule.exp, bound, start, groups)?;
@@ -58,7 +59,7 @@ pub(crate) fn elab_binds(
         (groups_of groups.old) (groups_of groups.new) (moment g.new t.new scope.new) result }
 {
     for rule in rules {
-        t.is_kept();
+        is_ready(g, t, scope);
         elab_bind(alloc, g, t, scope, rule, bound, groups)?;
     }
     Ok(())

@@ -8,6 +8,7 @@ ghost use Rattle.core_rules.specs.Ready.{IsReadyAt, IsReadyBehind};
 ghost use Rattle.core_rules.specs.Declarations.{IsDeclared, IsDeclaredBehind};
 ghost use Rattle.core_rules.specs.Joined.{IsNothing, AreDeclared, AreEntered};
 
+use crate::ready::{is_ready, is_ready_behind};
 use crate::val::elab_val;
 use cm_base::Fault;
 use core_rules::{enter_behind, made_where, nothing_made};
@@ -48,7 +49,7 @@ pub(crate) fn elab_declared(
         }
         Dec::Local(hidden, shown, at) => {
             let before = elab_declared(alloc, g, t, scope, hidden.get())?;
-            t.is_kept();
+            is_ready_behind(g, t, scope, &before);
             let made = elab_shown(alloc, g, t, scope, before, shown.get())?;
             check_made(alloc, g, t, *at, made)
         }
@@ -74,6 +75,7 @@ fn elab_shown(
 {
     let before = scope.mark();
     enter_made(scope, made)?;
+    is_ready(g, t, scope);
     let result = elab_declared(alloc, g, t, scope, dec);
     scope.leave(before);
     result
@@ -116,7 +118,7 @@ fn elab_each(
         (moment g.new t.new scope.new) result }
 {
     for dec in decs {
-        t.is_kept();
+        is_ready(g, t, scope);
         let made = elab_declared(alloc, g, t, scope, dec)?;
         t.is_kept();
         enter_behind(alloc, scope, all, made)?;

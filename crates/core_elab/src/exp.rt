@@ -8,6 +8,7 @@ ghost use Rattle.core_rules.specs.Declarations.{IsBehind};
 ghost use Rattle.core_rules.specs.Expressions.{IsExp, IsUnder, IsMatch, IsTypedRule, HasFirst, AreExpFields, IsExpField, AreLabelled};
 
 use crate::declared::elab_declared;
+use crate::ready::{is_ready, is_ready_behind};
 use cm_base::Fault;
 use core_rules::{
     RuleType, apply, as_first, constrain, elab_char, elab_int, elab_long, elab_string,
@@ -49,7 +50,7 @@ pub(crate) fn elab_in_scope(
         }
         Exp::App(function, argument, at) => {
             let function = elab_in_scope(alloc, g, t, scope, function.get())?;
-            t.is_kept();
+            is_ready(g, t, scope);
             let argument = elab_in_scope(alloc, g, t, scope, argument.get())?;
             apply(alloc, g, t, *at, function, argument)
         }
@@ -59,7 +60,7 @@ pub(crate) fn elab_in_scope(
         }
         Exp::Handle(inner, rules, at) => {
             let id = elab_in_scope(alloc, g, t, scope, inner.get())?;
-            t.is_kept();
+            is_ready(g, t, scope);
             let handler = elab_match(alloc, g, t, scope, rules.as_slice())?;
             handle(alloc, g, t, *at, id, handler)
         }
@@ -74,7 +75,7 @@ pub(crate) fn elab_in_scope(
         Exp::Let(dec, body, at) => {
             let from = g.made();
             let made = elab_declared(alloc, g, t, scope, dec.get())?;
-            t.is_kept();
+            is_ready_behind(g, t, scope, &made);
             let to = g.made();
             let id = elab_body(alloc, g, t, scope, made, body.get())?;
             end_let(alloc, g, t, *at, from, to, id)
@@ -97,7 +98,7 @@ fn elab_fields(
 {
     let mut rows = NameTrail::new(alloc);
     for field in fields {
-        t.is_kept();
+        is_ready(g, t, scope);
         elab_field(alloc, g, t, scope, field, &mut rows)?;
     }
     Ok(rows)
@@ -139,7 +140,7 @@ fn elab_match(
 {
     let mut first = None;
     for rule in rules {
-        t.is_kept();
+        is_ready(g, t, scope);
         first = Some(elab_rule(alloc, g, t, scope, first, rule)?);
     }
     match_type(t, first)
@@ -182,6 +183,7 @@ fn elab_under(
 {
     let before = scope.mark();
     enter_variables(scope, bound)?;
+    is_ready(g, t, scope);
     let result = elab_in_scope(alloc, g, t, scope, exp);
     scope.leave(before);
     result
@@ -202,6 +204,7 @@ fn elab_body(
 {
     let before = scope.mark();
     enter_made(scope, made)?;
+    is_ready(g, t, scope);
     let result = elab_in_scope(alloc, g, t, scope, exp);
     scope.leave(before);
     result

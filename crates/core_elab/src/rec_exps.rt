@@ -9,6 +9,7 @@ ghost use Rattle.core_rules.specs.Ready.{IsReadyAt};
 ghost use Rattle.core_rules.specs.RecBindings.{IsRecExp, AreRecExps};
 
 use crate::exp::elab_in_scope;
+use crate::ready::{is_ready, is_there};
 use cm_base::{Fault, List};
 use core_rules::{joined, place_of_pat};
 use pattern_elab::CoreScope;
@@ -55,9 +56,10 @@ pub(crate) fn elab_rec_exps(
 {
     let mut left = types.as_slice();
     for rule in recs {
-        t.is_kept();
+        is_ready(g, t, scope);
         match left.split_first() {
             Some((ty, more)) => {
+                is_there(t, *ty);
                 elab_rec_exp(alloc, g, t, scope, rule, *ty)?;
                 left = more;
             }

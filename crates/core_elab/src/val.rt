@@ -9,6 +9,7 @@ ghost use Rattle.core_rules.specs.Ready.{IsReadyAt, IsReadyUnder};
 ghost use Rattle.core_rules.specs.Values.{AreRecsUnder, IsValUnder, IsVal};
 
 use crate::binds::elab_binds;
+use crate::ready::{are_there, is_ready, is_ready_under, is_since};
 use crate::rec_exps::elab_rec_exps;
 use cm_base::{Fault, List};
 use core_rules::enter_variables;
@@ -41,6 +42,7 @@ fn elab_recs_under(
 {
     let before = scope.mark();
     enter_variables(scope, bound)?;
+    is_ready(g, t, scope);
     let result = elab_rec_exps(alloc, g, t, scope, recs, types);
     scope.leave(before);
     result
@@ -71,8 +73,9 @@ fn elab_val_under(
     t.is_kept();
     let start = bound.len();
     let types = elab_rec_pats(alloc, g, t, scope, recs, &mut bound, &mut groups)?;
-    t.is_kept();
     let own_bound = variables_since(alloc, &bound, start)?;
+    is_ready_under(g, t, scope, &own_bound);
+    are_there(t, &types);
     elab_recs_under(alloc, g, t, scope, &own_bound, recs, &types)?;
     close_val(alloc, g, t, at, own, groups, since)
 }
@@ -96,7 +99,8 @@ pub(crate) fn elab_val(
     let since = t.mark();
     let before = scope.mark();
     let own = own_variables(alloc, g, t, scope, tyvars, binds, recs)?;
-    t.is_kept();
+    is_ready(g, t, scope);
+    is_since(&since, t);
     let result = elab_val_under(
         alloc,
         g,

@@ -115,17 +115,6 @@ pub exp::elab_match-returns : goal.exp::elab_match-returns
 exp::elab_match-returns t c =
     match_ends c.loop-rule.invariant c.loop-rule-test.false (c.match_type.ensures c.loop-rule.g)
 
-pub exp::elab_under-elab_in_scope-result-requires : goal.exp::elab_under-elab_in_scope-result-requires
-exp::elab_under-elab_in_scope-result-requires t c = (
-  search rules,
-  entered (moment c.args.g.now c.args.t.now c.args.scope.now)
-      (moment c.args.g.now c.args.t.now c.enter_variables.new.scope)
-      (under_bound (bound_of c.args.bound.now) (scope_at (moment c.args.g.now c.args.t.now c.args.scope.now)))
-      (c.in_ok-enter_variables.ensures.ok c.args.g.now).seen
-      ((c.in_ok-enter_variables.ensures.ok c.args.g.now).there c.args.t.now c.requires.core) c.requires.kept
-      c.requires.state,
-)
-
 pub exp::elab_in_scope-returns-in_err-function-in-App : goal.exp::elab_in_scope-returns-in_err-function-in-App
 exp::elab_in_scope-returns-in_err-function-in-App t c =
     passed c.from_residual-in_err-function-in-App.result c.in_err-function-in-App.field-0.0 c.from_residual-in_err-function-in-App.ensures.1
@@ -269,13 +258,6 @@ binds::elab_bind-returns-in_err-pat t c =
     (bind_first {m0 = moment c.args.g.now c.args.t.now c.args.scope.now}
     (pat_phrase (out-Rule c.args.rule.now).pat, exp_phrase (out-Rule c.args.rule.now).exp)
     (groups_of c.args.groups.now) c.requires.core c.in_err-pat.ensures))
-
-pub binds::elab_bind-elab_in_scope-requires : goal.binds::elab_bind-elab_in_scope-requires
-binds::elab_bind-elab_in_scope-requires t c = (
-  search rules,
-  table_later c.args.g.now c.args.t.now c.elab_pat.new.t c.args.scope.now c.requires c.is_kept.ensures
-      c.in_ok-pat.ensures.goes.ids,
-)
 
 pub binds::elab_bind-returns-in_err-exp : goal.binds::elab_bind-returns-in_err-exp
 binds::elab_bind-returns-in_err-exp t c =
@@ -484,38 +466,6 @@ val::elab_val-returns t c =
     (front_same c.args.scope.now c.own_variables.new.scope c.elab_val_under-result.new.scope
     c.in_ok-own.ensures.ok.front c.elab_val_under-result.ensures.left))
 
-pub exp::elab_in_scope-elab_match-requires : goal.exp::elab_in_scope-elab_match-requires
-exp::elab_in_scope-elab_match-requires t c = (
-  search rules,
-  later c.requires c.is_kept-in-Handle.ensures c.in_ok-id-in-Handle.ensures.goes
-      c.in_ok-id-in-Handle.ensures.left,
-)
-
-pub exp::elab_in_scope-elab_body-requires : goal.exp::elab_in_scope-elab_body-requires
-exp::elab_in_scope-elab_body-requires t c = (
-  search rules,
-  behind (dec_phrase c.get-in-Let.result.now) c.in_ok-made-in-Let.made c.requires
-      c.is_kept-in-Let.ensures c.in_ok-made-in-Let.ensures,
-)
-
-pub binds::elab_binds-elab_bind-requires : goal.binds::elab_binds-elab_bind-requires
-binds::elab_binds-elab_bind-requires t c = (
-  search rules,
-  later {old = moment c.args.g.now c.args.t.now c.args.scope.now} c.requires c.is_kept.ensures
-      c.loop-rule.invariant.goes c.loop-rule.invariant.same,
-)
-
-pub exp::elab_body-elab_in_scope-result-requires : goal.exp::elab_body-elab_in_scope-result-requires
-exp::elab_body-elab_in_scope-result-requires t c = (
-  search rules,
-  entered (moment c.args.g.now c.args.t.now c.args.scope.now)
-      (moment c.args.g.now c.args.t.now c.enter_made.new.scope)
-      (under (made_at (moment c.args.g.now c.args.t.now c.args.scope.now) c.args.made)
-      (scope_at (moment c.args.g.now c.args.t.now c.args.scope.now)))
-      (c.in_ok-enter_made.ensures.ok c.args.g.now c.requires.envs).seen
-      ((c.in_ok-enter_made.ensures.ok c.args.g.now c.requires.envs).there c.args.t.now c.requires.core) c.requires.kept c.requires.state,
-)
-
 pub exp::elab_body-returns : goal.exp::elab_body-returns
 exp::elab_body-returns t c =
     body_done c.args.made (exp_phrase c.args.exp.now) c.requires.core
@@ -524,17 +474,6 @@ exp::elab_body-returns t c =
     (c.leave.ensures c.args.scope.now c.mark-before.ensures.is
     (front_same c.args.scope.now c.enter_made.new.scope c.elab_in_scope-result.new.scope
     (c.in_ok-enter_made.ensures.ok c.args.g.now c.requires.envs).front c.elab_in_scope-result.ensures.left))
-
-pub declared::elab_shown-elab_declared-result-requires : goal.declared::elab_shown-elab_declared-result-requires
-declared::elab_shown-elab_declared-result-requires t c = (
-  search rules,
-  entered (moment c.args.g.now c.args.t.now c.args.scope.now)
-      (moment c.args.g.now c.args.t.now c.enter_made.new.scope)
-      (under (made_at (moment c.args.g.now c.args.t.now c.args.scope.now) c.args.made)
-      (scope_at (moment c.args.g.now c.args.t.now c.args.scope.now)))
-      (c.in_ok-enter_made.ensures.ok c.args.g.now c.requires.envs).seen
-      ((c.in_ok-enter_made.ensures.ok c.args.g.now c.requires.envs).there c.args.t.now c.requires.core) c.requires.kept c.requires.state,
-)
 
 pub declared::elab_shown-returns : goal.declared::elab_shown-returns
 declared::elab_shown-returns t c =
@@ -606,15 +545,12 @@ declared::elab_each-loop-dec-init t c =
     decs_begin (moment c.args.g.now c.args.t.now c.args.scope.now) (dec_phrases (map dec_phrase c.args.decs.now))
     c.args.all.now c.requires.scope c.requires.front c.requires.all
 
-pub declared::elab_each-elab_declared-requires : goal.declared::elab_each-elab_declared-requires
-declared::elab_each-elab_declared-requires t c = (search rules, decs_ready c.loop-dec.invariant c.is_kept.ensures)
-
 pub declared::elab_each-loop-dec-preserved : goal.declared::elab_each-loop-dec-preserved
 declared::elab_each-loop-dec-preserved t c =
     decs_next c.loop-dec.invariant
     (ap (λ (decs : List Dec). dec_phrases (map dec_phrase decs))
     (drop_item c.args.decs.now c.loop-dec.dec-index c.dec-item.result c.loop-dec-test.true c.dec-item.is))
-    c.is_kept.ensures c.is_kept-2.ensures c.in_ok-made.ensures
+    c.is_ready.ensures.kept c.is_kept.ensures c.in_ok-made.ensures
     (c.in_ok-enter_behind.ensures.scope c.elab_declared.new.g c.in_ok-made.ensures.envs) c.in_ok-enter_behind.ensures.all
 
 pub declared::elab_each-returns-in_err-made : goal.declared::elab_each-returns-in_err-made
@@ -669,13 +605,6 @@ declared::elab_declared-returns-in_err-before-in-Local t c =
     (local_first (dec_phrase c.get.result.now) (dec_phrase c.in-Local.shown) c.in-Local.at
     c.in_err-before-in-Local.ensures))
 
-pub declared::elab_declared-elab_shown-requires : goal.declared::elab_declared-elab_shown-requires
-declared::elab_declared-elab_shown-requires t c = (
-  search rules,
-  behind (dec_phrase c.get.result.now) c.in_ok-before-in-Local.before c.requires c.is_kept.ensures
-      c.in_ok-before-in-Local.ensures,
-)
-
 pub declared::elab_declared-returns-in_err-made-in-Local : goal.declared::elab_declared-returns-in_err-made-in-Local
 declared::elab_declared-returns-in_err-made-in-Local t c =
     dec_passed c.from_residual-in_err-made-in-Local.result c.in_err-made-in-Local.field-0.0
@@ -708,86 +637,6 @@ binds::elab_binds-returns t c =
     binds_end c.loop-rule.invariant (ap (λ (rules : List Rule). map rule_phrase rules)
     (drop_past c.args.rules.now c.loop-rule.rule-index c.loop-rule-test.false))
 
-pub exp::elab_in_scope-elab_in_scope-requires-in-App : goal.exp::elab_in_scope-elab_in_scope-requires-in-App
-exp::elab_in_scope-elab_in_scope-requires-in-App t c = (
-  search rules,
-  later c.requires c.is_kept.ensures c.in_ok-function-in-App.ensures.goes
-      c.in_ok-function-in-App.ensures.left,
-)
-
-pub exp::elab_fields-elab_field-requires : goal.exp::elab_fields-elab_field-requires
-exp::elab_fields-elab_field-requires t c = (
-  search rules,
-  record {
-    scope = later {old = moment c.args.g.now c.args.t.now c.args.scope.now} c.requires c.is_kept.ensures
-        c.loop-field.invariant.goes c.loop-field.invariant.same;
-    rows = c.loop-field.invariant.have;
-  },
-)
-
-pub exp::elab_match-elab_rule-requires : goal.exp::elab_match-elab_rule-requires
-exp::elab_match-elab_rule-requires t c = (
-  search rules,
-  record {
-    scope = later {old = moment c.args.g.now c.args.t.now c.args.scope.now} c.requires c.is_kept.ensures
-        c.loop-rule.invariant.goes c.loop-rule.invariant.same;
-    first = c.loop-rule.invariant.has;
-  },
-)
-
-pub rec_exps::elab_rec_exps-elab_rec_exp-requires : goal.rec_exps::elab_rec_exps-elab_rec_exp-requires
-rec_exps::elab_rec_exps-elab_rec_exp-requires t c = (
-  search rules,
-  record {
-    scope = later {old = moment c.args.g.now c.args.t.now c.args.scope.now} c.requires.scope c.is_kept.ensures
-        c.loop-rule.invariant.goes c.loop-rule.invariant.same;
-    ty = has_first c.loop-rule.t c.loop-rule.invariant.have c.in-Some.ensures.cases.0;
-  },
-)
-
-pub val::elab_recs_under-elab_rec_exps-result-requires : goal.val::elab_recs_under-elab_rec_exps-result-requires
-val::elab_recs_under-elab_rec_exps-result-requires t c = (
-  search rules,
-  record {
-    scope = entered (moment c.args.g.now c.args.t.now c.args.scope.now)
-        (moment c.args.g.now c.args.t.now c.enter_variables.new.scope)
-        (under_bound (bound_of c.args.bound.now) (scope_at (moment c.args.g.now c.args.t.now c.args.scope.now)))
-        (c.in_ok-enter_variables.ensures.ok c.args.g.now).seen
-        ((c.in_ok-enter_variables.ensures.ok c.args.g.now).there c.args.t.now c.requires.scope.core) c.requires.scope.kept
-        c.requires.scope.state;
-    types = c.requires.types;
-  },
-)
-
-pub val::elab_val-elab_val_under-result-requires : goal.val::elab_val-elab_val_under-result-requires
-val::elab_val-elab_val_under-result-requires t c = (
-  search rules,
-  record {
-    scope = own_ready c.args.g.now c.args.t.now c.own_variables.new.t c.args.scope.now c.own_variables.new.scope
-        c.args.tyvars.now (map rule_phrase c.args.binds.now) (map rule_phrase c.args.recs.now) c.in_ok-own.own c.requires
-        c.is_kept.ensures c.in_ok-own.ensures.infers c.in_ok-own.ensures.ok
-        (c.in_ok-own.ensures.ok.there c.own_variables.new.t c.in_ok-own.ensures.made
-        (core_later c.args.g.now c.args.t.now c.own_variables.new.t c.args.scope.now c.in_ok-own.ensures.ids
-        c.requires.core));
-    front = subst (λ (z : Table). IsFrontOf z c.own_variables.new.t) (sym c.mark-since.ensures)
-        c.in_ok-own.ensures.ids.front;
-  },
-)
-
-pub val::elab_val_under-elab_recs_under-requires : goal.val::elab_val_under-elab_recs_under-requires
-val::elab_val_under-elab_recs_under-requires t c = (
-  search rules,
-  record {
-    scope = recs_ready (map rule_phrase c.args.binds.now) (map rule_phrase c.args.recs.now) c.in_ok-own_bound.own_bound
-        c.len-start.result c.requires.scope
-        (binds_alone (map rule_phrase c.args.binds.now) c.new-bound.result c.elab_binds.new.bound
-        (groups_of c.new-groups.result) (groups_of c.elab_binds.new.groups) c.new-bound.ensures
-        (ap groups_of c.new-groups.ensures) c.in_ok-elab_binds.ensures) c.is_kept.ensures c.in_ok-types.ensures
-        c.is_kept-2.ensures c.len-start.ensures c.in_ok-own_bound.ensures;
-    types = c.in_ok-types.ensures.answers.have;
-  },
-)
-
 pub rec_exps::elab_rec_exps-loop-rule-init : goal.rec_exps::elab_rec_exps-loop-rule-init
 rec_exps::elab_rec_exps-loop-rule-init t c =
     recs_begin (moment c.args.g.now c.args.t.now c.args.scope.now) (map rule_phrase c.args.recs.now) c.args.types.now
@@ -801,3 +650,114 @@ pub rec_exps::elab_rec_exps-returns : goal.rec_exps::elab_rec_exps-returns
 rec_exps::elab_rec_exps-returns t c =
     recs_end c.loop-rule.invariant (ap (λ (rules : List Rule). map rule_phrase rules)
     (drop_past c.args.recs.now c.loop-rule.rule-index c.loop-rule-test.false))
+
+pub binds::elab_bind-is_ready-requires : goal.binds::elab_bind-is_ready-requires
+binds::elab_bind-is_ready-requires t c =
+    λ k. table_later c.args.g.now c.args.t.now c.elab_pat.new.t c.args.scope.now c.requires k c.in_ok-pat.ensures.goes.ids
+
+pub binds::elab_binds-is_ready-requires : goal.binds::elab_binds-is_ready-requires
+binds::elab_binds-is_ready-requires t c =
+    λ k. later {old = moment c.args.g.now c.args.t.now c.args.scope.now} c.requires k
+    c.loop-rule.invariant.goes c.loop-rule.invariant.same
+
+pub exp::elab_in_scope-is_ready-requires : goal.exp::elab_in_scope-is_ready-requires
+exp::elab_in_scope-is_ready-requires t c =
+    λ k. later c.requires k c.in_ok-function-in-App.ensures.goes c.in_ok-function-in-App.ensures.left
+
+pub exp::elab_in_scope-is_ready-requires-in-Handle : goal.exp::elab_in_scope-is_ready-requires-in-Handle
+exp::elab_in_scope-is_ready-requires-in-Handle t c =
+    λ k. later c.requires k c.in_ok-id-in-Handle.ensures.goes c.in_ok-id-in-Handle.ensures.left
+
+pub exp::elab_in_scope-is_ready_behind-requires : goal.exp::elab_in_scope-is_ready_behind-requires
+exp::elab_in_scope-is_ready_behind-requires t c =
+    λ k. behind (dec_phrase c.get-in-Let.result.now) c.in_ok-made-in-Let.made c.requires k c.in_ok-made-in-Let.ensures
+
+pub exp::elab_fields-is_ready-requires : goal.exp::elab_fields-is_ready-requires
+exp::elab_fields-is_ready-requires t c =
+    λ k. later {old = moment c.args.g.now c.args.t.now c.args.scope.now} c.requires k
+    c.loop-field.invariant.goes c.loop-field.invariant.same
+
+pub exp::elab_match-is_ready-requires : goal.exp::elab_match-is_ready-requires
+exp::elab_match-is_ready-requires t c =
+    λ k. later {old = moment c.args.g.now c.args.t.now c.args.scope.now} c.requires k
+    c.loop-rule.invariant.goes c.loop-rule.invariant.same
+
+pub exp::elab_under-is_ready-requires : goal.exp::elab_under-is_ready-requires
+exp::elab_under-is_ready-requires t c =
+    λ k. entered (moment c.args.g.now c.args.t.now c.args.scope.now)
+    (moment c.args.g.now c.args.t.now c.enter_variables.new.scope)
+    (under_bound (bound_of c.args.bound.now) (scope_at (moment c.args.g.now c.args.t.now c.args.scope.now)))
+    (c.in_ok-enter_variables.ensures.ok c.args.g.now).seen
+    ((c.in_ok-enter_variables.ensures.ok c.args.g.now).there c.args.t.now c.requires.core) k c.requires.state
+
+pub val::elab_recs_under-is_ready-requires : goal.val::elab_recs_under-is_ready-requires
+val::elab_recs_under-is_ready-requires t c =
+    λ k. entered (moment c.args.g.now c.args.t.now c.args.scope.now)
+    (moment c.args.g.now c.args.t.now c.enter_variables.new.scope)
+    (under_bound (bound_of c.args.bound.now) (scope_at (moment c.args.g.now c.args.t.now c.args.scope.now)))
+    (c.in_ok-enter_variables.ensures.ok c.args.g.now).seen
+    ((c.in_ok-enter_variables.ensures.ok c.args.g.now).there c.args.t.now c.requires.scope.core) k c.requires.scope.state
+
+pub exp::elab_body-is_ready-requires : goal.exp::elab_body-is_ready-requires
+exp::elab_body-is_ready-requires t c =
+    λ k. entered (moment c.args.g.now c.args.t.now c.args.scope.now)
+    (moment c.args.g.now c.args.t.now c.enter_made.new.scope)
+    (under (made_at (moment c.args.g.now c.args.t.now c.args.scope.now) c.args.made)
+    (scope_at (moment c.args.g.now c.args.t.now c.args.scope.now)))
+    (c.in_ok-enter_made.ensures.ok c.args.g.now c.requires.envs).seen
+    ((c.in_ok-enter_made.ensures.ok c.args.g.now c.requires.envs).there c.args.t.now c.requires.core) k
+    c.requires.state
+
+pub declared::elab_shown-is_ready-requires : goal.declared::elab_shown-is_ready-requires
+declared::elab_shown-is_ready-requires t c =
+    λ k. entered (moment c.args.g.now c.args.t.now c.args.scope.now)
+    (moment c.args.g.now c.args.t.now c.enter_made.new.scope)
+    (under (made_at (moment c.args.g.now c.args.t.now c.args.scope.now) c.args.made)
+    (scope_at (moment c.args.g.now c.args.t.now c.args.scope.now)))
+    (c.in_ok-enter_made.ensures.ok c.args.g.now c.requires.envs).seen
+    ((c.in_ok-enter_made.ensures.ok c.args.g.now c.requires.envs).there c.args.t.now c.requires.core) k
+    c.requires.state
+
+pub declared::elab_declared-is_ready_behind-requires : goal.declared::elab_declared-is_ready_behind-requires
+declared::elab_declared-is_ready_behind-requires t c =
+    λ k. behind (dec_phrase c.get.result.now) c.in_ok-before-in-Local.before c.requires k c.in_ok-before-in-Local.ensures
+
+pub declared::elab_each-is_ready-requires : goal.declared::elab_each-is_ready-requires
+declared::elab_each-is_ready-requires t c =
+    λ k. decs_ready c.loop-dec.invariant k
+
+pub rec_exps::elab_rec_exps-is_ready-requires : goal.rec_exps::elab_rec_exps-is_ready-requires
+rec_exps::elab_rec_exps-is_ready-requires t c =
+    λ k. later {old = moment c.args.g.now c.args.t.now c.args.scope.now} c.requires.scope k
+    c.loop-rule.invariant.goes c.loop-rule.invariant.same
+
+pub rec_exps::elab_rec_exps-is_there-requires : goal.rec_exps::elab_rec_exps-is_there-requires
+rec_exps::elab_rec_exps-is_there-requires t c =
+    has_first c.loop-rule.t c.loop-rule.invariant.have c.in-Some.ensures.cases.0
+
+pub val::elab_val-is_ready-requires : goal.val::elab_val-is_ready-requires
+val::elab_val-is_ready-requires t c =
+    λ k. own_ready c.args.g.now c.args.t.now c.own_variables.new.t c.args.scope.now c.own_variables.new.scope
+    c.args.tyvars.now (map rule_phrase c.args.binds.now) (map rule_phrase c.args.recs.now) c.in_ok-own.own c.requires
+    k c.in_ok-own.ensures.infers c.in_ok-own.ensures.ok
+    (c.in_ok-own.ensures.ok.there c.own_variables.new.t c.in_ok-own.ensures.made
+    (core_later c.args.g.now c.args.t.now c.own_variables.new.t c.args.scope.now c.in_ok-own.ensures.ids
+    c.requires.core))
+
+pub val::elab_val-is_since-requires : goal.val::elab_val-is_since-requires
+val::elab_val-is_since-requires t c =
+    subst (λ (z : Table). IsFrontOf z c.own_variables.new.t) (sym c.mark-since.ensures)
+    c.in_ok-own.ensures.ids.front
+
+pub val::elab_val_under-is_ready_under-requires : goal.val::elab_val_under-is_ready_under-requires
+val::elab_val_under-is_ready_under-requires t c =
+    λ k. recs_ready (map rule_phrase c.args.binds.now) (map rule_phrase c.args.recs.now) c.in_ok-own_bound.own_bound
+    c.len-start.result c.requires.scope
+    (binds_alone (map rule_phrase c.args.binds.now) c.new-bound.result c.elab_binds.new.bound
+    (groups_of c.new-groups.result) (groups_of c.elab_binds.new.groups) c.new-bound.ensures
+    (ap groups_of c.new-groups.ensures) c.in_ok-elab_binds.ensures) c.is_kept.ensures c.in_ok-types.ensures k
+    c.len-start.ensures c.in_ok-own_bound.ensures
+
+pub val::elab_val_under-are_there-requires : goal.val::elab_val_under-are_there-requires
+val::elab_val_under-are_there-requires t c =
+    c.in_ok-types.ensures.answers.have
