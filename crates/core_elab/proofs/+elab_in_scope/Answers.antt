@@ -504,8 +504,8 @@ exp::elab_in_scope-returns-in_ok-id-in-Let t c =
     (as_phrase (ap exp_phrase c.in-Let.is ∙ exp_phrase-Let c.in-Let.dec c.in-Let.body c.in-Let.at
     ∙ ap₂ (λ p q. ExpPhrase.Let (dec_phrase p) (exp_phrase q) c.in-Let.at) (sym c.get-in-Let.ensures) (sym c.get-in-Let-2.ensures))
     (let_numbered (dec_phrase c.get-in-Let.result.now) (exp_phrase c.get-in-Let-2.result.now) c.in-Let.at
-    c.made-from-in-Let.result c.made-to-in-Let.result c.requires.core c.in_ok-made-in-Let.ensures
-    c.in_ok-id-in-Let.ensures c.made-from-in-Let.ensures c.made-to-in-Let.ensures c.end_let.ensures))
+    c.made-from.result c.made-to.result c.requires.core c.in_ok-made-in-Let.ensures
+    c.in_ok-id-in-Let.ensures c.made-from.ensures c.made-to.ensures c.end_let.ensures))
 
 pub declared::elab_declared-returns-in-Types : goal.declared::elab_declared-returns-in-Types
 declared::elab_declared-returns-in-Types t c =
