@@ -41,6 +41,13 @@ returns-in_err-made-clause-graph c = c.in_err-made.ensures.elabs.goes.graph
 pub returns-in_err-made-clause-home : goal.returns-in_err-made-clause-home
 returns-in_err-made-clause-home c = c.in_err-made.ensures.elabs.goes.home
 
+pub returns-in_err-id-clause-infers : goal.returns-in_err-id-clause-infers
+returns-in_err-id-clause-infers c =
+    passed_on (λ r. Answers (infer_dec depth (outermost c.args.g.now.home (env_at c.args.g.now c.args.env))
+    (dec_phrase c.args.dec.now) (progress c.args.t.now c.args.g.now))
+    (λ (id : EnvId). (env_at c.make_declared.new.g id, progress c.elab_declared.new.t c.make_declared.new.g)) r)
+    c.from_residual-in_err-id.result fault.NoMemory c.from_residual-in_err-id.ensures.1 tt
+
 pub returns-in_err-id-clause-ids : goal.returns-in_err-id-clause-ids
 returns-in_err-id-clause-ids c = c.in_ok-made.ensures.elabs.goes.ids
 
