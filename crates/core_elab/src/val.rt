@@ -9,6 +9,7 @@ ghost use Rattle.core_rules.specs.Ready.{IsReadyAt, IsReadyUnder};
 ghost use Rattle.core_rules.specs.Values.{AreRecsUnder, IsValUnder, IsVal};
 
 use crate::binds::elab_binds;
+use crate::patterns::rec_patterns;
 use crate::ready::{are_there, is_ready, is_ready_under, is_since};
 use crate::rec_exps::elab_rec_exps;
 use cm_base::{Fault, List};
@@ -22,7 +23,7 @@ use sml_trees::{At, Name, Rule};
 use sml_types::TypeTable;
 use std::alloc::Global;
 use type_nodes::Mark;
-use value_closing::{close_val, elab_rec_pats, own_variables, variables_since};
+use value_closing::{close_val, own_variables};
 
 /// The expressions of `rec` bindings under the variables of their patterns, which are left again.
 #[cycle(elab_in_scope)]
@@ -71,12 +72,10 @@ fn elab_val_under(
     let mut groups = List::new(alloc);
     elab_binds(alloc, g, t, scope, binds, &mut bound, &mut groups)?;
     t.is_kept();
-    let start = bound.len();
-    let types = elab_rec_pats(alloc, g, t, scope, recs, &mut bound, &mut groups)?;
-    let own_bound = variables_since(alloc, &bound, start)?;
-    is_ready_under(g, t, scope, &own_bound);
-    are_there(t, &types);
-    elab_recs_under(alloc, g, t, scope, &own_bound, recs, &types)?;
+    let pats = rec_patterns(alloc, g, t, scope, recs, &mut bound, &mut groups)?;
+    is_ready_under(g, t, scope, &pats.bound);
+    are_there(t, &pats.types);
+    elab_recs_under(alloc, g, t, scope, &pats.bound, recs, &pats.types)?;
     close_val(alloc, g, t, at, own, groups, since)
 }
 

@@ -23,7 +23,7 @@ use Rattle.pattern_elab.proofs.Scoping.{core_later}
 use Rattle.pattern_elab.specs.Scopes.{scope_of, bound_of}
 use Rattle.sml_trees.specs.declared.exp.Dec.{Dec}
 use Rattle.sml_trees.specs.declared.exp.Rule.{out-Rule, Rule}
-use Rattle.std.proofs.Common.{rules, refl, sym, ap, ap₂, ◌∙◌, subst, map, [], ◌∷◌, ◌++◌, List}
+use Rattle.std.proofs.Common.{rules, refl, length, sym, ap, ap₂, ◌∙◌, subst, map, [], ◌∷◌, ◌++◌, List}
 use Rattle.type_nodes.specs.Tables.{Table, IsFrontOf, state}
 use Rattle.sml_types.proofs.Frames.{drop_past}
 use Rattle.type_phrases.proofs.PartsRead.{drop_item}
@@ -365,8 +365,8 @@ val::elab_recs_under-returns t c =
     (front_same c.args.scope.now c.enter_variables.new.scope c.elab_rec_exps-result.new.scope
     (c.in_ok-enter_variables.ensures.ok c.args.g.now).front c.elab_rec_exps-result.ensures.left))
 
-pub val::elab_val_under-elab_rec_pats-requires : goal.val::elab_val_under-elab_rec_pats-requires
-val::elab_val_under-elab_rec_pats-requires t c = c.in_ok-elab_binds.ensures.elabs.core
+pub val::elab_val_under-rec_patterns-requires : goal.val::elab_val_under-rec_patterns-requires
+val::elab_val_under-rec_patterns-requires t c = c.in_ok-elab_binds.ensures.elabs.core
 
 pub val::elab_val_under-returns-in_err-elab_binds : goal.val::elab_val_under-returns-in_err-elab_binds
 val::elab_val_under-returns-in_err-elab_binds t c =
@@ -377,16 +377,16 @@ val::elab_val_under-returns-in_err-elab_binds t c =
     (groups_of c.new-groups.result) (groups_of c.elab_binds.new.groups) c.new-bound.ensures
     (ap groups_of c.new-groups.ensures) c.in_err-elab_binds.ensures))
 
-pub val::elab_val_under-returns-in_err-types : goal.val::elab_val_under-returns-in_err-types
-val::elab_val_under-returns-in_err-types t c =
-    passed c.from_residual-in_err-types.result c.in_err-types.field-0.0 c.from_residual-in_err-types.ensures.1
+pub val::elab_val_under-returns-in_err-pats : goal.val::elab_val_under-returns-in_err-pats
+val::elab_val_under-returns-in_err-pats t c =
+    passed c.from_residual-in_err-pats.result c.in_err-pats.field-0.0 c.from_residual-in_err-pats.ensures.1
     (val_second (state c.args.since.now).next c.args.at c.args.own.now (map rule_phrase c.args.binds.now)
     (map rule_phrase c.args.recs.now)
-    c.in_err-types.field-0.0 c.requires.scope.core
+    c.in_err-pats.field-0.0 c.requires.scope.core
     (binds_alone (map rule_phrase c.args.binds.now) c.new-bound.result c.elab_binds.new.bound
     (groups_of c.new-groups.result) (groups_of c.elab_binds.new.groups) c.new-bound.ensures
     (ap groups_of c.new-groups.ensures) c.in_ok-elab_binds.ensures)
-    c.in_err-types.ensures)
+    c.in_err-pats.ensures.pats)
 
 pub val::elab_val_under-close_val-requires-clause-front : goal.val::elab_val_under-close_val-requires-clause-front
 val::elab_val_under-close_val-requires-clause-front t c =
@@ -396,7 +396,7 @@ val::elab_val_under-close_val-requires-clause-front t c =
     (binds_alone (map rule_phrase c.args.binds.now) c.new-bound.result c.elab_binds.new.bound
     (groups_of c.new-groups.result) (groups_of c.elab_binds.new.groups) c.new-bound.ensures
     (ap groups_of c.new-groups.ensures) c.in_ok-elab_binds.ensures)
-    c.in_ok-types.ensures c.args.since.now c.in_ok-own_bound.own_bound c.requires.front c.in_ok-elab_recs_under.ensures
+    c.in_ok-pats.ensures.pats c.args.since.now c.in_ok-pats.pats.bound c.requires.front c.in_ok-elab_recs_under.ensures
 
 pub val::elab_val_under-close_val-requires-clause-distinct : goal.val::elab_val_under-close_val-requires-clause-distinct
 val::elab_val_under-close_val-requires-clause-distinct t c =
@@ -406,7 +406,7 @@ val::elab_val_under-close_val-requires-clause-distinct t c =
     (binds_alone (map rule_phrase c.args.binds.now) c.new-bound.result c.elab_binds.new.bound
     (groups_of c.new-groups.result) (groups_of c.elab_binds.new.groups) c.new-bound.ensures
     (ap groups_of c.new-groups.ensures) c.in_ok-elab_binds.ensures)
-    c.in_ok-types.ensures
+    c.in_ok-pats.ensures.pats
 
 pub val::elab_val_under-returns : goal.val::elab_val_under-returns
 val::elab_val_under-returns t c =
@@ -416,21 +416,10 @@ val::elab_val_under-returns t c =
     (binds_alone (map rule_phrase c.args.binds.now) c.new-bound.result c.elab_binds.new.bound
     (groups_of c.new-groups.result) (groups_of c.elab_binds.new.groups) c.new-bound.ensures
     (ap groups_of c.new-groups.ensures) c.in_ok-elab_binds.ensures)
-    c.in_ok-types.ensures c.in_ok-own_bound.own_bound c.len-start.result c.len-start.ensures
-    c.in_ok-own_bound.ensures c.in_ok-elab_recs_under.ensures c.close_val.ensures.same
+    c.in_ok-pats.ensures.pats c.in_ok-pats.pats.bound (length c.elab_binds.new.bound) refl
+    c.in_ok-pats.ensures.since c.in_ok-elab_recs_under.ensures c.close_val.ensures.same
     (c.close_val.ensures.answer (scope_at (moment c.elab_recs_under.new.g c.elab_recs_under.new.t
     c.elab_recs_under.new.scope)) refl) c.close_val.ensures.structures
-
-pub val::elab_val_under-returns-in_err-own_bound : goal.val::elab_val_under-returns-in_err-own_bound
-val::elab_val_under-returns-in_err-own_bound t c =
-    passed c.from_residual-in_err-own_bound.result fault.NoMemory c.from_residual-in_err-own_bound.ensures.1
-    (val_memory (state c.args.since.now).next c.args.at c.args.own.now (map rule_phrase c.args.binds.now)
-    (map rule_phrase c.args.recs.now)
-    c.requires.scope.core
-    (binds_alone (map rule_phrase c.args.binds.now) c.new-bound.result c.elab_binds.new.bound
-    (groups_of c.new-groups.result) (groups_of c.elab_binds.new.groups) c.new-bound.ensures
-    (ap groups_of c.new-groups.ensures) c.in_ok-elab_binds.ensures)
-    c.in_ok-types.ensures)
 
 pub val::elab_val_under-returns-in_err-elab_recs_under : goal.val::elab_val_under-returns-in_err-elab_recs_under
 val::elab_val_under-returns-in_err-elab_recs_under t c =
@@ -442,8 +431,8 @@ val::elab_val_under-returns-in_err-elab_recs_under t c =
     (binds_alone (map rule_phrase c.args.binds.now) c.new-bound.result c.elab_binds.new.bound
     (groups_of c.new-groups.result) (groups_of c.elab_binds.new.groups) c.new-bound.ensures
     (ap groups_of c.new-groups.ensures) c.in_ok-elab_binds.ensures)
-    c.in_ok-types.ensures c.in_ok-own_bound.own_bound c.len-start.result c.len-start.ensures
-    c.in_ok-own_bound.ensures c.in_err-elab_recs_under.ensures)
+    c.in_ok-pats.ensures.pats c.in_ok-pats.pats.bound (length c.elab_binds.new.bound) refl
+    c.in_ok-pats.ensures.since c.in_err-elab_recs_under.ensures)
 
 pub val::elab_val-returns-in_err-own : goal.val::elab_val-returns-in_err-own
 val::elab_val-returns-in_err-own t c =
@@ -751,13 +740,13 @@ val::elab_val-is_since-requires t c =
 
 pub val::elab_val_under-is_ready_under-requires : goal.val::elab_val_under-is_ready_under-requires
 val::elab_val_under-is_ready_under-requires t c =
-    λ k. recs_ready (map rule_phrase c.args.binds.now) (map rule_phrase c.args.recs.now) c.in_ok-own_bound.own_bound
-    c.len-start.result c.requires.scope
+    λ k. recs_ready (map rule_phrase c.args.binds.now) (map rule_phrase c.args.recs.now) c.in_ok-pats.pats.bound
+    (length c.elab_binds.new.bound) c.requires.scope
     (binds_alone (map rule_phrase c.args.binds.now) c.new-bound.result c.elab_binds.new.bound
     (groups_of c.new-groups.result) (groups_of c.elab_binds.new.groups) c.new-bound.ensures
-    (ap groups_of c.new-groups.ensures) c.in_ok-elab_binds.ensures) c.is_kept.ensures c.in_ok-types.ensures k
-    c.len-start.ensures c.in_ok-own_bound.ensures
+    (ap groups_of c.new-groups.ensures) c.in_ok-elab_binds.ensures) c.is_kept.ensures c.in_ok-pats.ensures.pats k
+    refl c.in_ok-pats.ensures.since
 
 pub val::elab_val_under-are_there-requires : goal.val::elab_val_under-are_there-requires
 val::elab_val_under-are_there-requires t c =
-    c.in_ok-types.ensures.answers.have
+    c.in_ok-pats.ensures.pats.answers.have
