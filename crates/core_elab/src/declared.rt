@@ -38,9 +38,7 @@ pub(crate) fn elab_declared(
     ensures { IsDeclared (moment g.old t.old scope.old) (dec_phrase dec.now) (moment g.new t.new scope.new) result }
 {
     match dec {
-        Dec::Val(tyvars, binds, recs, at) => {
-            elab_val(alloc, g, t, scope, tyvars.as_slice(), binds, recs, *at)
-        }
+        Dec::Val(_, _, _, _) => elab_val(alloc, g, t, scope, dec),
         Dec::Types(binds, at) => declare_types(alloc, g, t, scope, binds.as_slice(), *at),
         Dec::Datatypes(binds, at) => declare_datatypes(alloc, g, t, scope, binds.as_slice(), *at),
         Dec::Replication(name, long, at) => { declare_replica(alloc, g, t, scope, name, long, *at) }

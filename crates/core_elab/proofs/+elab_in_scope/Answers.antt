@@ -28,6 +28,7 @@ use Rattle.type_nodes.specs.Tables.{Table, IsFrontOf, state}
 use Rattle.sml_types.proofs.Frames.{drop_past}
 use Rattle.type_phrases.proofs.PartsRead.{drop_item}
 use Rattle.value_closing.specs.Groups.{groups_of}
+use Rattle.core_elab.proofs.Vals.{val_phrase, of_val, as_under, of_values, no_values}
 use Rattle.core_elab.proofs.+elab_in_scope.Goals as goal
 
 pub exp::elab_in_scope-returns-in-Int : goal.exp::elab_in_scope-returns-in-Int
@@ -366,94 +367,112 @@ val::elab_recs_under-returns t c =
     (c.in_ok-enter_variables.ensures.ok c.args.g.now).front c.elab_rec_exps-result.ensures.left))
 
 pub val::elab_val_under-rec_patterns-requires : goal.val::elab_val_under-rec_patterns-requires
-val::elab_val_under-rec_patterns-requires t c = c.in_ok-elab_binds.ensures.elabs.core
+val::elab_val_under-rec_patterns-requires t c = c.in_ok-elab_binds-in-Val.ensures.elabs.core
 
-pub val::elab_val_under-returns-in_err-elab_binds : goal.val::elab_val_under-returns-in_err-elab_binds
-val::elab_val_under-returns-in_err-elab_binds t c =
-    passed c.from_residual.result c.in_err-elab_binds.field-0.0 c.from_residual.ensures.1
-    (val_first (state c.args.since.now).next c.args.at c.args.own.now (map rule_phrase c.args.binds.now)
-    (map rule_phrase c.args.recs.now)
-    (binds_alone (map rule_phrase c.args.binds.now) c.new-bound.result c.elab_binds.new.bound
+pub val::elab_val_under-returns-in_err-elab_binds-in-Val : goal.val::elab_val_under-returns-in_err-elab_binds-in-Val
+val::elab_val_under-returns-in_err-elab_binds-in-Val t c =
+    passed c.from_residual.result c.in_err-elab_binds-in-Val.field-0.0 c.from_residual.ensures.1
+    (of_val (state c.args.since.now).next c.args.own.now c.in-Val.field-0 c.as_slice-plain.result.now c.as_slice-recursive.result.now c.in-Val.at (val_phrase c.in-Val.field-0 c.in-Val.binds c.in-Val.recs c.as_slice-plain.result.now c.as_slice-recursive.result.now c.in-Val.at
+    (ap dec_phrase c.in-Val.is ∙ dec_phrase-Val c.in-Val.field-0 c.in-Val.binds c.in-Val.recs c.in-Val.at)
+    c.as_slice-plain.ensures c.as_slice-recursive.ensures)
+    (val_first (state c.args.since.now).next c.in-Val.at c.args.own.now (map rule_phrase c.as_slice-plain.result.now)
+    (map rule_phrase c.as_slice-recursive.result.now)
+    (binds_alone (map rule_phrase c.as_slice-plain.result.now) c.new-bound.result c.elab_binds.new.bound
     (groups_of c.new-groups.result) (groups_of c.elab_binds.new.groups) c.new-bound.ensures
-    (ap groups_of c.new-groups.ensures) c.in_err-elab_binds.ensures))
+    (ap groups_of c.new-groups.ensures) c.in_err-elab_binds-in-Val.ensures)))
 
-pub val::elab_val_under-returns-in_err-pats : goal.val::elab_val_under-returns-in_err-pats
-val::elab_val_under-returns-in_err-pats t c =
-    passed c.from_residual-in_err-pats.result c.in_err-pats.field-0.0 c.from_residual-in_err-pats.ensures.1
-    (val_second (state c.args.since.now).next c.args.at c.args.own.now (map rule_phrase c.args.binds.now)
-    (map rule_phrase c.args.recs.now)
-    c.in_err-pats.field-0.0 c.requires.scope.core
-    (binds_alone (map rule_phrase c.args.binds.now) c.new-bound.result c.elab_binds.new.bound
+pub val::elab_val_under-returns-in_err-pats-in-Val : goal.val::elab_val_under-returns-in_err-pats-in-Val
+val::elab_val_under-returns-in_err-pats-in-Val t c =
+    passed c.from_residual-in_err-pats-in-Val.result c.in_err-pats-in-Val.field-0.0 c.from_residual-in_err-pats-in-Val.ensures.1
+    (of_val (state c.args.since.now).next c.args.own.now c.in-Val.field-0 c.as_slice-plain.result.now c.as_slice-recursive.result.now c.in-Val.at (val_phrase c.in-Val.field-0 c.in-Val.binds c.in-Val.recs c.as_slice-plain.result.now c.as_slice-recursive.result.now c.in-Val.at
+    (ap dec_phrase c.in-Val.is ∙ dec_phrase-Val c.in-Val.field-0 c.in-Val.binds c.in-Val.recs c.in-Val.at)
+    c.as_slice-plain.ensures c.as_slice-recursive.ensures)
+    (val_second (state c.args.since.now).next c.in-Val.at c.args.own.now (map rule_phrase c.as_slice-plain.result.now)
+    (map rule_phrase c.as_slice-recursive.result.now)
+    c.in_err-pats-in-Val.field-0.0 c.requires.scope.core
+    (binds_alone (map rule_phrase c.as_slice-plain.result.now) c.new-bound.result c.elab_binds.new.bound
     (groups_of c.new-groups.result) (groups_of c.elab_binds.new.groups) c.new-bound.ensures
-    (ap groups_of c.new-groups.ensures) c.in_ok-elab_binds.ensures)
-    c.in_err-pats.ensures.pats)
+    (ap groups_of c.new-groups.ensures) c.in_ok-elab_binds-in-Val.ensures)
+    c.in_err-pats-in-Val.ensures.pats))
 
 pub val::elab_val_under-close_val-requires-clause-front : goal.val::elab_val_under-close_val-requires-clause-front
 val::elab_val_under-close_val-requires-clause-front t c =
-    val_front (state c.args.since.now).next c.args.at c.args.own.now (map rule_phrase c.args.binds.now)
-    (map rule_phrase c.args.recs.now)
+    val_front (state c.args.since.now).next c.in-Val.at c.args.own.now (map rule_phrase c.as_slice-plain.result.now)
+    (map rule_phrase c.as_slice-recursive.result.now)
     c.requires.scope.core
-    (binds_alone (map rule_phrase c.args.binds.now) c.new-bound.result c.elab_binds.new.bound
+    (binds_alone (map rule_phrase c.as_slice-plain.result.now) c.new-bound.result c.elab_binds.new.bound
     (groups_of c.new-groups.result) (groups_of c.elab_binds.new.groups) c.new-bound.ensures
-    (ap groups_of c.new-groups.ensures) c.in_ok-elab_binds.ensures)
-    c.in_ok-pats.ensures.pats c.args.since.now c.in_ok-pats.pats.bound c.requires.front c.in_ok-elab_recs_under.ensures
+    (ap groups_of c.new-groups.ensures) c.in_ok-elab_binds-in-Val.ensures)
+    c.in_ok-pats-in-Val.ensures.pats c.args.since.now c.in_ok-pats-in-Val.pats.bound c.requires.front c.in_ok-elab_recs_under-in-Val.ensures
 
 pub val::elab_val_under-close_val-requires-clause-distinct : goal.val::elab_val_under-close_val-requires-clause-distinct
 val::elab_val_under-close_val-requires-clause-distinct t c =
-    val_distinct (state c.args.since.now).next c.args.at c.args.own.now (map rule_phrase c.args.binds.now)
-    (map rule_phrase c.args.recs.now)
+    val_distinct (state c.args.since.now).next c.in-Val.at c.args.own.now (map rule_phrase c.as_slice-plain.result.now)
+    (map rule_phrase c.as_slice-recursive.result.now)
     c.requires.scope.core
-    (binds_alone (map rule_phrase c.args.binds.now) c.new-bound.result c.elab_binds.new.bound
+    (binds_alone (map rule_phrase c.as_slice-plain.result.now) c.new-bound.result c.elab_binds.new.bound
     (groups_of c.new-groups.result) (groups_of c.elab_binds.new.groups) c.new-bound.ensures
-    (ap groups_of c.new-groups.ensures) c.in_ok-elab_binds.ensures)
-    c.in_ok-pats.ensures.pats
+    (ap groups_of c.new-groups.ensures) c.in_ok-elab_binds-in-Val.ensures)
+    c.in_ok-pats-in-Val.ensures.pats
 
-pub val::elab_val_under-returns : goal.val::elab_val_under-returns
-val::elab_val_under-returns t c =
-    val_done (state c.args.since.now).next c.args.at c.args.own.now (map rule_phrase c.args.binds.now)
-    (map rule_phrase c.args.recs.now)
+pub val::elab_val_under-returns-in_ok-elab_recs_under-in-Val : goal.val::elab_val_under-returns-in_ok-elab_recs_under-in-Val
+val::elab_val_under-returns-in_ok-elab_recs_under-in-Val t c =
+    of_val (state c.args.since.now).next c.args.own.now c.in-Val.field-0 c.as_slice-plain.result.now c.as_slice-recursive.result.now c.in-Val.at (val_phrase c.in-Val.field-0 c.in-Val.binds c.in-Val.recs c.as_slice-plain.result.now c.as_slice-recursive.result.now c.in-Val.at
+    (ap dec_phrase c.in-Val.is ∙ dec_phrase-Val c.in-Val.field-0 c.in-Val.binds c.in-Val.recs c.in-Val.at)
+    c.as_slice-plain.ensures c.as_slice-recursive.ensures)
+    (val_done (state c.args.since.now).next c.in-Val.at c.args.own.now (map rule_phrase c.as_slice-plain.result.now)
+    (map rule_phrase c.as_slice-recursive.result.now)
     c.requires.scope.core
-    (binds_alone (map rule_phrase c.args.binds.now) c.new-bound.result c.elab_binds.new.bound
+    (binds_alone (map rule_phrase c.as_slice-plain.result.now) c.new-bound.result c.elab_binds.new.bound
     (groups_of c.new-groups.result) (groups_of c.elab_binds.new.groups) c.new-bound.ensures
-    (ap groups_of c.new-groups.ensures) c.in_ok-elab_binds.ensures)
-    c.in_ok-pats.ensures.pats c.in_ok-pats.pats.bound (length c.elab_binds.new.bound) refl
-    c.in_ok-pats.ensures.since c.in_ok-elab_recs_under.ensures c.close_val.ensures.same
+    (ap groups_of c.new-groups.ensures) c.in_ok-elab_binds-in-Val.ensures)
+    c.in_ok-pats-in-Val.ensures.pats c.in_ok-pats-in-Val.pats.bound (length c.elab_binds.new.bound) refl
+    c.in_ok-pats-in-Val.ensures.since c.in_ok-elab_recs_under-in-Val.ensures c.close_val.ensures.same
     (c.close_val.ensures.answer (scope_at (moment c.elab_recs_under.new.g c.elab_recs_under.new.t
-    c.elab_recs_under.new.scope)) refl) c.close_val.ensures.structures
+    c.elab_recs_under.new.scope)) refl) c.close_val.ensures.structures)
 
-pub val::elab_val_under-returns-in_err-elab_recs_under : goal.val::elab_val_under-returns-in_err-elab_recs_under
-val::elab_val_under-returns-in_err-elab_recs_under t c =
-    passed c.from_residual-in_err-elab_recs_under.result c.in_err-elab_recs_under.field-0.0
-    c.from_residual-in_err-elab_recs_under.ensures.1
-    (val_third (state c.args.since.now).next c.args.at c.args.own.now (map rule_phrase c.args.binds.now)
-    (map rule_phrase c.args.recs.now)
+pub val::elab_val_under-returns-in_err-elab_recs_under-in-Val : goal.val::elab_val_under-returns-in_err-elab_recs_under-in-Val
+val::elab_val_under-returns-in_err-elab_recs_under-in-Val t c =
+    of_val (state c.args.since.now).next c.args.own.now c.in-Val.field-0 c.as_slice-plain.result.now c.as_slice-recursive.result.now c.in-Val.at (val_phrase c.in-Val.field-0 c.in-Val.binds c.in-Val.recs c.as_slice-plain.result.now c.as_slice-recursive.result.now c.in-Val.at
+    (ap dec_phrase c.in-Val.is ∙ dec_phrase-Val c.in-Val.field-0 c.in-Val.binds c.in-Val.recs c.in-Val.at)
+    c.as_slice-plain.ensures c.as_slice-recursive.ensures)
+    (passed c.from_residual-in_err-elab_recs_under-in-Val.result c.in_err-elab_recs_under-in-Val.field-0.0
+    c.from_residual-in_err-elab_recs_under-in-Val.ensures.1
+    (val_third (state c.args.since.now).next c.in-Val.at c.args.own.now (map rule_phrase c.as_slice-plain.result.now)
+    (map rule_phrase c.as_slice-recursive.result.now)
     c.requires.scope.core
-    (binds_alone (map rule_phrase c.args.binds.now) c.new-bound.result c.elab_binds.new.bound
+    (binds_alone (map rule_phrase c.as_slice-plain.result.now) c.new-bound.result c.elab_binds.new.bound
     (groups_of c.new-groups.result) (groups_of c.elab_binds.new.groups) c.new-bound.ensures
-    (ap groups_of c.new-groups.ensures) c.in_ok-elab_binds.ensures)
-    c.in_ok-pats.ensures.pats c.in_ok-pats.pats.bound (length c.elab_binds.new.bound) refl
-    c.in_ok-pats.ensures.since c.in_err-elab_recs_under.ensures)
+    (ap groups_of c.new-groups.ensures) c.in_ok-elab_binds-in-Val.ensures)
+    c.in_ok-pats-in-Val.ensures.pats c.in_ok-pats-in-Val.pats.bound (length c.elab_binds.new.bound) refl
+    c.in_ok-pats-in-Val.ensures.since c.in_err-elab_recs_under-in-Val.ensures))
 
-pub val::elab_val-returns-in_err-own : goal.val::elab_val-returns-in_err-own
-val::elab_val-returns-in_err-own t c =
-    passed c.from_residual.result c.in_err-own.field-0.0 c.from_residual.ensures.1
-    (val_stops c.args.tyvars.now (map rule_phrase c.args.binds.now) (map rule_phrase c.args.recs.now) c.args.at
-    c.requires.core c.requires.state c.in_err-own.ensures.ids c.in_err-own.field-0.0 c.in_err-own.ensures.infers
-    c.in_err-own.ensures.err)
+pub val::elab_val-returns-in_err-own-in-Val : goal.val::elab_val-returns-in_err-own-in-Val
+val::elab_val-returns-in_err-own-in-Val t c =
+    passed c.from_residual.result c.in_err-own-in-Val.field-0.0 c.from_residual.ensures.1
+    (of_values c.as_slice-names.result.now c.in-Val.binds c.in-Val.recs c.in-Val.field-3 (ap dec_phrase c.in-Val.is ∙ dec_phrase-Val c.in-Val.tyvars c.in-Val.binds c.in-Val.recs c.in-Val.field-3
+    ∙ ap (λ names. DecPhrase.Val names (rules_of (map rule_phrase c.in-Val.binds)) (rules_of (map rule_phrase c.in-Val.recs)) c.in-Val.field-3) (sym c.as_slice-names.ensures))
+    (val_stops c.as_slice-names.result.now (map rule_phrase c.in-Val.binds) (map rule_phrase c.in-Val.recs) c.in-Val.field-3
+    c.requires.core c.requires.state c.in_err-own-in-Val.ensures.ids c.in_err-own-in-Val.field-0.0 c.in_err-own-in-Val.ensures.infers
+    c.in_err-own-in-Val.ensures.err))
 
-pub val::elab_val-returns : goal.val::elab_val-returns
-val::elab_val-returns t c =
-    val_whole c.args.tyvars.now (map rule_phrase c.args.binds.now) (map rule_phrase c.args.recs.now) c.args.at
-    c.requires.core c.requires.state c.in_ok-own.ensures.ids c.in_ok-own.own c.in_ok-own.ensures.infers
-    c.in_ok-own.ensures.ok
-    (under_as c.mark-since.result c.args.t.now c.args.at c.in_ok-own.own
-    (map rule_phrase c.as_slice.result.now) (map rule_phrase c.args.binds.now)
-    (map rule_phrase c.as_slice-2.result.now) (map rule_phrase c.args.recs.now)
-    c.mark-since.ensures (ap (map rule_phrase) c.as_slice.ensures) (ap (map rule_phrase) c.as_slice-2.ensures)
-    c.elab_val_under-result.ensures)
+pub val::elab_val-returns-in_ok-own-in-Val : goal.val::elab_val-returns-in_ok-own-in-Val
+val::elab_val-returns-in_ok-own-in-Val t c =
+    of_values c.as_slice-names.result.now c.in-Val.binds c.in-Val.recs c.in-Val.field-3 (ap dec_phrase c.in-Val.is ∙ dec_phrase-Val c.in-Val.tyvars c.in-Val.binds c.in-Val.recs c.in-Val.field-3
+    ∙ ap (λ names. DecPhrase.Val names (rules_of (map rule_phrase c.in-Val.binds)) (rules_of (map rule_phrase c.in-Val.recs)) c.in-Val.field-3) (sym c.as_slice-names.ensures))
+    (val_whole c.as_slice-names.result.now (map rule_phrase c.in-Val.binds) (map rule_phrase c.in-Val.recs) c.in-Val.field-3
+    c.requires.core c.requires.state c.in_ok-own-in-Val.ensures.ids c.in_ok-own-in-Val.own c.in_ok-own-in-Val.ensures.infers
+    c.in_ok-own-in-Val.ensures.ok
+    (under_as c.mark-since.result c.args.t.now c.in-Val.field-3 c.in_ok-own-in-Val.own
+    (map rule_phrase c.in-Val.binds) (map rule_phrase c.in-Val.binds)
+    (map rule_phrase c.in-Val.recs) (map rule_phrase c.in-Val.recs)
+    c.mark-since.ensures refl refl
+    (as_under (state c.mark-since.result).next c.in_ok-own-in-Val.own c.as_slice-names.result.now c.in-Val.binds c.in-Val.recs c.in-Val.field-3 (ap dec_phrase c.in-Val.is ∙ dec_phrase-Val c.in-Val.tyvars c.in-Val.binds c.in-Val.recs c.in-Val.field-3
+    ∙ ap (λ names. DecPhrase.Val names (rules_of (map rule_phrase c.in-Val.binds)) (rules_of (map rule_phrase c.in-Val.recs)) c.in-Val.field-3) (sym c.as_slice-names.ensures))
+    c.elab_val_under-result.ensures))
     (c.leave.ensures c.args.scope.now c.mark-before.ensures.is
     (front_same c.args.scope.now c.own_variables.new.scope c.elab_val_under-result.new.scope
-    c.in_ok-own.ensures.ok.front c.elab_val_under-result.ensures.left))
+    c.in_ok-own-in-Val.ensures.ok.front c.elab_val_under-result.ensures.left)))
 
 pub exp::elab_body-returns : goal.exp::elab_body-returns
 exp::elab_body-returns t c =
@@ -499,7 +518,7 @@ exp::elab_in_scope-returns-in_ok-id-in-Let t c =
 pub declared::elab_declared-returns-in-Types : goal.declared::elab_declared-returns-in-Types
 declared::elab_declared-returns-in-Types t c =
     as_dec (ap dec_phrase c.in-Types.is ∙ dec_phrase-Types c.in-Types.binds c.in-Types.at
-    ∙ ap (λ binds. DecPhrase.Types (map typ_phrase binds) c.in-Types.at) (sym c.as_slice-in-Types.ensures))
+    ∙ ap (λ binds. DecPhrase.Types (map typ_phrase binds) c.in-Types.at) (sym c.as_slice.ensures))
     c.declare_types.ensures
 
 pub declared::elab_declared-returns-in-Datatypes : goal.declared::elab_declared-returns-in-Datatypes
@@ -574,11 +593,7 @@ declared::elab_declared-returns-in-Structures t c = dec_memory {m = moment c.arg
 
 pub declared::elab_declared-returns-in-Val : goal.declared::elab_declared-returns-in-Val
 declared::elab_declared-returns-in-Val t c =
-    as_dec (ap dec_phrase c.in-Val.is ∙ dec_phrase-Val c.in-Val.tyvars c.in-Val.binds c.in-Val.recs c.in-Val.at
-    ∙ ap (λ names. DecPhrase.Val names (rules_of (map rule_phrase c.in-Val.binds)) (rules_of (map rule_phrase
-    c.in-Val.recs)) c.in-Val.at) (sym c.as_slice.ensures))
-    (val_declared (DecPhrase.Val c.as_slice.result.now (rules_of (map rule_phrase c.in-Val.binds))
-    (rules_of (map rule_phrase c.in-Val.recs)) c.in-Val.at) c.elab_val.ensures)
+    val_declared (dec_phrase c.args.dec.now) c.elab_val.ensures
 
 pub declared::elab_declared-returns-in-Exceptions : goal.declared::elab_declared-returns-in-Exceptions
 declared::elab_declared-returns-in-Exceptions t c =
@@ -727,26 +742,33 @@ rec_exps::elab_rec_exps-is_there-requires t c =
 pub val::elab_val-is_ready-requires : goal.val::elab_val-is_ready-requires
 val::elab_val-is_ready-requires t c =
     λ k. own_ready c.args.g.now c.args.t.now c.own_variables.new.t c.args.scope.now c.own_variables.new.scope
-    c.args.tyvars.now (map rule_phrase c.args.binds.now) (map rule_phrase c.args.recs.now) c.in_ok-own.own c.requires
-    k c.in_ok-own.ensures.infers c.in_ok-own.ensures.ok
-    (c.in_ok-own.ensures.ok.there c.own_variables.new.t c.in_ok-own.ensures.made
-    (core_later c.args.g.now c.args.t.now c.own_variables.new.t c.args.scope.now c.in_ok-own.ensures.ids
+    c.as_slice-names.result.now (map rule_phrase c.in-Val.binds) (map rule_phrase c.in-Val.recs) c.in_ok-own-in-Val.own c.requires
+    k c.in_ok-own-in-Val.ensures.infers c.in_ok-own-in-Val.ensures.ok
+    (c.in_ok-own-in-Val.ensures.ok.there c.own_variables.new.t c.in_ok-own-in-Val.ensures.made
+    (core_later c.args.g.now c.args.t.now c.own_variables.new.t c.args.scope.now c.in_ok-own-in-Val.ensures.ids
     c.requires.core))
 
 pub val::elab_val-is_since-requires : goal.val::elab_val-is_since-requires
 val::elab_val-is_since-requires t c =
     subst (λ (z : Table). IsFrontOf z c.own_variables.new.t) (sym c.mark-since.ensures)
-    c.in_ok-own.ensures.ids.front
+    c.in_ok-own-in-Val.ensures.ids.front
 
 pub val::elab_val_under-is_ready_under-requires : goal.val::elab_val_under-is_ready_under-requires
 val::elab_val_under-is_ready_under-requires t c =
-    λ k. recs_ready (map rule_phrase c.args.binds.now) (map rule_phrase c.args.recs.now) c.in_ok-pats.pats.bound
+    λ k. recs_ready (map rule_phrase c.as_slice-plain.result.now) (map rule_phrase c.as_slice-recursive.result.now) c.in_ok-pats-in-Val.pats.bound
     (length c.elab_binds.new.bound) c.requires.scope
-    (binds_alone (map rule_phrase c.args.binds.now) c.new-bound.result c.elab_binds.new.bound
+    (binds_alone (map rule_phrase c.as_slice-plain.result.now) c.new-bound.result c.elab_binds.new.bound
     (groups_of c.new-groups.result) (groups_of c.elab_binds.new.groups) c.new-bound.ensures
-    (ap groups_of c.new-groups.ensures) c.in_ok-elab_binds.ensures) c.is_kept.ensures c.in_ok-pats.ensures.pats k
-    refl c.in_ok-pats.ensures.since
+    (ap groups_of c.new-groups.ensures) c.in_ok-elab_binds-in-Val.ensures) c.is_kept.ensures c.in_ok-pats-in-Val.ensures.pats k
+    refl c.in_ok-pats-in-Val.ensures.since
 
 pub val::elab_val_under-are_there-requires : goal.val::elab_val_under-are_there-requires
 val::elab_val_under-are_there-requires t c =
-    c.in_ok-pats.ensures.pats.answers.have
+    c.in_ok-pats-in-Val.ensures.pats.answers.have
+
+pub val::elab_val_under-returns-in_default : goal.val::elab_val_under-returns-in_default
+val::elab_val_under-returns-in_default t c = no_values c.requires.scope.core
+
+pub val::elab_val_under-elab_recs_under-requires : goal.val::elab_val_under-elab_recs_under-requires
+val::elab_val_under-elab_recs_under-requires t c =
+    (search rules, (c.is_ready_under.ensures, c.are_there.ensures))
