@@ -179,8 +179,10 @@ module _ (n : ℕ) (fs : Fixities) (wanted : Wanted) where
       → Keeps (prefix_head n fs wanted (record { op = op; name = called })) (HeadIs fs wanted)
   unfolding prefix_head
   prefix_keeps op called it =
-      keep_bind (arguments_keep 0) (λ args ends. keep_pure _ (it.form,
-      prefix_wanted fs wanted (record { op = op; name = called }) args.tree it.may ends))
+      keep_bind (arguments_keep 0) (λ args ends. keep_pure _ (
+        it.form,
+        prefix_wanted fs wanted (record { op = op; name = called }) args.tree it.may ends,
+      ))
 
   named_keeps : (op : Bool) (start : At) (long : LongName) (found : Option (List ℕ))
       → prefix_name fs wanted op long.parts ≡ found → Keeps (named_head_by n fs wanted op start long found) (HeadIs fs wanted)
@@ -206,8 +208,10 @@ module _ (n : ℕ) (fs : Fixities) (wanted : Wanted) where
       keep_if_mark _
       (keep_if_taken_by (bare_operator fs wanted) named (IsBare fs wanted) (bare_is fs wanted)
       (λ second so. keep_within (λ _. infix_keeps _ second so))
-      (keep_bind (arguments_keep 1) (λ args ends. keep_pure _ (it.infix_here,
-      paren_wanted wanted _ _ pair.called args.tree it.may ends))))
+      (keep_bind (arguments_keep 1) (λ args ends. keep_pure _ (
+        it.infix_here,
+        paren_wanted wanted _ _ pair.called args.tree it.may ends,
+      ))))
       (keep_either (may_be_bare fs wanted) (λ _. keep_either (nat_lt ((pair_run pair).height + 1) n)
       (λ _. keep_then (λ inner. closed_keeps place inner)) (high_keeps (pair_run pair) false)) keep_refuse)
 
@@ -283,7 +287,7 @@ more_clauses : (fs : Fixities) (wanted : Wanted) (found : Tall (List FullClause)
     → AreClauses fs wanted found → ClauseIs fs wanted next → AreClauses fs wanted (more found next)
 more_clauses fs wanted found next are is =
     let joined : map head_of (found.tree ++ next.tree ∷ []) ≡ map head_of found.tree ++ head_of next.tree ∷ [] =
-        map-append head_of found.tree (next.tree ∷ []) in
+    map-append head_of found.tree (next.tree ∷ []) in
     record {
       some = subst (λ (heads : List FullHead). 0 < length heads) (sym joined) (longer (map head_of found.tree));
       each = All-same (IsClauseHead fs wanted) _ _ joined
