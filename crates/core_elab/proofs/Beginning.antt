@@ -1,26 +1,35 @@
--- Whole expressions: the scope that they begin with, and the table after a diagnostic.
-use Rattle.std.proofs.Common.{◌≡◌, [], ap₂, subst}
-use Rattle.std.specs.Prelude.{Result, Err}
+-- Whole expressions and declarations: the scope that they begin with, and the table after a diagnostic.
+use Rattle.std.proofs.Common.{◌≡◌, ℕ, [], length, sym, ap, ap₂, ◌∙◌, subst}
+use Rattle.std.specs.Prelude.{Result, Ok, Err}
 use Rattle.cm_base.specs.declared.fault.Fault.{Fault}
 use Rattle.cm_base.specs.declared.fault.Fault.TheVariants as fault
 use Rattle.semantic_objects.specs.declared.name.TyId.{TyId}
 use Rattle.semantic_objects.specs.Environments.{Env}
 use Rattle.unification.specs.Types.{Ty}
 use Rattle.unification.specs.Unification.{depth}
-use Rattle.type_nodes.specs.Tables.{Table}
+use Rattle.type_nodes.specs.Keeping.{IsKept}
+use Rattle.type_nodes.specs.Tables.{Table, state}
 use Rattle.sml_modules.specs.declared.id.EnvId.{EnvId}
 use Rattle.sml_modules.specs.Items.{map_rows}
-use Rattle.sml_modules.specs.Graphs.{Graph, env_at}
+use Rattle.sml_modules.specs.Graphs.{Graph, Keeps, GivesEnv, env_at}
 use Rattle.name_trails.specs.Trails.{Rows}
-use Rattle.bare_phrases.specs.Phrases.{ExpPhrase}
-use Rattle.static_semantics.specs.Inferring.{Progress, Answer, outermost}
-use Rattle.static_semantics.specs.CoreInference.{infer_exp}
-use Rattle.core_scopes.specs.Scopes.{Bindings, seen, written_of}
-use Rattle.type_phrases.specs.Inferred.{Inferred, progress}
+use Rattle.bare_phrases.specs.Phrases.{ExpPhrase, DecPhrase}
+use Rattle.static_semantics.specs.Inferring.{Progress, Answer, gives, outermost}
+use Rattle.static_semantics.specs.CoreInference.{infer_exp, infer_dec}
+use Rattle.core_scopes.specs.declared.made.Made.{Made}
+use Rattle.core_scopes.specs.Marks.{env_of_made}
+use Rattle.core_scopes.specs.Scopes.{Bindings, seen, written_of, IsScopeOf}
+use Rattle.type_phrases.specs.Inferred.{Answers, Inferred, progress}
 use Rattle.pattern_elab.specs.declared.own.OwnVariable.{OwnVariable}
-use Rattle.pattern_elab.specs.Scopes.{own_entry, variable_of, scope_of}
-use Rattle.core_elab.specs.Moments.{Moment, moment}
-use Rattle.core_elab.specs.Expressions.{IsExp}
+use Rattle.pattern_elab.specs.Scopes.{own_entry, variable_of, scope_of, AreVariables}
+use Rattle.closing_laws.specs.Promises.{IsOfState}
+use Rattle.core_rules.specs.Ready.{IsReadyAt}
+use Rattle.core_rules.specs.Moments.{Moment, moment}
+use Rattle.core_rules.specs.Expressions.{IsExp}
+use Rattle.core_rules.specs.Values.{read_made}
+use Rattle.core_rules.specs.Declarations.{IsDeclared}
+use Rattle.core_rules.proofs.Chains.{graph_then}
+use Rattle.type_phrases.proofs.Steps.{still_refused}
 
 scope_outermost : (g : Graph) (env : EnvId) (sc : Bindings OwnVariable) → seen g own_entry sc ≡ env_at g env
     → written_of sc ≡ [] → scope_of g sc ≡ outermost g.home (env_at g env)
@@ -39,3 +48,51 @@ pub refused : (want : Answer (Ty × Progress)) (e : Fault) (t u : Table) (g h : 
     → Inferred want (Err e) u h
 refused want (fault.Diag d) t u g h k = k
 refused want fault.NoMemory t u g h k = tt
+
+-- everything is ready there where the environment is of what the table knows
+pub begun : (g : Graph) (t : Table) (sc : Bindings OwnVariable) (env : EnvId) → IsScopeOf g sc → IsKept t
+    → seen g own_entry sc ≡ env_at g env → written_of sc ≡ []
+    → IsOfState (outermost g.home (env_at g env)) (progress t g) → IsReadyAt (moment g t sc)
+begun g t sc env there k e f s = record {
+  core = record { there = there; written = subst (AreVariables t) (sym f) tt };
+  kept = k;
+  state = subst (λ inner. IsOfState inner (progress t g)) (sym (scope_outermost g env sc e f)) s;
+}
+
+-- ---- whole declarations
+
+abbrev wanted : Graph → Table → EnvId → DecPhrase → Answer (Env × Progress)
+wanted g t env p = infer_dec depth (outermost g.home (env_at g env)) p (progress t g)
+
+dec_whole : {g : Graph} {t : Table} {sc : Bindings OwnVariable} {new : Moment} {r : Result (Made OwnVariable) Fault}
+    (env : EnvId) (p : DecPhrase) → seen g own_entry sc ≡ env_at g env → written_of sc ≡ []
+    → IsDeclared (moment g t sc) p new r → Answers (wanted g t env p) (read_made new) r
+dec_whole {g} {t} {sc} {new} {r} env p e f h =
+    subst (λ inner. Answers (infer_dec depth inner p (progress t g)) (read_made new) r)
+    (scope_outermost g env sc e f) h.elabs.infers
+
+pub dec_refused : {g : Graph} {t : Table} {sc : Bindings OwnVariable} {new : Moment} {d : Fault} (h : Graph) (u : Table)
+    (env : EnvId) (p : DecPhrase) → seen g own_entry sc ≡ env_at g env → written_of sc ≡ []
+    → IsDeclared (moment g t sc) p new (Err d)
+    → Answers (wanted g t env p) (λ (id : EnvId). (env_at h id, progress u h)) (Err d)
+dec_refused {g} {t} {sc} {new} {d} h u env p e f k =
+    still_refused (wanted g t env p) (read_made new) (λ (id : EnvId). (env_at h id, progress u h)) d
+    (dec_whole env p e f k)
+
+pub dec_given : {g new : Graph} {t u : Table} {sc : Bindings OwnVariable} {mid : Moment} {made : Made OwnVariable}
+    {id : EnvId} (env : EnvId) (p : DecPhrase) → seen g own_entry sc ≡ env_at g env → written_of sc ≡ []
+    → IsDeclared (moment g t sc) p mid (Ok made) → GivesEnv mid.graph new (env_of_made mid.graph own_entry made) id
+    → u ≡ mid.table → wanted g t env p ≡ gives (env_at new id, progress u new)
+dec_given {g} {new} {t} {u} {sc} {mid} {made} {id} env p e f k given same =
+    dec_whole env p e f k
+    ∙ ap₂ (λ (x : Env) (n : ℕ).
+    gives (x, (let st : Progress = record { types = state mid.table; names = n } in st)))
+    (sym given.stands) (sym (ap length given.made))
+    ∙ ap (λ (z : Table). gives (env_at new id, progress z new)) (sym same)
+
+pub keeps_given : (old mid new : Graph) (env : Env) (id : EnvId) → Keeps old mid → GivesEnv mid new env id
+    → Keeps old new
+keeps_given old mid new env id k given = graph_then old mid new k given.keeps
+
+pub keeps_same : (old mid new : Graph) → Keeps old mid → new ≡ mid → Keeps old new
+keeps_same old mid new k e = subst (Keeps old) (sym e) k

@@ -1,4 +1,2 @@
-pub mod Rules
-pub mod Entered
-pub mod Moments
-pub mod Expressions
+pub mod Patterns
+pub mod Vals

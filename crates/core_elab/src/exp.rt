@@ -2,16 +2,20 @@
 
 ghost use Rattle.std.specs.Prelude.{map};
 ghost use Rattle.bare_phrases.specs.PhraseOf.{exp_phrase, exp_field_phrase, exp_fields, rule_phrase, rules_of};
-ghost use Rattle.pattern_elab.specs.Scopes.{IsCoreScope};
-ghost use Rattle.core_elab.specs.Moments.{moment};
-ghost use Rattle.core_elab.specs.Expressions.{IsExp, IsUnder, IsMatch, IsTypedRule, HasFirst, AreExpFields, IsExpField, AreLabelled};
+ghost use Rattle.core_rules.specs.Moments.{moment};
+ghost use Rattle.core_rules.specs.Ready.{IsReadyAt, IsReadyUnder, IsReadyBehind};
+ghost use Rattle.core_rules.specs.Declarations.{IsBehind};
+ghost use Rattle.core_rules.specs.Expressions.{IsExp, IsUnder, IsMatch, IsTypedRule, HasFirst, AreExpFields, IsExpField, AreLabelled};
 
-use crate::entered::enter_variables;
-use crate::forms::{apply, constrain, handle, make_record, raise};
-use crate::matching::{RuleType, as_first, match_type, rule_pattern, to_of};
-use crate::places::place_of_exp;
-use crate::plain::{elab_char, elab_int, elab_long, elab_string};
+use crate::declared::elab_declared;
+use crate::ready::{is_ready, is_ready_behind};
 use cm_base::Fault;
+use core_rules::{
+    RuleType, apply, as_first, constrain, elab_char, elab_int, elab_long, elab_string,
+    enter_variables, handle, make_record, match_type, place_of_exp, raise, rule_pattern, to_of,
+};
+use core_scopes::Made;
+use declaration_forms::end_let;
 use name_trails::NameTrail;
 use pattern_elab::{CoreScope, OwnVariable, sized};
 use semantic_objects::TyId;
@@ -20,10 +24,10 @@ use sml_trees::{Exp, ExpField, Rule};
 use sml_types::TypeTable;
 use std::alloc::Global;
 use type_phrases::check_label;
+use value_closing::enter_made;
 
-/// The type of an expression in a scope, which is left as it was. The first of 30 to 35, 38 and 40 is answered, and then
-/// some of it may be known. A `let` is answered as want of memory is. The Definition of Standard ML (Revised), rules 1 to
-/// 14.
+/// The type of an expression in a scope, which is left as it was. The first of 30 to 35, 37, 38, 40 and 41 is answered,
+/// and then some of it may be known. The Definition of Standard ML (Revised), rules 1 to 14.
 #[cycle(elab_in_scope)]
 pub(crate) fn elab_in_scope(
     alloc: Global,
@@ -32,7 +36,7 @@ pub(crate) fn elab_in_scope(
     scope: &mut CoreScope,
     exp: &Exp,
 ) -> Result<TyId, Fault>
-    requires { IsCoreScope g.old t.old scope.old }
+    requires { IsReadyAt (moment g.old t.old scope.old) }
     ensures { IsExp (moment g.old t.old scope.old) (exp_phrase exp.now) (moment g.new t.new scope.new) result }
 {
     match exp {
@@ -44,9 +48,9 @@ pub(crate) fn elab_in_scope(
             let rows = elab_fields(alloc, g, t, scope, fields.as_slice())?;
             make_record(alloc, g, t, *at, &rows)
         }
-        Exp::Let(_, _, _) => Err(Fault::NoMemory),
         Exp::App(function, argument, at) => {
             let function = elab_in_scope(alloc, g, t, scope, function.get())?;
+            is_ready(g, t, scope);
             let argument = elab_in_scope(alloc, g, t, scope, argument.get())?;
             apply(alloc, g, t, *at, function, argument)
         }
@@ -56,6 +60,7 @@ pub(crate) fn elab_in_scope(
         }
         Exp::Handle(inner, rules, at) => {
             let id = elab_in_scope(alloc, g, t, scope, inner.get())?;
+            is_ready(g, t, scope);
             let handler = elab_match(alloc, g, t, scope, rules.as_slice())?;
             handle(alloc, g, t, *at, id, handler)
         }
@@ -66,6 +71,14 @@ pub(crate) fn elab_in_scope(
         Exp::Fn(rules, at) => {
             let id = elab_match(alloc, g, t, scope, rules.as_slice())?;
             sized(alloc, g, t, *at, id)
+        }
+        Exp::Let(dec, body, at) => {
+            let from = g.made();
+            let made = elab_declared(alloc, g, t, scope, dec.get())?;
+            is_ready_behind(g, t, scope, &made);
+            let to = g.made();
+            let id = elab_body(alloc, g, t, scope, made, body.get())?;
+            end_let(alloc, g, t, *at, from, to, id)
         }
     }
 }
@@ -79,12 +92,13 @@ fn elab_fields(
     scope: &mut CoreScope,
     fields: &[ExpField],
 ) -> Result<NameTrail<TyId>, Fault>
-    requires { IsCoreScope g.old t.old scope.old }
+    requires { IsReadyAt (moment g.old t.old scope.old) }
     ensures { AreExpFields (moment g.old t.old scope.old) (exp_fields (map exp_field_phrase fields.now))
         (moment g.new t.new scope.new) result }
 {
     let mut rows = NameTrail::new(alloc);
     for field in fields {
+        is_ready(g, t, scope);
         elab_field(alloc, g, t, scope, field, &mut rows)?;
     }
     Ok(rows)
@@ -100,7 +114,7 @@ fn elab_field(
     field: &ExpField,
     rows: &mut NameTrail<TyId>,
 ) -> Result<(), Fault>
-    requires scope { IsCoreScope g.old t.old scope.old }
+    requires scope { IsReadyAt (moment g.old t.old scope.old) }
     requires rows { AreLabelled t.old rows.old }
     ensures { IsExpField (moment g.old t.old scope.old) (exp_field_phrase field.now) rows.old rows.new
         (moment g.new t.new scope.new) result }
@@ -120,12 +134,13 @@ fn elab_match(
     scope: &mut CoreScope,
     rules: &[Rule],
 ) -> Result<TyId, Fault>
-    requires { IsCoreScope g.old t.old scope.old }
+    requires { IsReadyAt (moment g.old t.old scope.old) }
     ensures { IsMatch (moment g.old t.old scope.old) (rules_of (map rule_phrase rules.now))
         (moment g.new t.new scope.new) result }
 {
     let mut first = None;
     for rule in rules {
+        is_ready(g, t, scope);
         first = Some(elab_rule(alloc, g, t, scope, first, rule)?);
     }
     match_type(t, first)
@@ -141,7 +156,7 @@ fn elab_rule(
     first: Option<RuleType>,
     rule: &Rule,
 ) -> Result<RuleType, Fault>
-    requires scope { IsCoreScope g.old t.old scope.old }
+    requires scope { IsReadyAt (moment g.old t.old scope.old) }
     requires first { HasFirst t.old first }
     ensures { IsTypedRule (moment g.old t.old scope.old) first (rule_phrase rule.now) (moment g.new t.new scope.new)
         result }
@@ -162,12 +177,34 @@ fn elab_under(
     bound: &NameTrail<OwnVariable>,
     exp: &Exp,
 ) -> Result<TyId, Fault>
-    requires { IsCoreScope g.old t.old scope.old }
+    requires { IsReadyUnder (moment g.old t.old scope.old) bound.now }
     ensures { IsUnder (moment g.old t.old scope.old) bound.now (exp_phrase exp.now) (moment g.new t.new scope.new)
         result }
 {
     let before = scope.mark();
     enter_variables(scope, bound)?;
+    is_ready(g, t, scope);
+    let result = elab_in_scope(alloc, g, t, scope, exp);
+    scope.leave(before);
+    result
+}
+
+/// The body of a `let` under what its declaration made, which is left again.
+#[cycle(elab_in_scope)]
+fn elab_body(
+    alloc: Global,
+    g: &mut EnvGraph,
+    t: &mut TypeTable,
+    scope: &mut CoreScope,
+    made: Made<OwnVariable>,
+    exp: &Exp,
+) -> Result<TyId, Fault>
+    requires { IsReadyBehind (moment g.old t.old scope.old) made }
+    ensures { IsBehind (moment g.old t.old scope.old) made (exp_phrase exp.now) (moment g.new t.new scope.new) result }
+{
+    let before = scope.mark();
+    enter_made(scope, made)?;
+    is_ready(g, t, scope);
     let result = elab_in_scope(alloc, g, t, scope, exp);
     scope.leave(before);
     result

@@ -1,18 +1,13 @@
-//! Expressions: their types in a scope. The rules of single forms after their parts, expressions without parts, matches,
-//! and the variables of rules in scope.
+//! Expressions and declarations of the core: their types, and what they bind.
 #![tactic(auto)]
 
-mod entered;
+mod binds;
+mod declared;
 mod exp;
-mod forms;
-mod matching;
-mod places;
-mod plain;
-mod rules;
+mod patterns;
+mod ready;
+mod rec_exps;
+mod val;
 mod whole;
 
-pub use entered::enter_variables;
-pub use places::{place_of_exp, place_of_pat};
-pub use plain::{elab_char, elab_int, elab_long, elab_string};
-pub use rules::{applied, handled, joined, no_rules, raised};
-pub use whole::elab_exp;
+pub use whole::{elab_dec, elab_exp};

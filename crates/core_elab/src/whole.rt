@@ -1,35 +1,33 @@
-//! Whole expressions.
+//! Whole expressions and declarations.
 
 ghost use Rattle.std.specs.Prelude.{◌≡◌, IfOk, OnErr};
 ghost use Rattle.unification.specs.Unification.{depth};
 ghost use Rattle.type_nodes.specs.Tables.{Has};
 ghost use Rattle.sml_modules.specs.Graphs.{HasEnv, Keeps, env_at};
-ghost use Rattle.bare_phrases.specs.PhraseOf.{exp_phrase};
+ghost use Rattle.bare_phrases.specs.PhraseOf.{dec_phrase, exp_phrase};
 ghost use Rattle.static_semantics.specs.Inferring.{outermost};
-ghost use Rattle.static_semantics.specs.CoreInference.{infer_exp};
-ghost use Rattle.type_phrases.specs.Inferred.{Inferred, KeepsTypes, progress};
+ghost use Rattle.static_semantics.specs.CoreInference.{infer_dec, infer_exp};
+ghost use Rattle.type_phrases.specs.Inferred.{Answers, Inferred, KeepsTypes, progress};
+ghost use Rattle.closing_laws.specs.Promises.{IsOfState};
 
+use crate::declared::elab_declared;
 use crate::exp::elab_in_scope;
 use cm_base::Fault;
 use core_scopes::Scope;
+use declaration_forms::make_declared;
 use pattern_elab::CoreScope;
 use semantic_objects::TyId;
 use sml_modules::{EnvGraph, EnvId};
-use sml_trees::Exp;
+use sml_trees::{Dec, Exp};
 use sml_types::TypeTable;
 use std::alloc::Global;
 
-/// The type of an expression in an environment of a graph, with no type variable written around it: 30 to 35, 38 or 40
-/// where inference gives that, and the table is then as before. A `let` is answered as want of memory is. The Definition
-/// of Standard ML (Revised), rules 1 to 14.
-pub fn elab_exp(
-    alloc: Global,
-    g: &mut EnvGraph,
-    t: &mut TypeTable,
-    env: EnvId,
-    exp: &Exp,
-) -> Result<TyId, Fault>
-    requires { HasEnv g.old env }
+/// The type of an expression in an environment of a graph, with no type variable written around it: 30 to 35, 37, 38, 40
+/// or 41 where inference gives that, and the table is then as before. What stands in the environment is of what the table
+/// knows. The Definition of Standard ML (Revised), rules 1 to 14.
+pub fn elab_exp(g: &mut EnvGraph, t: &mut TypeTable, env: EnvId, exp: &Exp) -> Result<TyId, Fault>
+    requires env { HasEnv g.old env }
+    requires ready { IsOfState (outermost g.old.home (env_at g.old env)) (progress t.old g.old) }
     ensures infers { Inferred (infer_exp depth (outermost g.old.home (env_at g.old env)) (exp_phrase exp.now)
         (progress t.old g.old)) result t.new g.new }
     ensures has { IfOk result (Has t.new) }
@@ -38,12 +36,65 @@ pub fn elab_exp(
     ensures graph { Keeps g.old g.new }
     ensures home { g.new.home ≡ g.old.home }
 {
+    let alloc = g.alloc();
     let before = t.mark();
     let mut scope: CoreScope = Scope::new(alloc, env);
+    t.is_kept();
     match elab_in_scope(alloc, g, t, &mut scope, exp) {
         Ok(id) => Ok(id),
         Err(fault) => {
             t.undo(&before);
+            Err(fault)
+        }
+    }
+}
+
+/// The environment of a declaration. The table may have more after a refusal.
+fn declare_in(
+    alloc: Global,
+    g: &mut EnvGraph,
+    t: &mut TypeTable,
+    env: EnvId,
+    dec: &Dec,
+) -> Result<EnvId, Fault>
+    requires env { HasEnv g.old env }
+    requires ready { IsOfState (outermost g.old.home (env_at g.old env)) (progress t.old g.old) }
+    ensures infers { Answers (infer_dec depth (outermost g.old.home (env_at g.old env)) (dec_phrase dec.now)
+        (progress t.old g.old)) (λ id. (env_at g.new id, progress t.new g.new)) result }
+    ensures has { IfOk result (HasEnv g.new) }
+    ensures ids { KeepsTypes t.old t.new }
+    ensures graph { Keeps g.old g.new }
+    ensures home { g.new.home ≡ g.old.home }
+{
+    let mut scope: CoreScope = Scope::new(alloc, env);
+    t.is_kept();
+    let made = elab_declared(alloc, g, t, &mut scope, dec)?;
+    let id = make_declared(alloc, g, made)?;
+    Ok(id)
+}
+
+/// What a declaration binds in an environment of a graph, as an environment, with no type variable written around it: 30
+/// to 35, 37, 38, 40 or 41 where inference gives that, and the table is then as before. What stands in the environment is
+/// of what the table knows. Types of values that stay open have variables of the table. The environment is made once, with
+/// all that is bound. A declaration of structures is answered as want of memory is. The Definition of Standard ML
+/// (Revised), rules 15 to 24.
+pub fn elab_dec(g: &mut EnvGraph, t: &mut TypeTable, env: EnvId, dec: &Dec) -> Result<EnvId, Fault>
+    requires env { HasEnv g.old env }
+    requires ready { IsOfState (outermost g.old.home (env_at g.old env)) (progress t.old g.old) }
+    ensures infers { Answers (infer_dec depth (outermost g.old.home (env_at g.old env)) (dec_phrase dec.now)
+        (progress t.old g.old)) (λ id. (env_at g.new id, progress t.new g.new)) result }
+    ensures has { IfOk result (HasEnv g.new) }
+    ensures ids { KeepsTypes t.old t.new }
+    ensures refused { OnErr result (t.new ≡ t.old) }
+    ensures graph { Keeps g.old g.new }
+    ensures home { g.new.home ≡ g.old.home }
+{
+    let alloc = g.alloc();
+    let begun = t.mark();
+    match declare_in(alloc, g, t, env, dec) {
+        Ok(id) => Ok(id),
+        Err(fault) => {
+            t.undo(&begun);
             Err(fault)
         }
     }

@@ -6,8 +6,8 @@ use Rattle.static_semantics.specs.Inferring.{outermost}
 use Rattle.static_semantics.specs.CoreInference.{infer_exp}
 use Rattle.type_phrases.specs.Inferred.{progress}
 use Rattle.pattern_elab.specs.Scopes.{own_entry}
-use Rattle.core_elab.proofs.Ruling.{keeps_same}
-use Rattle.core_elab.proofs.Beginning.{whole, refused}
+use Rattle.core_rules.proofs.Ruling.{keeps_same}
+use Rattle.core_elab.proofs.Beginning.{whole, refused, begun}
 use Rattle.core_elab.proofs.whole.elab_exp.Goals as goal
 
 pub returns-in-Ok-clause-infers : goal.returns-in-Ok-clause-infers
@@ -25,3 +25,9 @@ returns-clause-infers c =
 
 pub returns-clause-ids : goal.returns-clause-ids
 returns-clause-ids c = keeps_same c.args.t.now c.undo.new.self (c.undo.ensures ∙ c.mark-before.ensures)
+
+pub elab_in_scope-requires : goal.elab_in_scope-requires
+elab_in_scope-requires c =
+    begun c.args.g.now c.args.t.now c.new-scope.result c.args.env
+    (c.new-scope.ensures.there c.args.g.now c.requires.env) c.is_kept.ensures
+    (c.new-scope.ensures.seen c.args.g.now own_entry) c.new-scope.ensures.written c.requires.ready

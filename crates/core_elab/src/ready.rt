@@ -1,0 +1,68 @@
+//! What holds where a phrase is looked at, for the proofs of callers. None of these calls does anything.
+
+ghost use Rattle.type_nodes.specs.Keeping.{IsKept};
+ghost use Rattle.type_nodes.specs.Tables.{Has, IsFrontOf};
+ghost use Rattle.type_schemes.specs.Schemes.{HaveAll};
+ghost use Rattle.core_rules.specs.Moments.{moment};
+ghost use Rattle.core_rules.specs.Ready.{IsReadyAt, IsReadyBehind, IsReadyUnder};
+
+use cm_base::List;
+use core_scopes::Made;
+use name_trails::NameTrail;
+use pattern_elab::{CoreScope, OwnVariable};
+use semantic_objects::TyId;
+use sml_modules::EnvGraph;
+use sml_types::TypeTable;
+use type_nodes::Mark;
+
+/// Everything in scope is of what the table knows, where that follows from what holds of every table.
+pub(crate) fn is_ready(g: &EnvGraph, t: &TypeTable, scope: &CoreScope)
+    requires { IsKept t.now → IsReadyAt (moment g.now t.now scope.now) }
+    ensures { IsReadyAt (moment g.now t.now scope.now) }
+{
+    t.is_kept();
+}
+
+/// .. under what a declaration made.
+pub(crate) fn is_ready_behind(
+    g: &EnvGraph,
+    t: &TypeTable,
+    scope: &CoreScope,
+    made: &Made<OwnVariable>,
+)
+    requires { IsKept t.now → IsReadyBehind (moment g.now t.now scope.now) made.now }
+    ensures { IsReadyBehind (moment g.now t.now scope.now) made.now }
+{
+    t.is_kept();
+}
+
+/// .. under the variables of patterns.
+pub(crate) fn is_ready_under(
+    g: &EnvGraph,
+    t: &TypeTable,
+    scope: &CoreScope,
+    bound: &NameTrail<OwnVariable>,
+)
+    requires { IsKept t.now → IsReadyUnder (moment g.now t.now scope.now) bound.now }
+    ensures { IsReadyUnder (moment g.now t.now scope.now) bound.now }
+{
+    t.is_kept();
+}
+
+/// Nothing was taken back since a mark.
+pub(crate) fn is_since(since: &Mark, t: &TypeTable)
+    requires { IsFrontOf since.now t.now }
+    ensures { IsFrontOf since.now t.now }
+{}
+
+/// A type is one of the table.
+pub(crate) fn is_there(t: &TypeTable, id: TyId)
+    requires { Has t.now id }
+    ensures { Has t.now id }
+{}
+
+/// Types are of the table.
+pub(crate) fn are_there(t: &TypeTable, ids: &List<TyId>)
+    requires { HaveAll t.now ids.now }
+    ensures { HaveAll t.now ids.now }
+{}

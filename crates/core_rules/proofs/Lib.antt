@@ -1,0 +1,14 @@
+pub mod Ruling
+pub mod Entering
+pub mod Leaves
+pub mod Chains
+pub mod Parted
+pub mod MatchSteps
+pub mod Fields
+pub mod Binding
+pub mod RecBinding
+pub mod Under
+pub mod WholeVal
+pub mod Readying
+pub mod Declaring
+pub mod Joining

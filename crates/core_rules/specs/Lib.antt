@@ -1,0 +1,10 @@
+pub mod Rules
+pub mod Entered
+pub mod Moments
+pub mod Expressions
+pub mod Bindings
+pub mod RecBindings
+pub mod Values
+pub mod Ready
+pub mod Declarations
+pub mod Joined
