@@ -62,7 +62,7 @@ kept_through sc p u n v q h i = or_either (free_in_env n u.stands sc.env) (free_
 -- ---- what is free in a closed type under a choice
 
 mutual
-  occurs_closed : (v : ℕ) (t : Ty) → frees v (closed_over [] t) ≡ true → occurs v t ≡ true
+  pub occurs_closed : (v : ℕ) (t : Ty) → frees v (closed_over [] t) ≡ true → occurs v t ≡ true
   occurs_closed v (Ty.Var n) h = h
   occurs_closed v (Ty.Made c ts) h = occurs_closed_all v ts h
 

@@ -1,0 +1,4 @@
+pub mod Scopes
+pub mod Bindings
+pub mod Units
+pub mod Promised
