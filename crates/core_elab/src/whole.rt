@@ -2,13 +2,15 @@
 
 ghost use Rattle.std.specs.Prelude.{◌≡◌, IfOk, OnErr};
 ghost use Rattle.unification.specs.Unification.{depth};
-ghost use Rattle.type_nodes.specs.Tables.{Has};
+ghost use Rattle.type_nodes.specs.Tables.{Has, type_of};
 ghost use Rattle.sml_modules.specs.Graphs.{HasEnv, Keeps, env_at};
 ghost use Rattle.bare_phrases.specs.PhraseOf.{dec_phrase, exp_phrase};
 ghost use Rattle.static_semantics.specs.Inferring.{outermost};
 ghost use Rattle.static_semantics.specs.CoreInference.{infer_dec, infer_exp};
 ghost use Rattle.type_phrases.specs.Inferred.{Answers, Inferred, KeepsTypes, progress};
 ghost use Rattle.closing_laws.specs.Promises.{IsOfState};
+ghost use Rattle.elaboration_laws.specs.Declaring.{BindsValues, DecHas, ExpHas};
+ghost use Rattle.core_soundness.specs.Following.{HasFirmTypes, HasTypeByRules, DeclaresByRules};
 
 use crate::declared::elab_declared;
 use crate::exp::elab_in_scope;
@@ -24,12 +26,17 @@ use std::alloc::Global;
 
 /// The type of an expression in an environment of a graph, with no type variable written around it: 30 to 35, 37, 38, 40
 /// or 41 where inference gives that, and the table is then as before. What stands in the environment is of what the table
-/// knows. The Definition of Standard ML (Revised), rules 1 to 14.
+/// knows. Where the types in scope are firm and `rec` bindings bind functions, as those of every source do, the rules give
+/// the expression this type. The Definition of Standard ML (Revised), rules 1 to 14.
 pub fn elab_exp(g: &mut EnvGraph, t: &mut TypeTable, env: EnvId, exp: &Exp) -> Result<TyId, Fault>
     requires env { HasEnv g.old env }
     requires ready { IsOfState (outermost g.old.home (env_at g.old env)) (progress t.old g.old) }
     ensures infers { Inferred (infer_exp depth (outermost g.old.home (env_at g.old env)) (exp_phrase exp.now)
         (progress t.old g.old)) result t.new g.new }
+    ensures sound { ExpHas BindsValues (exp_phrase exp.now)
+        → HasFirmTypes (outermost g.old.home (env_at g.old env)) (progress t.old g.old)
+        → IfOk result (λ id. HasTypeByRules (outermost g.old.home (env_at g.old env)) (exp_phrase exp.now)
+        (progress t.old g.old) (type_of t.new id, progress t.new g.new)) }
     ensures has { IfOk result (Has t.new) }
     ensures ids { KeepsTypes t.old t.new }
     ensures refused { OnErr result (t.new ≡ t.old) }
@@ -76,13 +83,18 @@ fn declare_in(
 /// What a declaration binds in an environment of a graph, as an environment, with no type variable written around it: 30
 /// to 35, 37, 38, 40 or 41 where inference gives that, and the table is then as before. What stands in the environment is
 /// of what the table knows. Types of values that stay open have variables of the table. The environment is made once, with
-/// all that is bound. A declaration of structures is answered as want of memory is. The Definition of Standard ML
+/// all that is bound. Where the types in scope are firm and `rec` bindings bind functions, the rules give the declaration
+/// this environment. A declaration of structures is answered as want of memory is. The Definition of Standard ML
 /// (Revised), rules 15 to 24.
 pub fn elab_dec(g: &mut EnvGraph, t: &mut TypeTable, env: EnvId, dec: &Dec) -> Result<EnvId, Fault>
     requires env { HasEnv g.old env }
     requires ready { IsOfState (outermost g.old.home (env_at g.old env)) (progress t.old g.old) }
     ensures infers { Answers (infer_dec depth (outermost g.old.home (env_at g.old env)) (dec_phrase dec.now)
         (progress t.old g.old)) (λ id. (env_at g.new id, progress t.new g.new)) result }
+    ensures sound { DecHas BindsValues (dec_phrase dec.now)
+        → HasFirmTypes (outermost g.old.home (env_at g.old env)) (progress t.old g.old)
+        → IfOk result (λ id. DeclaresByRules (outermost g.old.home (env_at g.old env)) (dec_phrase dec.now)
+        (progress t.old g.old) (env_at g.new id, progress t.new g.new)) }
     ensures has { IfOk result (HasEnv g.new) }
     ensures ids { KeepsTypes t.old t.new }
     ensures refused { OnErr result (t.new ≡ t.old) }

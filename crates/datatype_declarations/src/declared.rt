@@ -1,12 +1,17 @@
 //! A `datatype` declaration in an environment.
 
 ghost use Rattle.std.specs.Prelude.{◌≡◌, map, IfOk, OnErr};
+ghost use Rattle.sml_trees.specs.declared.name.At.{At};
+ghost use Rattle.unification.specs.Fitting.{IsFit};
+ghost use Rattle.type_nodes.specs.Tables.{state};
 ghost use Rattle.sml_modules.specs.Graphs.{env_at, value_rows, HasEnv};
+ghost use Rattle.bare_phrases.specs.Phrases.{DecPhrase};
 ghost use Rattle.bare_phrases.specs.PhraseOf.{dat_phrase};
 ghost use Rattle.static_semantics.specs.BasicTypes.{reserved_constructors};
 ghost use Rattle.static_semantics.specs.Inferring.{outermost};
 ghost use Rattle.static_semantics.specs.DatatypeInference.{datatypes_of};
 ghost use Rattle.core_scopes.specs.Marks.{value_rows as rows_read};
+ghost use Rattle.core_soundness.specs.Following.{HasFirmTypes, DeclaresByRules};
 ghost use Rattle.type_phrases.specs.Inferred.{Answers, KeepsTypes, progress};
 ghost use Rattle.datatype_elab.specs.Leaving.{DeclaresTypes, MakesNames, LeftByDiag};
 ghost use Rattle.datatype_declarations.specs.Nothing.{nobody_entry};
@@ -71,8 +76,9 @@ fn declare_in(
 }
 
 /// The environment of a `datatype` declaration in an environment: its types with their constructors, and the
-/// constructors as values. It answers 30, 34, 35 and 40 as `elab_datatypes` does. A refusal leaves the table as it was,
-/// and a diagnostic the graph too; where memory lacks, the graph may have made some of the names. The Definition of
+/// constructors as values. It answers 30, 34, 35 and 40 as `elab_datatypes` does. Where the types in scope are firm, the
+/// rules give the declaration this environment, wherever it stands; each table is fit. A refusal leaves the table as it
+/// was, and a diagnostic the graph too; where memory lacks, the graph may have made some of the names. The Definition of
 /// Standard ML (Revised), rules 17, 28 and 29, and sections 2.9 and 4.9.
 pub fn datatypes(
     g: &mut EnvGraph,
@@ -83,6 +89,11 @@ pub fn datatypes(
     requires { HasEnv g.old env }
     ensures infers { Answers (datatypes_of (outermost g.old.home (env_at g.old env)) reserved_constructors
         (map dat_phrase binds.now) (progress t.old g.old)) (λ id. (env_at g.new id, progress t.new g.new)) result }
+    ensures sound { (at : At) → IsFit (state t.old)
+        → HasFirmTypes (outermost g.old.home (env_at g.old env)) (progress t.old g.old)
+        → IfOk result (λ id. DeclaresByRules (outermost g.old.home (env_at g.old env))
+        (DecPhrase.Datatypes (map dat_phrase binds.now) at) (progress t.old g.old)
+        (env_at g.new id, progress t.new g.new)) }
     ensures declared { IfOk result (DeclaresTypes g.old g.new) }
     ensures ids { KeepsTypes t.old t.new }
     ensures refused { OnErr result (t.new ≡ t.old) }

@@ -1,5 +1,5 @@
 -- Exceptions that are bound, one after another.
-use Rattle.std.proofs.Common.{◌≡◌, ℕ, List, [], ◌∷◌, ◌++◌, map, refl, sym, ap, ap₂, ◌∙◌, subst, Option, Some, None, Bool, true, false, cond, not}
+use Rattle.std.proofs.Common.{◌≡◌, ℕ, List, [], ◌∷◌, ◌++◌, length, map, refl, sym, ap, ap₂, ◌∙◌, subst, Option, Some, None, Bool, true, false, cond, not}
 use Rattle.std.specs.Prelude.{Ok, Err}
 use Rattle.std.specs.Option.{is_some}
 use Rattle.std.proofs.lemmas.List.{append-nil}
@@ -15,7 +15,7 @@ use Rattle.semantic_objects.specs.Environments.{Env, env_of, empty_env, values, 
 use Rattle.semantic_objects.proofs.Promised.{sets_entries}
 use Rattle.unification.specs.Types.{Ty, State, put}
 use Rattle.type_nodes.specs.Tables.{Table, state, type_of, types_of, whole}
-use Rattle.bare_phrases.specs.Phrases.{TyPhrase, ExPhrase}
+use Rattle.bare_phrases.specs.Phrases.{TyPhrase, ExPhrase, DecPhrase}
 use Rattle.bare_phrases.specs.PhraseOf.{ex_phrase}
 use Rattle.sml_trees.specs.declared.ty.ExBind.{ExBind}
 use Rattle.sml_modules.specs.Items.{map_rows}
@@ -26,10 +26,13 @@ use Rattle.sml_modules.specs.declared.parts.NamedType.{NamedType}
 use Rattle.sml_modules.specs.Graphs.{Graph, env_at, structure_rows, type_rows, value_rows, env_of_entries}
 use Rattle.name_trails.specs.Trails.{Rows, same, entry_after, last_entry}
 use Rattle.static_semantics.specs.BasicTypes.{exn_ty, arrow_ty, is_one_of, reserved_constructors}
-use Rattle.static_semantics.specs.Inferring.{Scope, Answer, ◌>>=◌, gives, refuses_where, name_at, long_at, known, found_at}
+use Rattle.static_semantics.specs.Inferring.{Progress, Scope, Answer, ◌>>=◌, gives, refuses_where, name_at, long_at, known, found_at}
 use Rattle.static_semantics.specs.TypeInference.{infer_ty, new_label}
 use Rattle.static_semantics.specs.DatatypeInference.{is_exception, exception_entry, exception_of, infer_exceptions, exceptions_of}
 use Rattle.static_semantics.specs.Holding.{Given}
+use Rattle.inference_laws.specs.Alike.{FirmEnv}
+use Rattle.core_soundness.specs.Following.{DeclaresByRules}
+use Rattle.core_soundness.proofs.Promised.{exceptions_follow}
 use Rattle.core_scopes.specs.declared.made.Made.{Made}
 use Rattle.core_scopes.specs.declared.made.NamedInScope.{NamedInScope}
 use Rattle.core_scopes.specs.declared.written.InScope.{InScope}
@@ -38,7 +41,7 @@ use Rattle.core_scopes.specs.Listed.{scope_rows}
 use Rattle.core_scopes.specs.Marks.{env_of_made, Becomes}
 use Rattle.core_scopes.specs.Marks as marks
 use Rattle.core_scopes.proofs.Tables.{or_held, entry_under}
-use Rattle.type_phrases.specs.Inferred.{Answers, HaveRows, IsScopeOver, KeepsTypes, Refuses, scope_in}
+use Rattle.type_phrases.specs.Inferred.{Answers, HaveRows, IsScopeOver, KeepsTypes, Refuses, scope_in, progress}
 use Rattle.type_phrases.proofs.Keeping.{keeps_later}
 use Rattle.type_phrases.proofs.Steps.{failed, refused}
 use Rattle.firm_types.specs.Firm.{IsFirmTy, IsFirmPhrase}
@@ -350,3 +353,13 @@ declared_over g t vars old new there k have b = record {
   written = subst (HaveRows t)
       (sym (b.written ∙ ap (λ (z : Rows TyId). written_rows vars ++ z) k ∙ append-nil (written_rows vars))) have;
 }
+
+-- the rules give what was made, where the table is as it was and no name was made
+pub exceptions_there : (g new : Graph) (t u : Table) (sc : Scope) (binds : List ExPhrase) (at : At) (id : EnvId)
+    → exceptions_of sc binds ≡ gives (env_at new id) → FirmEnv sc.env → u ≡ t → new.made ≡ g.made
+    → DeclaresByRules sc (DecPhrase.Exceptions binds at) (progress t g) (env_at new id, progress u new)
+exceptions_there g new t u sc binds at id h firm table made =
+    subst (λ (st : Progress). DeclaresByRules sc (DecPhrase.Exceptions binds at) (progress t g) (env_at new id, st))
+    (ap₂ (λ (z : Table) (n : ℕ). (let st : Progress = record { types = state z; names = n } in st)) (sym table)
+    (ap length (sym made)))
+    (exceptions_follow sc binds at (progress t g) (env_at new id) h firm)

@@ -2,11 +2,15 @@
 
 ghost use Rattle.std.specs.Prelude.{◌≡◌, map, IfOk, OnErr};
 ghost use Rattle.semantic_objects.specs.declared.entry.ValueEntry.{ValueEntry};
+ghost use Rattle.sml_trees.specs.declared.name.At.{At};
 ghost use Rattle.sml_modules.specs.Graphs.{env_at, HasEnv, Keeps};
+ghost use Rattle.bare_phrases.specs.Phrases.{DecPhrase};
 ghost use Rattle.bare_phrases.specs.PhraseOf.{ex_phrase};
 ghost use Rattle.static_semantics.specs.DatatypeInference.{exceptions_of};
+ghost use Rattle.inference_laws.specs.Alike.{FirmEnv};
+ghost use Rattle.core_soundness.specs.Following.{DeclaresByRules};
 ghost use Rattle.core_scopes.specs.Scopes.{written_rows};
-ghost use Rattle.type_phrases.specs.Inferred.{Answers, HaveRows};
+ghost use Rattle.type_phrases.specs.Inferred.{Answers, HaveRows, progress};
 ghost use Rattle.exception_bindings.specs.Exceptions.{declared_in, env_of_values, Declares};
 
 use crate::bindings::exception_values;
@@ -42,7 +46,8 @@ fn declared_values(
 /// two of one name the first counts. It answers 30, 34, 35 and 40 as `elab_exceptions` does. The table is as it was, and
 /// no type name is made. A refusal leaves the graph as it was. A written type variable for which no variable of the
 /// table stands that stands for itself, and a type function in which a variable of a table stands, are refused as want
-/// of memory is. The Definition of Standard ML (Revised), rules 20, 30 and 31.
+/// of memory is. Where no variable of the table stands in the types of the environment, the rules give the declaration
+/// this environment, wherever it stands. The Definition of Standard ML (Revised), rules 20, 30 and 31.
 pub fn exceptions(
     g: &mut EnvGraph,
     t: &mut TypeTable,
@@ -54,6 +59,10 @@ pub fn exceptions(
     requires vars { HaveRows t.old (written_rows vars.now) }
     ensures infers { Answers (exceptions_of (declared_in g.old t.old env vars.now) (map ex_phrase binds.now))
         (env_at g.new) result }
+    ensures sound { (at : At) → FirmEnv (env_at g.old env)
+        → IfOk result (λ id. DeclaresByRules (declared_in g.old t.old env vars.now)
+        (DecPhrase.Exceptions (map ex_phrase binds.now) at) (progress t.old g.old)
+        (env_at g.new id, progress t.new g.new)) }
     ensures ok { IfOk result (Declares g.old g.new) }
     ensures same { t.new ≡ t.old }
     ensures refused { OnErr result (g.new ≡ g.old) }

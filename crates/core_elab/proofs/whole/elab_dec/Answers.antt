@@ -8,6 +8,7 @@ use Rattle.static_semantics.specs.Inferring.{outermost}
 use Rattle.static_semantics.specs.CoreInference.{infer_dec}
 use Rattle.type_phrases.specs.Inferred.{progress}
 use Rattle.type_phrases.proofs.Steps.{still_refused}
+use Rattle.core_soundness.proofs.Promised.{dec_follows}
 use Rattle.core_rules.proofs.Ruling.{keeps_same}
 use Rattle.core_elab.proofs.whole.elab_dec.Goals as goal
 
@@ -25,3 +26,10 @@ returns-clause-infers c =
 
 pub returns-clause-ids : goal.returns-clause-ids
 returns-clause-ids c = keeps_same c.args.t.now c.undo.new.self (c.undo.ensures ∙ c.mark-begun.ensures)
+
+pub returns-in-Ok-clause-sound : goal.returns-in-Ok-clause-sound
+returns-in-Ok-clause-sound c = λ has types.
+    dec_follows depth (outermost c.args.g.now.home (env_at c.args.g.now c.args.env)) (dec_phrase c.args.dec.now)
+    (progress c.args.t.now c.args.g.now)
+    (env_at c.declare_in.new.g c.in-Ok.id, progress c.declare_in.new.t c.declare_in.new.g) c.requires.ready
+    c.in-Ok.ensures.infers has types

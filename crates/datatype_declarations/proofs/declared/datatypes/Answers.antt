@@ -9,6 +9,7 @@ use Rattle.static_semantics.specs.DatatypeInference.{datatypes_of}
 use Rattle.type_phrases.specs.Inferred.{KeepsTypes, progress}
 use Rattle.type_phrases.proofs.Keeping.{keeps_all}
 use Rattle.type_phrases.proofs.Steps.{still_refused}
+use Rattle.core_soundness.proofs.Promised.{datatypes_follow}
 use Rattle.datatype_declarations.proofs.declared.datatypes.Goals as goal
 
 pub undo-requires : goal.undo-requires
@@ -26,3 +27,10 @@ returns-clause-infers c =
 pub returns-clause-ids : goal.returns-clause-ids
 returns-clause-ids c =
     subst (KeepsTypes c.args.t.now) (sym (c.undo.ensures ∙ c.mark-before.ensures)) (keeps_all c.args.t.now)
+
+pub returns-in-Ok-clause-sound : goal.returns-in-Ok-clause-sound
+returns-in-Ok-clause-sound c = λ at fit types.
+    datatypes_follow (outermost c.args.g.now.home (env_at c.args.g.now c.args.env)) (map dat_phrase c.args.binds.now) at
+    (progress c.args.t.now c.args.g.now)
+    (env_at c.declare_in.new.g c.in-Ok.id, progress c.declare_in.new.t c.declare_in.new.g) fit
+    c.in-Ok.ensures.infers types
