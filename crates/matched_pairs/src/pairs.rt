@@ -1,7 +1,7 @@
 //! A set of pairs of places.
 
-ghost use Rattle.std.specs.Prelude.{◌≡◌, ℕ, ◌&&◌, ◌||◌, nat_eq, false, OnOk, OnErr};
-ghost use Rattle.matched_pairs.specs.Pairs.{has_pair};
+ghost use Rattle.std.specs.Prelude.{◌≡◌, ℕ, false, OnOk, OnErr};
+ghost use Rattle.matched_pairs.specs.Pairs.{has_pair, HasOneMore};
 
 use cm_base::NoMemory;
 use indexmap::IndexSet;
@@ -39,8 +39,7 @@ impl Pairs {
 
     /// Two places are one of them from now on. After want of memory nothing is changed.
     pub fn add(&mut self, specified: usize, found: usize) -> Result<(), NoMemory>
-        ensures ok { OnOk result ((p q : ℕ) → has_pair self.new p q
-            ≡ ((nat_eq specified p && nat_eq found q) || has_pair self.old p q)) }
+        ensures ok { OnOk result (HasOneMore self.old self.new specified found) }
         ensures err { OnErr result ((p q : ℕ) → has_pair self.new p q ≡ has_pair self.old p q) }
     {
         self.pairs.insert(Pair { specified, found })?;

@@ -5,7 +5,10 @@ pub mod Finding
 pub mod Opening
 pub mod RealisingSteps
 pub mod Leading
+pub mod Behind
+pub mod Settling
 pub mod RealisingEnvs
+pub mod RealisedOnce
 pub mod RealisingAll
 pub mod Covering
 pub mod Apart
@@ -14,4 +17,5 @@ pub mod Reclosing
 pub mod Constructing
 pub mod EnrichingSteps
 pub mod EnrichingEnvs
+pub mod EnrichedOnce
 pub mod Concluding
