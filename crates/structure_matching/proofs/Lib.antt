@@ -12,7 +12,7 @@ pub mod RealisedOnce
 pub mod RealisingAll
 pub mod Covering
 pub mod Apart
-pub mod Rigid
+pub mod Itself
 pub mod Reclosing
 pub mod Constructing
 pub mod EnrichingSteps

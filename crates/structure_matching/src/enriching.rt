@@ -45,6 +45,9 @@ fn enrich_found_type(
         return Err(Fault::NoMemory);
     }
     let specified = type_at(g, component.specified)?;
+    if component.specified == place {
+        return Ok(());
+    }
     let found = type_at(g, place)?;
     if found.function.arity != specified.function.arity {
         return Err(refusal(alloc, 35, at));
