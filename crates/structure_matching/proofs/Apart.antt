@@ -1,6 +1,7 @@
--- Types over rigid variables are made one where they are one.
-use Rattle.std.proofs.Common.{◌≡◌, ℕ, zero, suc, ◌+◌, ◌<◌, ◌≤◌, ltb, ◌||◌, refl, sym, ap, ap₂, ◌∙◌, subst, [], map, get_or, true, false, arith}
-use Rattle.std.proofs.lemmas.Bool.{eq-eqb, eqb-true, ltb-true, ltb-false}
+-- Types in which no variable stands are made one where they are one.
+use Rattle.std.proofs.Common.{◌≡◌, ℕ, ◌||◌, refl, sym, ap, ap₂, ◌∙◌, subst, List, [], map, true, false}
+use Rattle.std.proofs.lemmas.Bool.{eq-eqb, eqb-true}
+use Rattle.semantic_objects.specs.declared.name.TyId.{TyId}
 use Rattle.semantic_objects.specs.declared.symbol.Symbol.{Symbol}
 use Rattle.semantic_objects.specs.declared.symbol.Symbol.TheVariants as symbol
 use Rattle.semantic_objects.specs.Trees.{Tree, Trees, binds, binds_any}
@@ -11,25 +12,12 @@ use Rattle.unification.specs.Generality.{same_tree}
 use Rattle.unification.proofs.Walking.{or_left, or_right, or_false_left, or_false_right, either_way}
 use Rattle.unification.proofs.Filling.{tree_is, tree_same}
 use Rattle.env_parts.specs.Types.{holds_free, any_holds_free}
+use Rattle.type_nodes.specs.Tables.{Table, Has, state, type_of}
+use Rattle.type_nodes.specs.Keeping.{IsKept}
+use Rattle.type_schemes.specs.Instances.{Extends}
 use Rattle.type_functions.specs.Applied.{with_types}
-use Rattle.static_semantics.specs.DatatypeInference.{counted}
 
--- ---- types in place of variables
-
--- the type for a variable that there is
-variable_at : (count first i : ℕ) (o : Ty) → i < count → get_or (map Ty.Var (counted count first)) i o ≡ Ty.Var (first + i)
-variable_at zero first i o h = absurd (omega (arith, h))
-variable_at (suc n) first zero o h = ap Ty.Var (let k : first ≡ first + 0 = omega arith in k)
-variable_at (suc n) first (suc i) o h = variable_at n (suc first) i o (omega (arith, h))
-    ∙ ap Ty.Var (let k : suc first + i ≡ first + suc i = omega arith in k)
-
-variable_past : (count first i : ℕ) (o : Ty) → count ≤ i → get_or (map Ty.Var (counted count first)) i o ≡ o
-variable_past zero first i o h = refl
-variable_past (suc n) first zero o h = absurd (omega (arith, h))
-variable_past (suc n) first (suc i) o h = variable_past n (suc first) i o (omega (arith, h))
-
-abbrev filling : ℕ → ℕ → Ty → Substitution
-filling count first o i = get_or (map Ty.Var (counted count first)) i o
+-- ---- trees that are one type whatever is put in
 
 made_symbol : (c d : Symbol) (ts us : Types) → Ty.Made c ts ≡ Ty.Made d us → c ≡ d
 made_symbol c d ts us e = cc
@@ -65,17 +53,12 @@ arrow = Ty.Made symbol.Arrow Types.Nil
 abbrev unit : Ty
 unit = Ty.Made (symbol.Record []) Types.Nil
 
--- so its variables are among those for which there are types
-pub below : (count first : ℕ) (t : Ty) (x : Tree)
-    → ((o : Ty) → t ≡ with_types o (map Ty.Var (counted count first)) x) → (i : ℕ) → binds i x ≡ true → i < count
-below count first t x h i b = either_way (ltb i count) (λ k. ltb-true i count k)
-    (λ k. (let far : count ≤ i = ltb-false i count k in
-    let e : unit ≡ arrow =
-    sym (variable_past count first i unit far)
-    ∙ same_at (filling count first unit) (filling count first arrow) x (sym (h unit) ∙ h arrow) i b
-    ∙ variable_past count first i arrow far in absurd (cc)))
+-- so none of its own variables stands in it
+binds_none : (t : Ty) (x : Tree) → ((o : Ty) → t ≡ with_types o [] x) → (i : ℕ) → binds i x ≡ true → ⊥
+binds_none t x h i b =
+    let e : unit ≡ arrow = same_at (λ j. unit) (λ j. arrow) x (sym (h unit) ∙ h arrow) i b in absurd (cc)
 
--- ---- types without other variables than these
+-- ---- types without variables of a table
 
 mutual
   pub put_filled : (s b : Substitution) (x : Tree) → holds_free x ≡ false → ((i : ℕ) → put s (b i) ≡ b i)
@@ -91,98 +74,79 @@ mutual
       (put_filled s b x (or_false_left (holds_free x) (any_holds_free xs) h) k)
       (put_filled_all s b xs (or_false_right (holds_free x) (any_holds_free xs) h) k)
 
-same_number : (first i j : ℕ) → Ty.Var (first + i) ≡ Ty.Var (first + j) → i ≡ j
-same_number first i j e = let k : first + i ≡ first + j = cc in omega (arith, k)
-
-variable_made : (n : ℕ) (c : Symbol) (ts : Types) → Ty.Var n ≡ Ty.Made c ts → ⊥
-variable_made n c ts e = cc
-
--- distinct variables give distinct types
+-- distinct ones are distinct types
 mutual
-  filled_apart : (b : Substitution) (count first : ℕ) → ((i : ℕ) → i < count → b i ≡ Ty.Var (first + i)) → (x y : Tree)
-      → holds_free x ≡ false → holds_free y ≡ false → ((i : ℕ) → binds i x ≡ true → i < count)
-      → ((i : ℕ) → binds i y ≡ true → i < count) → fill b Ty.Var x ≡ fill b Ty.Var y → x ≡ y
-  filled_apart b count first v (Tree.Bound i) (Tree.Bound j) h k l m e =
-      ap Tree.Bound (same_number first i j (sym (v i (l i (eq-eqb i i refl))) ∙ e ∙ v j (m j (eq-eqb j j refl))))
-  filled_apart b count first v (Tree.Bound i) (Tree.Free n) h k l m e = absurd (cc)
-  filled_apart b count first v (Tree.Bound i) (Tree.Made d ys) h k l m e =
-      absurd (variable_made (first + i) d (fill_all b Ty.Var ys) (sym (v i (l i (eq-eqb i i refl))) ∙ e))
-  filled_apart b count first v (Tree.Free n) y h k l m e = absurd (cc)
-  filled_apart b count first v (Tree.Made c xs) (Tree.Bound j) h k l m e =
-      absurd (variable_made (first + j) c (fill_all b Ty.Var xs) (sym (v j (m j (eq-eqb j j refl))) ∙ sym e))
-  filled_apart b count first v (Tree.Made c xs) (Tree.Free n) h k l m e = absurd (cc)
-  filled_apart b count first v (Tree.Made c xs) (Tree.Made d ys) h k l m e =
+  filled_apart : (b : Substitution) (x y : Tree) → holds_free x ≡ false → holds_free y ≡ false
+      → ((i : ℕ) → binds i x ≡ true → ⊥) → ((i : ℕ) → binds i y ≡ true → ⊥)
+      → fill b Ty.Var x ≡ fill b Ty.Var y → x ≡ y
+  filled_apart b (Tree.Bound i) y h k l m e = absurd (l i (eq-eqb i i refl))
+  filled_apart b (Tree.Free n) y h k l m e = absurd (cc)
+  filled_apart b (Tree.Made c xs) (Tree.Bound j) h k l m e = absurd (m j (eq-eqb j j refl))
+  filled_apart b (Tree.Made c xs) (Tree.Free n) h k l m e = absurd (cc)
+  filled_apart b (Tree.Made c xs) (Tree.Made d ys) h k l m e =
       ap₂ Tree.Made (made_symbol c d (fill_all b Ty.Var xs) (fill_all b Ty.Var ys) e)
-      (all_apart b count first v xs ys h k l m (made_parts c d (fill_all b Ty.Var xs) (fill_all b Ty.Var ys) e))
+      (all_apart b xs ys h k l m (made_parts c d (fill_all b Ty.Var xs) (fill_all b Ty.Var ys) e))
 
-  all_apart : (b : Substitution) (count first : ℕ) → ((i : ℕ) → i < count → b i ≡ Ty.Var (first + i)) → (xs ys : Trees)
-      → any_holds_free xs ≡ false → any_holds_free ys ≡ false → ((i : ℕ) → binds_any i xs ≡ true → i < count)
-      → ((i : ℕ) → binds_any i ys ≡ true → i < count) → fill_all b Ty.Var xs ≡ fill_all b Ty.Var ys → xs ≡ ys
-  all_apart b count first v Trees.Nil Trees.Nil h k l m e = refl
-  all_apart b count first v Trees.Nil (Trees.Cons y ys) h k l m e = absurd (cc)
-  all_apart b count first v (Trees.Cons x xs) Trees.Nil h k l m e = absurd (cc)
-  all_apart b count first v (Trees.Cons x xs) (Trees.Cons y ys) h k l m e =
+  all_apart : (b : Substitution) (xs ys : Trees) → any_holds_free xs ≡ false → any_holds_free ys ≡ false
+      → ((i : ℕ) → binds_any i xs ≡ true → ⊥) → ((i : ℕ) → binds_any i ys ≡ true → ⊥)
+      → fill_all b Ty.Var xs ≡ fill_all b Ty.Var ys → xs ≡ ys
+  all_apart b Trees.Nil Trees.Nil h k l m e = refl
+  all_apart b Trees.Nil (Trees.Cons y ys) h k l m e = absurd (cc)
+  all_apart b (Trees.Cons x xs) Trees.Nil h k l m e = absurd (cc)
+  all_apart b (Trees.Cons x xs) (Trees.Cons y ys) h k l m e =
       ap₂ Trees.Cons
-      (filled_apart b count first v x y (or_false_left (holds_free x) (any_holds_free xs) h)
+      (filled_apart b x y (or_false_left (holds_free x) (any_holds_free xs) h)
       (or_false_left (holds_free y) (any_holds_free ys) k) (λ i j. l i (or_left (binds i x) (binds_any i xs) j))
       (λ i j. m i (or_left (binds i y) (binds_any i ys) j))
       (cons_first (fill b Ty.Var x) (fill b Ty.Var y) (fill_all b Ty.Var xs) (fill_all b Ty.Var ys) e))
-      (all_apart b count first v xs ys (or_false_right (holds_free x) (any_holds_free xs) h)
+      (all_apart b xs ys (or_false_right (holds_free x) (any_holds_free xs) h)
       (or_false_right (holds_free y) (any_holds_free ys) k) (λ i j. l i (or_right (binds i x) (binds_any i xs) j))
       (λ i j. m i (or_right (binds i y) (binds_any i ys) j))
       (cons_rest (fill b Ty.Var x) (fill b Ty.Var y) (fill_all b Ty.Var xs) (fill_all b Ty.Var ys) e))
 
--- ---- two types over rigid variables
+-- ---- two types of a table
 
 -- what is known of a state and of two types that were made in it
-pub record AreTwo (s : State) (count first : ℕ) (x y : Tree) (t u : Ty) : Type 0 where
+pub record AreTwo (s : State) (x y : Tree) (t u : Ty) : Type 0 where
   pub settled : IsSettled s
-  pub rigid : (n : ℕ) → first ≤ n → n < first + count → s.rigid n ≡ true
-  pub left : (o : Ty) → t ≡ with_types o (map Ty.Var (counted count first)) x
-  pub right : (o : Ty) → u ≡ with_types o (map Ty.Var (counted count first)) y
+  pub left : (o : Ty) → t ≡ with_types o [] x
+  pub right : (o : Ty) → u ≡ with_types o [] y
   pub left_closed : holds_free x ≡ false
   pub right_closed : holds_free y ≡ false
 
--- a state in which the rigid ones stand alone leaves them
-alone : (count first : ℕ) (s : Substitution) → ((n : ℕ) → first ≤ n → n < first + count → s n ≡ Ty.Var n) → (i : ℕ)
-    → put s (filling count first arrow i) ≡ filling count first arrow i
-alone count first s h i = either_way (ltb i count)
-    (λ k. (let near : i < count = ltb-true i count k in
-    ap (put s) (variable_at count first i arrow near)
-    ∙ h (first + i) (omega arith) (omega (arith, near))
-    ∙ sym (variable_at count first i arrow near)))
-    (λ k. (let far : count ≤ i = ltb-false i count k in
-    ap (put s) (variable_past count first i arrow far) ∙ sym (variable_past count first i arrow far)))
+stays : (s : Substitution) (x : Tree) (t : Ty) → ((o : Ty) → t ≡ with_types o [] x) → holds_free x ≡ false → put s t ≡ t
+stays s x t is closed = ap (put s) (is arrow) ∙ put_filled s (λ i. arrow) x closed (λ i. refl) ∙ sym (is arrow)
 
-stays : (count first : ℕ) (s : Substitution) (x : Tree) (t : Ty)
-    → ((n : ℕ) → first ≤ n → n < first + count → s n ≡ Ty.Var n)
-    → ((o : Ty) → t ≡ with_types o (map Ty.Var (counted count first)) x) → holds_free x ≡ false → put s t ≡ t
-stays count first s x t h is closed =
-    ap (put s) (is arrow) ∙ put_filled s (filling count first arrow) x closed (alone count first s h) ∙ sym (is arrow)
-
-pub made_one : (s r : State) (count first : ℕ) (x y : Tree) (t u : Ty) → AreTwo s count first x y t u
+pub made_one : (s r : State) (x y : Tree) (t u : Ty) → AreTwo s x y t u
     → IsMostGeneral s r (MakesEqual (put s.stands t) (put s.stands u)) → true ≡ same_tree x y
-made_one s r count first x y t u h g =
-    let in_s : (n : ℕ) → first ≤ n → n < first + count → s.stands n ≡ Ty.Var n =
-    λ n a b. h.settled.leaves.alone n (h.rigid n a b) in
-    let in_r : (n : ℕ) → first ≤ n → n < first + count → r.stands n ≡ Ty.Var n =
-    λ n a b. g.settled.leaves.alone n (ap (λ q. q n) g.rigid ∙ h.rigid n a b) in
+made_one s r x y t u h g =
     let one : put r.stands (put s.stands t) ≡ put r.stands (put s.stands u) = (g.sound r g.settled.solves).1 in
     let left : put r.stands (put s.stands t) ≡ t =
-    ap (put r.stands) (stays count first s.stands x t in_s h.left h.left_closed)
-    ∙ stays count first r.stands x t in_r h.left h.left_closed in
+    ap (put r.stands) (stays s.stands x t h.left h.left_closed) ∙ stays r.stands x t h.left h.left_closed in
     let right : put r.stands (put s.stands u) ≡ u =
-    ap (put r.stands) (stays count first s.stands y u in_s h.right h.right_closed)
-    ∙ stays count first r.stands y u in_r h.right h.right_closed in
-    let same : x ≡ y = filled_apart (filling count first arrow) count first
-    (λ i k. variable_at count first i arrow k) x y h.left_closed h.right_closed (below count first t x h.left)
-    (below count first u y h.right) (sym (h.left arrow) ∙ sym left ∙ one ∙ right ∙ h.right arrow) in
+    ap (put r.stands) (stays s.stands y u h.right h.right_closed) ∙ stays r.stands y u h.right h.right_closed in
+    let same : x ≡ y = filled_apart (λ i. arrow) x y h.left_closed h.right_closed (binds_none t x h.left)
+    (binds_none u y h.right) (sym (h.left arrow) ∙ sym left ∙ one ∙ right ∙ h.right arrow) in
     sym (subst (λ z. same_tree x z ≡ true) same (tree_same x))
 
-pub made_apart : (s : State) (count first : ℕ) (x y : Tree) (t u : Ty) → AreTwo s count first x y t u
+pub made_apart : (s : State) (x y : Tree) (t u : Ty) → AreTwo s x y t u
     → ((p : State) → Solves p s → LeavesRigid p s → MakesEqual (put s.stands t) (put s.stands u) p → ⊥)
     → false ≡ same_tree x y
-made_apart s count first x y t u h none = either_way (same_tree x y)
+made_apart s x y t u h none = either_way (same_tree x y)
     (λ e. absurd (none s h.settled.solves h.settled.leaves (ap (λ z. put s.stands (put s.stands z))
-    (h.left arrow ∙ ap (λ z. with_types arrow (map Ty.Var (counted count first)) z) (tree_is x y e) ∙ sym (h.right arrow)))))
+    (h.left arrow ∙ ap (λ z. with_types arrow [] z) (tree_is x y e) ∙ sym (h.right arrow)))))
     (λ e. sym e)
+
+-- two types that were made one after the other, without arguments
+pub are_two : (t this_t that_t : Table) (none : List TyId) (this that : TyId) (x y : Tree) → none ≡ []
+    → ((o : Ty) → type_of this_t this ≡ with_types o (map (type_of t) none) x) → Has this_t this
+    → ((o : Ty) → type_of that_t that ≡ with_types o (map (type_of this_t) none) y) → Extends this_t that_t
+    → IsKept that_t → holds_free x ≡ false → holds_free y ≡ false
+    → AreTwo (state that_t) x y (type_of that_t this) (type_of that_t that)
+are_two t this_t that_t none this that x y e a has b f k cx cy = record {
+  settled = k.fit.settled;
+  left = λ o. f.types this has ∙ a o ∙ ap (λ ids. with_types o (map (type_of t) ids) x) e;
+  right = λ o. b o ∙ ap (λ ids. with_types o (map (type_of this_t) ids) y) e;
+  left_closed = cx;
+  right_closed = cy;
+}

@@ -25,7 +25,7 @@ use Rattle.structure_matching.proofs.RealisingSteps.{goes_on, stops, same_answer
 use Rattle.structure_matching.proofs.RealisingEnvs.{IsEntered, PairOf}
 use Rattle.structure_matching.proofs.EnrichingSteps.{enriching_all-append}
 
-there : (inner : Scope) (place : Place) (s : State) (root : Env) (path : List (List ℕ)) (xs : List Item) (e : Env)
+pub there : (inner : Scope) (place : Place) (s : State) (root : Env) (path : List (List ℕ)) (xs : List Item) (e : Env)
     → found_at structures path root ≡ Some e
     → enriching_all inner (at_of place) s root (Item.StructureItem path ∷ xs)
     ≡ enriching_all inner (at_of place) s root xs

@@ -31,7 +31,7 @@ use Rattle.structure_matching.proofs.RealisingSteps.{realising_all-append, goes_
 
 -- ---- one structure
 
-there : (inner : Scope) (place : Place) (s : State) (root : Env) (bound : List TyName) (path : List (List ℕ))
+pub there : (inner : Scope) (place : Place) (s : State) (root : Env) (bound : List TyName) (path : List (List ℕ))
     (xs : List Item) (rows : Rows) (e : Env) → found_at structures path root ≡ Some e
     → realising_all inner (at_of place) s root bound (Item.StructureItem path ∷ xs) rows
     ≡ realising_all inner (at_of place) s root bound xs rows
@@ -78,7 +78,7 @@ entered place old inside new r items c found pair e h w inner s root home k =
     ∙ ap (realising_all inner (at_of place) s root old.bound.names
     (items_under (old.path ++ c.name ∷ []) (as_env (at items c.specified)))) h.rows) a
 
-is_led : (items : List Node) (path : List (List ℕ)) (c : Component) (found : ℕ) (s : State) (root : Env)
+pub is_led : (items : List Node) (path : List (List ℕ)) (c : Component) (found : ℕ) (s : State) (root : Env)
     → c.found ≡ Some found → FindsStructure items path s root c
     → (found_at structures (path ++ c.name ∷ []) root ≡ Some (known_env items s found))
     × IsEntered items (path ++ c.name ∷ []) found s root

@@ -1,6 +1,6 @@
 -- An instance of a scheme, closed over all its variables, is the scheme in its one form.
-use Rattle.std.proofs.Common.{◌≡◌, ℕ, zero, suc, ◌+◌, ◌<◌, ◌≤◌, refl, sym, ap, ap₂, ◌∙◌, List, [], ◌∷◌, ◌++◌, map, Bool, true, false, ◌||◌, eqb, cond, arith}
-use Rattle.std.proofs.lemmas.Bool.{eq-eqb, ne_eqb, eqb-true, eqb-false}
+use Rattle.std.proofs.Common.{◌≡◌, ℕ, zero, suc, ◌+◌, ◌<◌, ◌≤◌, refl, sym, ap, ap₂, ◌∙◌, List, [], ◌∷◌, ◌++◌, map, Bool, true, false, ◌||◌, cond, arith}
+use Rattle.std.proofs.lemmas.Bool.{eq-eqb, ne_eqb}
 use Rattle.std.proofs.lemmas.List.{map-append}
 use Rattle.semantic_objects.specs.declared.name.TyId.{TyId}
 use Rattle.semantic_objects.specs.Trees.{Tree, Trees, TypeScheme, binds, binds_any}
@@ -13,15 +13,10 @@ use Rattle.unification.proofs.Canonical.{among_once}
 use Rattle.env_parts.specs.Types.{holds_free, any_holds_free}
 use Rattle.type_nodes.specs.Tables.{Table, type_of, state}
 use Rattle.type_schemes.specs.Schemes.{closed_scheme}
+use Rattle.variable_names.proofs.Naming.{eqb_shift}
 use Rattle.structure_matching.proofs.Apart.{put_filled}
 
 -- ---- variables under other numbers
-
-eqb_shift : (n i j : ℕ) → eqb (n + i) (n + j) ≡ eqb i j
-eqb_shift n i j = either_way (eqb i j)
-    (λ e. eq-eqb (n + i) (n + j) (ap (λ k. n + k) (eqb-true i j e)) ∙ sym e)
-    (λ e. (let d : i ≡ j → ⊥ = eqb-false i j e in
-    ne_eqb (n + i) (n + j) (λ k. d (let l : i ≡ j = omega (arith, k) in l)) ∙ sym e))
 
 among_shift : (n i : ℕ) (vs : List ℕ) → is_among (n + i) (map (λ j. n + j) vs) ≡ is_among i vs
 among_shift n i [] = refl

@@ -3,6 +3,5 @@ pub mod Refusals
 pub mod Admitting
 pub mod Searching
 pub mod Values
-pub mod Comparing
 pub mod Enriching
 pub mod Matches

@@ -1,5 +1,5 @@
 -- A walk for a realisation. Only private functions cite this file.
-use Rattle.std.specs.Prelude.{◌≡◌, ℕ, List, [], ◌∷◌, ◌++◌, Result}
+use Rattle.std.specs.Prelude.{◌≡◌, ℕ, List, [], ◌∷◌, ◌++◌, Result, true}
 use Rattle.std.specs.Option.{option_map}
 use Rattle.cm_base.specs.declared.diag.Place.{Place}
 use Rattle.cm_base.specs.declared.fault.Fault.{Fault}
@@ -12,10 +12,12 @@ use Rattle.unification.specs.Types.{State}
 use Rattle.sml_modules.specs.Items.{Item as Node, at, as_type, as_env}
 use Rattle.type_walks.specs.Tables.{AreTold}
 use Rattle.type_walks.specs.Replaced.{rows_of, IsReady}
-use Rattle.static_semantics.specs.Inferring.{Scope, found_at}
+use Rattle.static_semantics.specs.Inferring.{Scope, gives, found_at}
 use Rattle.static_semantics.specs.EnvironmentsPut.{put_type, put_env}
-use Rattle.module_semantics.specs.Matching.{Item, items_under, realising_all}
+use Rattle.module_semantics.specs.Matching.{Item, Rows, items_under, realising_all}
 use Rattle.type_phrases.specs.Inferred.{Answers}
+use Rattle.matched_pairs.specs.declared.pairs.Pairs.{Pairs}
+use Rattle.matched_pairs.specs.Pairs.{has_pair}
 use Rattle.structure_matching.specs.declared.parts.Component.{Component}
 use Rattle.structure_matching.specs.declared.search.Search.{Search}
 
@@ -87,6 +89,19 @@ Realises place old new result Finds items = (inner : Scope) (s : State) (root : 
     → Finds s root
     → Answers (realising_all inner (at_of place) s root old.bound.names items (rows_of old.rows))
     (λ u. rows_of new.rows) result
+
+-- where one environment is specified and another one is found, all is realised by these rows: a walk through them adds
+-- none to these or to more, at whatever path they stand
+abbrev pub IsSettled : Place → List Node → List TyName → Rows → ℕ → ℕ → Type 0
+IsSettled place items bound rows specified found = (inner : Scope) (s : State) (more : Rows) → inner.home ≡ place.file
+    → realising_all inner (at_of place) s (known_env items s found) bound
+    (items_under [] (as_env (at items specified))) (rows ++ more)
+    ≡ gives (rows ++ more)
+
+-- .. and so it is with each of some pairs
+pub record AreSettled (place : Place) (items : List Node) (search : Search) (pairs : Pairs) : Type 0 where
+  pub each : (specified found : ℕ) → has_pair pairs specified found ≡ true
+      → IsSettled place items search.bound.names (rows_of search.rows) specified found
 
 -- a walk that begins, for names that a signature binds
 pub record Begins (names : List TyName) (begun : Search) : Type 0 where

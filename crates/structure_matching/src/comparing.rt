@@ -1,48 +1,42 @@
 //! Types that are compared in a table, where what is shared is compared once.
 
-ghost use Rattle.std.specs.Prelude.{◌≡◌, ◌+◌, length, map, OnOk, IfOk, true, false};
+ghost use Rattle.std.specs.Prelude.{◌≡◌, IfOk, false};
 ghost use Rattle.env_parts.specs.Types.{holds_free};
 ghost use Rattle.unification.specs.Generality.{same_tree};
-ghost use Rattle.type_nodes.specs.Tables.{state, IsFrontOf};
-ghost use Rattle.type_phrases.specs.Inferred.{KeepsTypes};
-ghost use Rattle.structure_matching.specs.Comparing.{AreRigid};
+ghost use Rattle.type_nodes.specs.Tables.{IsFrontOf};
+ghost use Rattle.variable_names.specs.Named.{named, IsApart};
 
 use cm_base::{List, NoMemory};
-use semantic_objects::{TyId, TypeFn};
+use semantic_objects::{TypeFn, TypeTree};
 use sml_types::{TypeFault, TypeTable};
 use std::alloc::Global;
+use variable_names::named;
 
-/// So many new variables that stand for themselves alone.
-fn rigid_variables(t: &mut TypeTable, alloc: Global, count: u32) -> Result<List<TyId>, NoMemory>
-    ensures rigid { IfOk result (AreRigid (length t.old.births) count t.new) }
-    ensures keeps { KeepsTypes t.old t.new }
+/// A type as a type function without arguments, with names in the place of its own variables.
+fn without_variables(alloc: Global, tree: &TypeTree) -> Result<TypeFn, NoMemory>
+    ensures body { IfOk result (λ made. made.body ≡ named tree.now) }
+    ensures apart { IfOk result (λ made. IsApart tree.now) }
 {
-    let mut ids = List::new(alloc);
-    for _made in 0..count {
-        t.is_kept();
-        let id = t.rigid(false)?;
-        ids.add(id)?;
-    }
-    Ok(ids)
+    let body = named(alloc, tree)?;
+    Ok(TypeFn { arity: 0, body })
 }
 
-/// Whether two type functions of one arity, in which no variable of the table stands, are one. What was made for it stays
-/// in the table.
+/// Whether the types of two type functions without arguments, in which no variable of the table stands, are one. What
+/// was made for it stays in the table.
 fn compare(
     t: &mut TypeTable,
     alloc: Global,
     left: &TypeFn,
     right: &TypeFn,
 ) -> Result<bool, NoMemory>
-    requires arity { right.now.arity ≡ left.now.arity }
     requires left { holds_free left.now.body ≡ false }
     requires right { holds_free right.now.body ≡ false }
     ensures same { IfOk result (λ same. same ≡ same_tree left.now.body right.now.body) }
     ensures front { IsFrontOf t.old t.new }
 {
-    let args = rigid_variables(t, alloc, left.arity)?;
-    let this = t.apply(left, &args)?;
-    let that = t.apply(right, &args)?;
+    let none = List::new(alloc);
+    let this = t.apply(left, &none)?;
+    let that = t.apply(right, &none)?;
     t.is_kept();
     match t.unify(this, that) {
         Ok(()) => Ok(true),
@@ -53,22 +47,23 @@ fn compare(
     }
 }
 
-/// Whether two type functions of one arity, in which no variable of the table stands, are one. What they share inside is
-/// compared once. One that has a variable past its arity is refused as want of memory is.
+/// Whether two types, in which no variable of the table stands, are one, in as many steps as they have nodes: what they
+/// share inside is compared once, and no variable is made, however many they have.
 pub(crate) fn are_one(
     t: &mut TypeTable,
     alloc: Global,
-    left: &TypeFn,
-    right: &TypeFn,
+    left: &TypeTree,
+    right: &TypeTree,
 ) -> Result<bool, NoMemory>
-    requires arity { right.now.arity ≡ left.now.arity }
-    requires left { holds_free left.now.body ≡ false }
-    requires right { holds_free right.now.body ≡ false }
-    ensures same { IfOk result (λ same. same ≡ same_tree left.now.body right.now.body) }
+    requires left { holds_free left.now ≡ false }
+    requires right { holds_free right.now ≡ false }
+    ensures same { IfOk result (λ same. same ≡ same_tree left.now right.now) }
     ensures table { t.new ≡ t.old }
 {
+    let this = without_variables(alloc, left)?;
+    let that = without_variables(alloc, right)?;
     let before = t.mark();
-    let same = compare(t, alloc, left, right);
+    let same = compare(t, alloc, &this, &that);
     t.undo(&before);
     same
 }

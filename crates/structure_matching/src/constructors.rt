@@ -1,6 +1,6 @@
 //! Constructors and types against what is specified of them.
 
-ghost use Rattle.std.specs.Prelude.{◌≡◌, length, IfOk, false};
+ghost use Rattle.std.specs.Prelude.{◌≡◌, IfOk, false};
 ghost use Rattle.env_parts.specs.Types.{holds_free, facts_of, con_types, type_types};
 ghost use Rattle.semantic_objects.specs.Symbols.{same_list};
 ghost use Rattle.module_semantics.specs.Matching.{same_scheme, same_con, has_cons, fits_type};
@@ -8,23 +8,9 @@ ghost use Rattle.module_semantics.specs.Matching.{same_scheme, same_con, has_con
 use crate::canonical::canonical;
 use crate::comparing::are_one;
 use cm_base::{List, NoMemory};
-use semantic_objects::{ConEntry, Scheme, TypeFn, TypeStr};
+use semantic_objects::{ConEntry, Scheme, TypeStr};
 use sml_types::TypeTable;
 use std::alloc::Global;
-
-/// The type of a scheme as a type function of its variables.
-fn as_function(alloc: Global, scheme: &Scheme) -> Result<TypeFn, NoMemory>
-    ensures arity { IfOk result (λ function. function.arity ≡ length scheme.now.marks) }
-    ensures body { IfOk result (λ function. function.body ≡ scheme.now.body) }
-{
-    match u32::try_from(scheme.marks().len()) {
-        Ok(arity) => Ok(TypeFn {
-            arity,
-            body: scheme.body().copy(alloc)?,
-        }),
-        Err(_) => Err(NoMemory),
-    }
-}
 
 /// Whether two schemes, in which no variable of the table stands, have the same marks and the same type.
 fn are_same(
@@ -41,9 +27,7 @@ fn are_same(
     if left.marks() != right.marks() {
         return Ok(false);
     }
-    let this = as_function(alloc, left)?;
-    let that = as_function(alloc, right)?;
-    are_one(t, alloc, &this, &that)
+    are_one(t, alloc, left.body(), right.body())
 }
 
 /// Whether two constructors, in whose types no variable of the table stands, have one name and schemes of one form.
@@ -123,7 +107,7 @@ pub(crate) fn fits_type(
     ensures fits { IfOk result (λ fits. fits ≡ fits_type specified.now found.now) }
     ensures table { t.new ≡ t.old }
 {
-    if !are_one(t, alloc, &specified.function, &found.function)? {
+    if !are_one(t, alloc, &specified.function.body, &found.function.body)? {
         return Ok(false);
     }
     has_cons(t, alloc, specified.cons.as_slice(), found.cons.as_slice())

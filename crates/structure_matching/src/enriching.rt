@@ -9,13 +9,14 @@ ghost use Rattle.sml_modules.specs.Graphs.{env_at, HasEnv};
 ghost use Rattle.core_scopes.specs.Paths.{led_on};
 ghost use Rattle.structure_matching.specs.Searching.{type_of_component, structure_of_component, of_components};
 ghost use Rattle.structure_matching.specs.Searching.{FindsType, FindsStructure};
-ghost use Rattle.structure_matching.specs.Enriching.{value_of_component, FindsValue, Enriches};
+ghost use Rattle.structure_matching.specs.Enriching.{value_of_component, FindsValue, Enriches, AllMeet};
 
 use crate::constructors::fits_type;
 use crate::parts::{Component, EnvPair, components, env_pair, type_at, value_at};
 use crate::refusals::{long_refusal, refusal};
 use crate::values::fits_value;
 use cm_base::{Fault, List, Place, Text};
+use matched_pairs::Pairs;
 use sml_modules::EnvGraph;
 use sml_types::TypeTable;
 
@@ -44,6 +45,9 @@ fn enrich_found_type(
         return Err(Fault::NoMemory);
     }
     let specified = type_at(g, component.specified)?;
+    if component.specified == place {
+        return Ok(());
+    }
     let found = type_at(g, place)?;
     if found.function.arity != specified.function.arity {
         return Err(refusal(alloc, 35, at));
@@ -156,33 +160,39 @@ fn enrich_values(
     Ok(())
 }
 
-/// A structure, with all that is inside it: 36 where it is missing.
+/// A structure, with all that is inside it: 36 where it is missing. What was found for it once isn't gone through again.
 #[cycle(enriching)]
 fn enrich_structure(
     g: &EnvGraph,
     t: &mut TypeTable,
     at: &Place,
     path: &mut List<Text>,
+    done: &mut Pairs,
     component: &Component,
     levels: usize,
 ) -> Result<(), Fault>
+    requires done { AllMeet at.now (state t.old) g.now.items done.old }
     ensures enriches { Enriches at.now (state t.old) result
         (λ root. FindsStructure g.now.items path.old (state t.old) root component.now)
         (structure_of_component g.now.items path.old component.now) }
     ensures table { t.new ≡ t.old }
     ensures path { OnOk result (path.new ≡ path.old) }
+    ensures done { OnOk result (AllMeet at.now (state t.old) g.now.items done.new) }
 {
     let Some(found) = component.found else {
         return Err(long_refusal(g.alloc(), 36, at, path.as_slice(), &component.name));
     };
+    if done.has(component.specified, found) {
+        return Ok(());
+    }
     if levels == 0 {
         return Err(Fault::NoMemory);
     }
     let pair = env_pair(g, component.specified, found)?;
     path.add(component.name.copy()?)?;
-    enrich_env(g, t, at, path, pair, levels - 1)?;
+    enrich_env(g, t, at, path, done, pair, levels - 1)?;
     path.pop();
-    Ok(())
+    Ok(done.add(component.specified, found)?)
 }
 
 /// Structures, in byte order.
@@ -192,17 +202,20 @@ fn enrich_structures(
     t: &mut TypeTable,
     at: &Place,
     path: &mut List<Text>,
+    done: &mut Pairs,
     components: &[Component],
     levels: usize,
 ) -> Result<(), Fault>
+    requires done { AllMeet at.now (state t.old) g.now.items done.old }
     ensures enriches { Enriches at.now (state t.old) result
         (λ root. AllItems (FindsStructure g.now.items path.old (state t.old) root) components.now)
         (of_components (structure_of_component g.now.items path.old) components.now) }
     ensures table { t.new ≡ t.old }
     ensures path { OnOk result (path.new ≡ path.old) }
+    ensures done { OnOk result (AllMeet at.now (state t.old) g.now.items done.new) }
 {
     for component in components {
-        enrich_structure(g, t, at, path, component, levels)?;
+        enrich_structure(g, t, at, path, done, component, levels)?;
     }
     Ok(())
 }
@@ -214,22 +227,25 @@ pub(crate) fn enrich_env(
     t: &mut TypeTable,
     at: &Place,
     path: &mut List<Text>,
+    done: &mut Pairs,
     pair: EnvPair,
     levels: usize,
 ) -> Result<(), Fault>
     requires specified { HasEnv g.now pair.specified }
     requires found { HasEnv g.now pair.found }
+    requires done { AllMeet at.now (state t.old) g.now.items done.old }
     ensures enriches { Enriches at.now (state t.old) result
         (λ root. led_on path.old root ≡ Some (put_env (state t.old).stands (env_at g.now pair.found)))
         (items_under path.old (env_at g.now pair.specified)) }
     ensures table { t.new ≡ t.old }
     ensures path { OnOk result (path.new ≡ path.old) }
+    ensures done { OnOk result (AllMeet at.now (state t.old) g.now.items done.new) }
 {
     let alloc = g.alloc();
     let specified = g.env_tables(pair.specified)?;
     let found = g.env_tables(pair.found)?;
     let structures = components(alloc, &specified.structures, &found.structures)?;
-    enrich_structures(g, t, at, path, structures.as_slice(), levels)?;
+    enrich_structures(g, t, at, path, done, structures.as_slice(), levels)?;
     let types = components(alloc, &specified.types, &found.types)?;
     enrich_types(g, t, at, path.as_slice(), types.as_slice())?;
     let values = components(alloc, &specified.values, &found.values)?;

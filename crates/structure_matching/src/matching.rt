@@ -18,6 +18,7 @@ use crate::parts::EnvPair;
 use crate::realisation_search::{LEVELS, find_realisation};
 use cm_base::{Fault, List, Place};
 use environment_walks::{Realisation, realise};
+use matched_pairs::Pairs;
 use sml_modules::{EnvGraph, EnvId, SigId, SigParts};
 use sml_types::TypeTable;
 
@@ -50,11 +51,12 @@ fn match_parts(
     let by = find_realisation(g, at, env, parts)?;
     let made = realise(g, parts.env, &by)?;
     let mut path = List::new(alloc);
+    let mut done = Pairs::new(alloc);
     let pair = EnvPair {
         specified: made,
         found: env,
     };
-    enrich_env(g, t, at, &mut path, pair, LEVELS)?;
+    enrich_env(g, t, at, &mut path, &mut done, pair, LEVELS)?;
     Ok(Matched { env: made, by })
 }
 

@@ -18,6 +18,7 @@ use crate::refusals::refusal;
 use crate::search::Search;
 use cm_base::{Fault, List, NoMemory, Place};
 use environment_walks::Realisation;
+use matched_pairs::Pairs;
 use semantic_objects::TyName;
 use sml_modules::{EnvGraph, EnvId, SigParts};
 use std::alloc::Global;
@@ -82,11 +83,12 @@ pub fn find_realisation(
 {
     let alloc = g.alloc();
     let mut search = begin(alloc, sig.bound.as_slice())?;
+    let mut done = Pairs::new(alloc);
     let pair = EnvPair {
         specified: sig.env,
         found: env,
     };
-    realise_env(g, at, &mut search, pair, LEVELS)?;
+    realise_env(g, at, &mut search, &mut done, pair, LEVELS)?;
     if is_any_left(&search, sig.bound.as_slice())? {
         return Err(refusal(alloc, 37, at));
     }

@@ -13,13 +13,14 @@ ghost use Rattle.core_scopes.specs.Paths.{led_on};
 ghost use Rattle.static_semantics.specs.EnvironmentsPut.{put_env};
 ghost use Rattle.static_semantics.specs.Holding.{AllItems};
 ghost use Rattle.structure_matching.specs.Searching.{at_of, known_type, type_of_component, structure_of_component, of_components};
-ghost use Rattle.structure_matching.specs.Searching.{IsSearch, Continues, Realises, FindsType, FindsStructure};
+ghost use Rattle.structure_matching.specs.Searching.{IsSearch, Continues, Realises, FindsType, FindsStructure, AreSettled};
 
 use crate::admitting::admits;
 use crate::parts::{Component, EnvPair, components, env_pair, type_at};
 use crate::refusals::{long_refusal, refusal};
 use crate::search::Search;
 use cm_base::{Fault, NoMemory, Place};
+use matched_pairs::Pairs;
 use semantic_objects::{TyName, TypeFn};
 use sml_modules::{EnvGraph, EnvId, copy_function};
 use std::alloc::Global;
@@ -110,32 +111,38 @@ fn realise_types(
     Ok(())
 }
 
-/// A structure, with all that is inside it: 36 where it is missing.
+/// A structure, with all that is inside it: 36 where it is missing. What was found for it once isn't gone through again.
 #[cycle(realising)]
 fn realise_structure(
     g: &EnvGraph,
     at: &Place,
     search: &mut Search,
+    done: &mut Pairs,
     component: &Component,
     levels: usize,
 ) -> Result<(), Fault>
-    requires { IsSearch search.old }
+    requires search { IsSearch search.old }
+    requires done { AreSettled at.now g.now.items search.old done.old }
     ensures realises { Realises at.now search.old search.new result
         (λ s root. FindsStructure g.now.items search.old.path s root component.now)
         (structure_of_component g.now.items search.old.path component.now) }
     ensures continues { OnOk result (Continues search.old search.new) }
+    ensures done { OnOk result (AreSettled at.now g.now.items search.new done.new) }
 {
     let Some(found) = component.found else {
         return Err(long_refusal(g.alloc(), 36, at, search.path.as_slice(), &component.name));
     };
+    if done.has(component.specified, found) {
+        return Ok(());
+    }
     if levels == 0 {
         return Err(Fault::NoMemory);
     }
     let pair = env_pair(g, component.specified, found)?;
     search.enter(&component.name)?;
-    realise_env(g, at, search, pair, levels - 1)?;
+    realise_env(g, at, search, done, pair, levels - 1)?;
     search.leave();
-    Ok(())
+    Ok(done.add(component.specified, found)?)
 }
 
 /// Structures, in byte order.
@@ -144,17 +151,20 @@ fn realise_structures(
     g: &EnvGraph,
     at: &Place,
     search: &mut Search,
+    done: &mut Pairs,
     components: &[Component],
     levels: usize,
 ) -> Result<(), Fault>
-    requires { IsSearch search.old }
+    requires search { IsSearch search.old }
+    requires done { AreSettled at.now g.now.items search.old done.old }
     ensures realises { Realises at.now search.old search.new result
         (λ s root. AllItems (FindsStructure g.now.items search.old.path s root) components.now)
         (of_components (structure_of_component g.now.items search.old.path) components.now) }
     ensures continues { OnOk result (Continues search.old search.new) }
+    ensures done { OnOk result (AreSettled at.now g.now.items search.new done.new) }
 {
     for component in components {
-        realise_structure(g, at, search, component, levels)?;
+        realise_structure(g, at, search, done, component, levels)?;
     }
     Ok(())
 }
@@ -165,22 +175,25 @@ pub(crate) fn realise_env(
     g: &EnvGraph,
     at: &Place,
     search: &mut Search,
+    done: &mut Pairs,
     pair: EnvPair,
     levels: usize,
 ) -> Result<(), Fault>
     requires specified { HasEnv g.now pair.specified }
     requires found { HasEnv g.now pair.found }
     requires search { IsSearch search.old }
+    requires done { AreSettled at.now g.now.items search.old done.old }
     ensures realises { Realises at.now search.old search.new result
         (λ s root. led_on search.old.path root ≡ Some (put_env s.stands (env_at g.now pair.found)))
         (items_under search.old.path (env_at g.now pair.specified)) }
     ensures continues { OnOk result (Continues search.old search.new) }
+    ensures done { OnOk result (AreSettled at.now g.now.items search.new done.new) }
 {
     let alloc = g.alloc();
     let specified = g.env_tables(pair.specified)?;
     let found = g.env_tables(pair.found)?;
     let structures = components(alloc, &specified.structures, &found.structures)?;
-    realise_structures(g, at, search, structures.as_slice(), levels)?;
+    realise_structures(g, at, search, done, structures.as_slice(), levels)?;
     let types = components(alloc, &specified.types, &found.types)?;
     realise_types(g, at, search, types.as_slice())
 }

@@ -9,10 +9,11 @@ use Rattle.core_scopes.specs.Paths.{led_on}
 use Rattle.type_phrases.proofs.PartsRead.{passed_on}
 use Rattle.structure_matching.specs.Found.{specified_rows, AreFound}
 use Rattle.structure_matching.specs.Searching.{FindsStructure, FindsType, structure_of_component, type_of_component, of_components}
-use Rattle.structure_matching.specs.Enriching.{FindsValue, value_of_component, Enriches}
+use Rattle.structure_matching.specs.Enriching.{FindsValue, value_of_component, Enriches, AllMeet}
 use Rattle.structure_matching.proofs.Listing.{drop_item}
 use Rattle.structure_matching.proofs.EnrichingSteps.{enriched_one, enriched_stop}
 use Rattle.structure_matching.proofs.EnrichingEnvs.{structure_walked, structures_stop, types_stop, values_last}
+use Rattle.structure_matching.proofs.EnrichedOnce.{structure_met, met_more}
 use Rattle.structure_matching.proofs.enriching.+enriching.Goals as goal
 
 -- ---- an environment
@@ -119,6 +120,18 @@ enrich_structure-returns-clause-enriches t c =
     c.in_ok-pair.pair c.in-Some.is c.in_ok-pair.ensures.places
     (c.in_ok-add.ensures.ok ∙ ap (λ n. path ++ n ∷ []) c.in_ok-copy.ensures) c.in_ok-enrich_env.ensures.enriches
 
+pub enrich_structure-returns-clause-done : goal.enrich_structure-returns-clause-done
+enrich_structure-returns-clause-done t c =
+    met_more c.args.at.now (state c.args.t.now) c.args.g.now.items c.add.new.self c.args.component.now c.in-Some.found
+    c.in_ok-pair.pair c.enrich_env.new.done c.add-2.new.self c.in_ok-pair.ensures.places c.in_ok-enrich_env.ensures.done
+    c.in_ok-add-2.ensures.ok c.in_ok-enrich_env.ensures.enriches
+
+-- .. that was found before
+pub enrich_structure-returns-then-has-clause-enriches : goal.enrich_structure-returns-then-has-clause-enriches
+enrich_structure-returns-then-has-clause-enriches t c =
+    structure_met c.args.at.now (state c.args.t.now) c.args.g.now.items c.args.path.now c.args.component.now
+    c.in-Some.found c.args.done.now c.has.result c.in-Some.is c.requires.done c.has.ensures c.if-has.true
+
 -- ---- structures
 
 pub enrich_structures-returns-in_err-enrich_structure-clause-enriches :
@@ -165,4 +178,6 @@ enrich_structures-loop-component-preserved t c =
           c.in_ok-enrich_structure.ensures.enriches));
       table = c.in_ok-enrich_structure.ensures.table ∙ c.loop-component.invariant.table;
       path = c.in_ok-enrich_structure.ensures.path ∙ c.loop-component.invariant.path;
+      done = subst (λ u. AllMeet place (state u) items c.enrich_structure.new.done) c.loop-component.invariant.table
+          c.in_ok-enrich_structure.ensures.done;
     }

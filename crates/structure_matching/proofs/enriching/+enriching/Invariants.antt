@@ -1,6 +1,7 @@
 use Rattle.std.proofs.Common.{◌≡◌, ◌+◌, ◌*◌, drop}
 use Rattle.type_nodes.specs.Tables.{state}
 use Rattle.structure_matching.specs.Searching.{structure_of_component, FindsStructure}
+use Rattle.structure_matching.specs.Enriching.{AllMeet}
 use Rattle.structure_matching.proofs.EnrichingSteps.{EnrichedTo}
 use Rattle.structure_matching.proofs.enriching.+enriching.Given as goal
 
@@ -19,4 +20,5 @@ invariant-enrich_structures-loop-component l = record {
       (structure_of_component l.g.items l.fn.path) l.components (drop l.component-index l.components);
   table : l.t ≡ l.fn.t;
   path : l.path ≡ l.fn.path;
+  done : AllMeet l.at (state l.fn.t) l.g.items l.done;
 }

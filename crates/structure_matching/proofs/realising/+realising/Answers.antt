@@ -11,6 +11,7 @@ use Rattle.structure_matching.specs.Searching.{FindsStructure, structure_of_comp
 use Rattle.structure_matching.proofs.Listing.{drop_item}
 use Rattle.structure_matching.proofs.RealisingSteps.{realised_one, realised_stop}
 use Rattle.structure_matching.proofs.RealisingEnvs.{structure_done, structure_fails, structures_stop, types_last}
+use Rattle.structure_matching.proofs.RealisedOnce.{settled_types, settled_more, structure_settled}
 use Rattle.structure_matching.proofs.realising.+realising.Goals as goal
 
 -- ---- an environment
@@ -46,6 +47,15 @@ realise_env-returns-clause-realises t c =
     c.in_ok-realise_structures.ensures.realises c.in_ok-realise_structures.ensures.continues
     c.realise_types.ensures.realises
 
+pub realise_env-returns-clause-done : goal.realise_env-returns-clause-done
+realise_env-returns-clause-done t c =
+    let g = c.args.g.now in
+    settled_types c.args.at.now g.items c.realise_structures.new.search c.realise_types.new.search
+    (env_at g c.args.pair.found) c.in_ok-found.found.now c.as_slice-2.result.now c.realise_structures.new.done
+    c.realise_types.result c.in_ok-found.ensures
+    (subst (AreFound c.in_ok-found.found.now.types) (sym c.as_slice-2.ensures) c.in_ok-types.ensures.found)
+    c.realise_types.ensures.realises c.realise_types.ensures.continues c.in_ok-realise_structures.ensures.done
+
 -- ---- a structure
 
 pub realise_structure-returns-in_err-realise_env-clause-realises :
@@ -68,6 +78,19 @@ realise_structure-returns-clause-realises t c =
     c.args.g.now.items c.args.component.now c.in-Some.found c.in_ok-pair.pair c.in-Some.is c.in_ok-pair.ensures.places
     c.in_ok-enter.ensures c.in_ok-realise_env.ensures.realises c.leave.ensures
 
+pub realise_structure-returns-clause-done : goal.realise_structure-returns-clause-done
+realise_structure-returns-clause-done t c =
+    settled_more c.args.at.now c.args.g.now.items c.enter.new.self c.realise_env.new.search c.leave.new.self
+    c.args.component.now c.in-Some.found c.in_ok-pair.pair c.realise_env.new.done c.add.new.self
+    c.in_ok-pair.ensures.places c.in_ok-realise_env.ensures.done c.in_ok-add.ensures.ok
+    c.in_ok-realise_env.ensures.realises c.in_ok-realise_env.ensures.continues c.leave.ensures
+
+-- .. that was found before
+pub realise_structure-returns-then-has-clause-realises : goal.realise_structure-returns-then-has-clause-realises
+realise_structure-returns-then-has-clause-realises t c =
+    structure_settled c.args.at.now c.args.g.now.items c.args.search.now c.args.component.now c.in-Some.found
+    c.args.done.now c.has.result c.in-Some.is c.requires.done c.has.ensures c.if-has.true
+
 -- ---- structures
 
 pub realise_structures-returns-in_err-realise_structure-clause-realises :
@@ -84,11 +107,11 @@ realise_structures-returns-in_err-realise_structure-clause-realises t c =
     (λ s root. AllItems (FindsStructure items path s root) all)
     (of_components (structure_of_component items path) all)) c.from_residual.result fault c.from_residual.ensures.1
     (realised_stop c.args.at.now c.args.search.now c.loop-component.search new new (FindsStructure items path)
-    (structure_of_component items path) all (drop i all) (drop (i + 1) all) component fault c.loop-component.invariant
+    (structure_of_component items path) all (drop i all) (drop (i + 1) all) component fault c.loop-component.invariant.realised
     (drop_item all i component c.loop-component-test.true c.component-item.is)
     (subst (λ p. Realises c.args.at.now c.loop-component.search new (Err fault)
     (λ s root. FindsStructure items p s root component) (structure_of_component items p component))
-    c.loop-component.invariant.continues.path c.in_err-realise_structure.ensures.realises))
+    c.loop-component.invariant.realised.continues.path c.in_err-realise_structure.ensures.realises))
 
 pub realise_structures-loop-component-preserved : goal.realise_structures-loop-component-preserved
 realise_structures-loop-component-preserved t c =
@@ -98,10 +121,14 @@ realise_structures-loop-component-preserved t c =
     let i = c.loop-component.component-index in
     let component = c.component-item.result in
     let new = c.realise_structure.new.search in
-    realised_one c.args.at.now c.args.search.now c.loop-component.search new (FindsStructure items path)
-    (structure_of_component items path) all (drop i all) (drop (i + 1) all) component c.loop-component.invariant
-    (drop_item all i component c.loop-component-test.true c.component-item.is)
-    (subst (λ p. Realises c.args.at.now c.loop-component.search new (Ok tt)
-    (λ s root. FindsStructure items p s root component) (structure_of_component items p component))
-    c.loop-component.invariant.continues.path c.in_ok-realise_structure.ensures.realises)
-    c.in_ok-realise_structure.ensures.continues
+    record {
+      realised = realised_one c.args.at.now c.args.search.now c.loop-component.search new (FindsStructure items path)
+          (structure_of_component items path) all (drop i all) (drop (i + 1) all) component
+          c.loop-component.invariant.realised
+          (drop_item all i component c.loop-component-test.true c.component-item.is)
+          (subst (λ p. Realises c.args.at.now c.loop-component.search new (Ok tt)
+          (λ s root. FindsStructure items p s root component) (structure_of_component items p component))
+          c.loop-component.invariant.realised.continues.path c.in_ok-realise_structure.ensures.realises)
+          c.in_ok-realise_structure.ensures.continues;
+      done = c.in_ok-realise_structure.ensures.done;
+    }
