@@ -54,11 +54,11 @@ or_none : (b : Bool) → (b || false) ≡ b
 or_none true = refl
 or_none false = refl
 
-named : {A : Type 0} (rows : Rows A) (name : List ℕ)
+pub named : {A : Type 0} (rows : Rows A) (name : List ℕ)
     → is_some (entry name (with_all rows [])) ≡ is_some (last_entry rows name)
 named rows name = ap is_some (entry_under rows [] name) ∙ alone (last_entry rows name)
 
-tables_back : (rows : Table Env) → table_of (structures_of rows) ≡ rows
+pub tables_back : (rows : Table Env) → table_of (structures_of rows) ≡ rows
 tables_back [] = refl
 tables_back (row ∷ rows) = ap (λ (z : Table Env). row ∷ z) (tables_back rows)
 

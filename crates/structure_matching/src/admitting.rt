@@ -65,7 +65,7 @@ fn root_admits(alloc: Global, nodes: &[TypeNode]) -> Result<bool, NoMemory>
 
 /// Whether a type function admits equality: whether its type does where its variables do. A variable of a table in it is
 /// refused as want of memory is. The Definition of Standard ML (Revised), section 4.4.
-pub(crate) fn admits(alloc: Global, function: &TypeFn) -> Result<bool, NoMemory>
+pub fn admits(alloc: Global, function: &TypeFn) -> Result<bool, NoMemory>
     ensures { IfOk result (λ admits. (q : Marks) → admits ≡ function_admits q function.now) }
 {
     root_admits(alloc, function.body.nodes())

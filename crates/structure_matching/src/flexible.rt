@@ -72,7 +72,7 @@ fn alone_over<'a>(
 }
 
 /// The type name that a type function applies to its own variables in their order, if it does that.
-pub(crate) fn alone(function: &TypeFn) -> Result<Option<&TyName>, NoMemory>
+pub fn alone(function: &TypeFn) -> Result<Option<&TyName>, NoMemory>
     ensures { IfOk result (λ name. option_copied name ≡ name_alone function.now) }
 {
     let nodes = function.body.nodes();

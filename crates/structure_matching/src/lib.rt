@@ -15,5 +15,8 @@ mod refusals;
 mod search;
 mod values;
 
+pub use admitting::admits;
+pub use flexible::alone;
 pub use matching::{Matched, match_signature, matches};
 pub use realisation_search::find_realisation;
+pub use refusals::dotted;

@@ -1,0 +1,104 @@
+//! Structures that are specified, and signatures that are included.
+
+ghost use Rattle.std.specs.Prelude.{◌≡◌, ◌++◌, IfOk, OnOk};
+ghost use Rattle.semantic_objects.specs.declared.entry.ValueEntry.{ValueEntry};
+ghost use Rattle.semantic_objects.specs.Environments.{empty_env, modified_by};
+ghost use Rattle.sml_modules.specs.Graphs.{env_at, signature_of, HasEnv, HasEnvs, HasSigParts};
+ghost use Rattle.static_semantics.specs.Inferring.{Scope as Inner};
+ghost use Rattle.core_scopes.specs.Scopes.{AreEnvs};
+ghost use Rattle.core_scopes.specs.Marks.{env_of_made};
+ghost use Rattle.type_phrases.specs.Inferred.{Answers};
+ghost use Rattle.signature_specs.specs.Specs.{signature_so_far, IsFrontOf};
+ghost use Rattle.signature_parts.specs.Ending.{structure_specified, included};
+
+use cm_base::{Fault, List, NoMemory};
+use core_scopes::Made;
+use datatype_specs::specify_made;
+use open_declarations::add_env;
+use semantic_objects::TyName;
+use signature_specs::{Specified, check_new};
+use sml_modules::{EnvGraph, EnvId, SigParts};
+use sml_trees::{At, Name};
+use std::alloc::Global;
+
+/// How many type names a signature may bind.
+pub(crate) const MOST_NAMES: usize = 1_048_576;
+
+/// Adds type names to those that a signature binds. More than 1,048,576 are refused as want of memory is, before they
+/// are added.
+fn add_names(made: &mut Specified, names: List<TyName>) -> Result<(), NoMemory>
+    ensures { OnOk result (made.new ≡ record made.old { bound = made.old.bound ++ names }) }
+{
+    if names.len() > MOST_NAMES || made.bound.len() > MOST_NAMES - names.len() {
+        return Err(NoMemory);
+    }
+    for name in names.into_vec() {
+        made.bound.add(name)?;
+    }
+    Ok(())
+}
+
+/// Specifies a structure with an open signature: 40 at its name where a structure has it already. The signature that is
+/// made binds the names of the structure's too: it may bind 1,048,576, and more are refused as want of memory is. A
+/// diagnostic leaves the signature as it was. The Definition of Standard ML (Revised), rules 74 and 84.
+pub fn specify_structure(
+    alloc: Global,
+    g: &EnvGraph,
+    made: &mut Specified,
+    name: &Name,
+    sig: SigParts,
+) -> Result<(), Fault>
+    requires { HasSigParts g.now sig }
+    ensures infers { (inner : Inner) → inner.home ≡ g.now.home
+        → Answers (structure_specified inner name.now (signature_of g.now sig) (signature_so_far g.now made.old))
+        (λ u. signature_so_far g.now made.new) result }
+    ensures front { OnOk result (IsFrontOf made.old made.new) }
+    ensures envs { AreEnvs g.now made.old.structures → OnOk result (AreEnvs g.now made.new.structures) }
+{
+    check_new(alloc, g, &made.structures, name)?;
+    let text = name.text.copy()?;
+    let SigParts { bound, env } = sig;
+    made.structures.bind(text, env)?;
+    add_names(made, bound)?;
+    Ok(())
+}
+
+/// All entries of an environment.
+fn entries_of(alloc: Global, g: &EnvGraph, env: EnvId) -> Result<Made<()>, NoMemory>
+    requires { HasEnv g.now env }
+    ensures is { IfOk result (λ made. (read : Unit {0} → ValueEntry)
+        → env_of_made g.now read made ≡ modified_by empty_env (env_at g.now env)) }
+    ensures there { IfOk result (λ made. HasEnvs g.now made.structures) }
+{
+    let mut made = Made {
+        structures: List::new(alloc),
+        types: List::new(alloc),
+        values: List::new(alloc),
+    };
+    add_env(g, env, &mut made)?;
+    Ok(made)
+}
+
+/// Specifies all of an open signature: 40 at a place where a name of it is specified already. The signature that is made
+/// binds its names too, and may bind 1,048,576. A diagnostic leaves the signature as it was.
+/// The Definition of Standard ML (Revised), rule 75.
+pub fn include(
+    alloc: Global,
+    g: &EnvGraph,
+    made: &mut Specified,
+    at: At,
+    sig: SigParts,
+) -> Result<(), Fault>
+    requires { HasSigParts g.now sig }
+    ensures infers { (inner : Inner) → inner.home ≡ g.now.home
+        → Answers (included inner at (signature_of g.now sig) (signature_so_far g.now made.old))
+        (λ u. signature_so_far g.now made.new) result }
+    ensures front { OnOk result (IsFrontOf made.old made.new) }
+    ensures envs { AreEnvs g.now made.old.structures → OnOk result (AreEnvs g.now made.new.structures) }
+{
+    let SigParts { bound, env } = sig;
+    let part = entries_of(alloc, g, env)?;
+    specify_made(alloc, g, made, at, part)?;
+    add_names(made, bound)?;
+    Ok(())
+}

@@ -1,0 +1,3 @@
+pub mod Wheres
+pub mod Names
+pub mod Checks

@@ -1,0 +1,8 @@
+//! Signatures with `where type`.
+#![tactic(auto)]
+
+mod checks;
+mod replacing;
+mod whole;
+
+pub use whole::elab_where;
