@@ -2,7 +2,7 @@
 use Rattle.std.proofs.Common.{◌≡◌, ℕ, refl, sym, ap, ap₂, ◌∙◌, subst, List, [], ◌∷◌, ◌++◌, map, Option, Some, None, Bool, true, false, ◌||◌}
 use Rattle.std.specs.Prelude.{Result, Err}
 use Rattle.std.specs.List.{list_any}
-use Rattle.std.specs.Option.{is_some, option_map}
+use Rattle.std.specs.Option.{is_some}
 use Rattle.std.specs.FinMap.{nat_cmp-IsAntisymmetric, slice_cmp-IsAntisymmetric}
 use Rattle.std.specs.FinMap.Entries.{by_order}
 use Rattle.std.specs.declared.cmp.Ordering.{Ordering}
@@ -24,7 +24,7 @@ use Rattle.core_scopes.specs.declared.made.NamedInScope.{NamedInScope}
 use Rattle.core_scopes.specs.Listed.{env_rows}
 use Rattle.core_scopes.specs.Marks.{value_rows, env_of_made}
 use Rattle.core_scopes.specs.Scopes.{entry_of}
-use Rattle.core_scopes.proofs.Tables.{or_held, entry_over, all_append, all_at_once}
+use Rattle.core_scopes.proofs.Tables.{all_append, all_at_once}
 use Rattle.core_scopes.proofs.Scoping.{map_append}
 use Rattle.static_semantics.specs.Inferring.{Scope, gives, refuses_where}
 use Rattle.module_semantics.specs.SignatureInference.{shares, have_common, specified}
@@ -32,7 +32,7 @@ use Rattle.type_phrases.specs.Inferred.{Answers, Refuses}
 use Rattle.type_phrases.proofs.Steps.{refused}
 use Rattle.signature_specs.specs.declared.specified.Specified.{Specified}
 use Rattle.signature_specs.specs.Specs.{env_so_far, signature_so_far, IsFrontOf}
-use Rattle.signature_specs.proofs.Specifying.{named, tables_back, is_specified, not_specified}
+use Rattle.signature_specs.proofs.Specifying.{named, named_over, tables_back, is_specified, not_specified}
 use Rattle.signature_specs.proofs.Fronts.{take_more}
 use Rattle.datatype_specs.specs.Parts.{AddsPart}
 
@@ -89,7 +89,7 @@ any_all p (row ∷ rows) t =
     ∙ ap (λ b. any_named p rows || b) (any_set p row.0 row.1 t)
     ∙ or_joined (any_named p rows) (p row.0) (any_named p t)
 
-any_rows : {A : Type 0} (p : List ℕ → Bool) (rows : Table A) → any_named p (with_all rows []) ≡ any_named p rows
+pub any_rows : {A : Type 0} (p : List ℕ → Bool) (rows : Table A) → any_named p (with_all rows []) ≡ any_named p rows
 any_rows p rows = any_all p rows [] ∙ or_none (any_named p rows)
 
 any_mapped : {A B : Type 0} (p : B → Bool) (f : A → B) (xs : List A)
@@ -102,14 +102,6 @@ any_same p q [] h = refl
 any_same p q (x ∷ xs) h = ap₂ (λ b c. b || c) (h x) (any_same p q xs h)
 
 -- ---- names in common
-
-some_mapped : {A B : Type 0} (f : A → B) (o : Option A) → is_some (or_held (option_map f o) None) ≡ is_some o
-some_mapped f None = refl
-some_mapped f (Some x) = refl
-
-named_over : {A B : Type 0} (f : A → B) (rows : Rows A) (name : List ℕ)
-    → is_some (entry name (with_all (map_rows f rows) [])) ≡ is_some (last_entry rows name)
-named_over f rows name = ap is_some (entry_over f rows [] name) ∙ some_mapped f (last_entry rows name)
 
 shared : {A E : Type 0} (rows : Table A) (table : Table A) (names : E → List ℕ) (row_of : E → List ℕ × A)
     (part : List E) (p : List ℕ → Bool) → rows ≡ map row_of part → ((e : E) → (row_of e).0 ≡ names e)

@@ -26,7 +26,7 @@ use sml_modules::EnvGraph;
 use sml_trees::{ConBind, DatBind};
 use sml_types::TypeTable;
 use std::alloc::Global;
-use structure_matching::alone;
+use function_forms::alone;
 
 /// What datatypes make, by name.
 #[derive(Drop)]

@@ -1,7 +1,6 @@
 //! Specifications in which no signature stands. What each specifies is bound in the scope once.
 
-ghost use Rattle.std.specs.Prelude.{◌≡◌, map, true, false};
-ghost use Rattle.semantic_objects.specs.declared.entry.ValueEntry.{ValueEntry};
+ghost use Rattle.std.specs.Prelude.{map};
 ghost use Rattle.bare_phrases.specs.PhraseOf.{con_phrase, dat_phrase};
 ghost use Rattle.core_scopes.specs.Scopes.{AreEnvs, IsScopeOf};
 ghost use Rattle.static_semantics.specs.Inferring.{◌>>=◌, gives};

@@ -44,7 +44,7 @@ env_is ss us ts xs vs ys h k l = cc
 
 -- ---- structures
 
-rows_of_structures : (g : Graph) (part : List NamedEnv) → map_rows (env_at g) (env_rows part) ≡ structure_rows g part
+pub rows_of_structures : (g : Graph) (part : List NamedEnv) → map_rows (env_at g) (env_rows part) ≡ structure_rows g part
 rows_of_structures g [] = refl
 rows_of_structures g (e ∷ es) = ap (λ (z : Table Env). (e.name, env_at g e.env) ∷ z) (rows_of_structures g es)
 
@@ -53,7 +53,7 @@ envs_dropped g zero rows h = h
 envs_dropped g (suc n) [] h = tt
 envs_dropped g (suc n) (row ∷ rows) h = envs_dropped g n rows h.1
 
-envs_listed : (g : Graph) (part : List NamedEnv) → AreEnvs g (env_rows part) → HasEnvs g part
+pub envs_listed : (g : Graph) (part : List NamedEnv) → AreEnvs g (env_rows part) → HasEnvs g part
 envs_listed g [] h = tt
 envs_listed g (e ∷ es) h = (h.0, envs_listed g es h.1)
 

@@ -1,24 +1,25 @@
 //! Structures that are specified, and signatures that are included.
 
-ghost use Rattle.std.specs.Prelude.{◌≡◌, ◌++◌, IfOk, OnOk};
+ghost use Rattle.std.specs.Prelude.{◌≡◌, ◌++◌, [], IfOk, OnOk};
 ghost use Rattle.semantic_objects.specs.declared.entry.ValueEntry.{ValueEntry};
 ghost use Rattle.semantic_objects.specs.Environments.{empty_env, modified_by};
 ghost use Rattle.sml_modules.specs.Graphs.{env_at, signature_of, HasEnv, HasEnvs, HasSigParts};
 ghost use Rattle.static_semantics.specs.Inferring.{Scope as Inner};
-ghost use Rattle.core_scopes.specs.Scopes.{AreEnvs};
+ghost use Rattle.core_scopes.specs.Scopes.{AreEnvs, IsScopeOf};
 ghost use Rattle.core_scopes.specs.Marks.{env_of_made};
 ghost use Rattle.type_phrases.specs.Inferred.{Answers};
 ghost use Rattle.signature_specs.specs.Specs.{signature_so_far, IsFrontOf};
 ghost use Rattle.signature_parts.specs.Ending.{structure_specified, included};
+ghost use Rattle.signature_parts.specs.Steps.{OpensNameless};
 
-use cm_base::{Fault, List, NoMemory};
-use core_scopes::Made;
+use cm_base::{Fault, List, NoMemory, Text};
+use core_scopes::{Made, Scope};
 use datatype_specs::specify_made;
-use open_declarations::add_env;
+use open_declarations::elab_open;
 use semantic_objects::TyName;
 use signature_specs::{Specified, check_new};
 use sml_modules::{EnvGraph, EnvId, SigParts};
-use sml_trees::{At, Name};
+use sml_trees::{At, LongName, Name};
 use std::alloc::Global;
 
 /// How many type names a signature may bind.
@@ -63,20 +64,47 @@ pub fn specify_structure(
     Ok(())
 }
 
-/// All entries of an environment.
+/// A name without a text, which no source has.
+fn nameless(alloc: Global) -> Result<Text, NoMemory>
+    ensures { IfOk result (λ name. name ≡ []) }
+{
+    Text::from_bytes(alloc, b"")
+}
+
+/// Opens the one structure of a scope that has no name.
+fn open_nameless(
+    alloc: Global,
+    g: &EnvGraph,
+    scope: &Scope<()>,
+) -> Result<Made<()>, NoMemory>
+    requires { IsScopeOf g.now scope.now }
+    ensures is { IfOk result (λ made. OpensNameless g.now scope.now made) }
+    ensures there { IfOk result (λ made. HasEnvs g.now made.structures) }
+{
+    let mut parts = List::new(alloc);
+    parts.add(nameless(alloc)?)?;
+    let mut longs = List::new(alloc);
+    longs.add(LongName {
+        parts,
+        line: 1,
+        col: 1,
+    })?;
+    match elab_open(alloc, g, scope, longs.as_slice()) {
+        Ok(made) => Ok(made),
+        Err(_) => Err(NoMemory),
+    }
+}
+
+/// All entries of an environment: what an `open` of a structure with it binds.
 fn entries_of(alloc: Global, g: &EnvGraph, env: EnvId) -> Result<Made<()>, NoMemory>
     requires { HasEnv g.now env }
     ensures is { IfOk result (λ made. (read : Unit {0} → ValueEntry)
         → env_of_made g.now read made ≡ modified_by empty_env (env_at g.now env)) }
     ensures there { IfOk result (λ made. HasEnvs g.now made.structures) }
 {
-    let mut made = Made {
-        structures: List::new(alloc),
-        types: List::new(alloc),
-        values: List::new(alloc),
-    };
-    add_env(g, env, &mut made)?;
-    Ok(made)
+    let mut scope: Scope<()> = Scope::new(alloc, env);
+    scope.bind_structure(nameless(alloc)?, env)?;
+    open_nameless(alloc, g, &scope)
 }
 
 /// Specifies all of an open signature: 40 at a place where a name of it is specified already. The signature that is made

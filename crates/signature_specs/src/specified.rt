@@ -33,7 +33,8 @@ pub struct Specified {
 impl Specified {
     /// A signature that specifies nothing yet. It takes no memory.
     pub fn new(alloc: Global) -> Specified
-        ensures { (g : Graph) → signature_so_far g result ≡ empty_signature }
+        ensures empty { (g : Graph) → signature_so_far g result ≡ empty_signature }
+        ensures structures { result.structures ≡ [] }
     {
         Specified {
             bound: List::new(alloc),

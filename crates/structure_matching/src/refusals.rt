@@ -8,7 +8,7 @@ use cm_base::{Diag, Fault, List, NoMemory, Place, Text};
 use std::alloc::Global;
 
 /// The text of a long name, with dots between its parts.
-pub fn dotted(alloc: Global, path: &[Text], name: &Text) -> Result<Text, NoMemory>
+fn dotted(alloc: Global, path: &[Text], name: &Text) -> Result<Text, NoMemory>
     ensures { IfOk result (λ text. text ≡ join_with_byte 46 (path.now ++ name.now ∷ [])) }
 {
     let mut bytes = Vec::new(alloc);

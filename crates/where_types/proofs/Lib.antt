@@ -1,3 +1,4 @@
+pub mod Functions
 pub mod Wheres
 pub mod Names
 pub mod Checks

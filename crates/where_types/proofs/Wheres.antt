@@ -1,5 +1,5 @@
 -- The steps of a signature with `where type`.
-use Rattle.std.proofs.Common.{◌≡◌, ℕ, refl, sym, ap, ap₂, ◌∙◌, subst, List, [], ◌∷◌, length, Option, Some, None}
+use Rattle.std.proofs.Common.{◌≡◌, ℕ, refl, sym, ap, ap₂, ◌∙◌, subst, List, [], ◌∷◌, Option, Some, None}
 use Rattle.std.specs.List.{join_with_byte}
 use Rattle.std.specs.Option.{option_map}
 use Rattle.std.specs.Prelude.{Result, Ok, Err, IsErrAnd}
@@ -19,8 +19,7 @@ use Rattle.bare_phrases.specs.Phrases.{TyPhrase}
 use Rattle.static_semantics.specs.Inferring.{Progress, Scope, with_written_alone, Answer, ◌>>=◌, gives, long_at, known, found_at}
 use Rattle.static_semantics.specs.TypeInference.{infer_ty, listed, numbers, as_written, type_function}
 use Rattle.module_semantics.specs.SignatureInference.{where_type}
-use Rattle.type_nodes.specs.Tables.{Table, state}
-use Rattle.type_phrases.specs.Inferred.{Answers, Refuses, progress}
+use Rattle.type_phrases.specs.Inferred.{Answers, Refuses}
 use Rattle.type_phrases.proofs.Steps.{failed, refused}
 use Rattle.type_phrases.proofs.PartsRead.{passed_on}
 use Rattle.type_declarations.specs.Binding.{infer_function}
@@ -68,12 +67,6 @@ pub function_missing : {S : Type 0} (g : Graph) (inner : Scope) (long : LongName
 function_missing g inner long env other parts s e h d f home k =
     as_missing g inner long (found_at types long.parts env) s e
     (h ∙ ap₂ (λ ps z. option_map function_of (found_at types ps z)) d f) home k
-
--- what is known stays where nodes were added
-pub grown_progress : (g h : Graph) (t u : Table) → h.made ≡ g.made → u ≡ t → progress t g ≡ progress u h
-grown_progress g h t u e f =
-    ap₂ (λ (z : Table) names. (let st : Progress = record { types = state z; names = length names } in st))
-    (sym f) (sym e)
 
 -- ---- all steps
 

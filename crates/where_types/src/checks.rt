@@ -10,13 +10,13 @@ ghost use Rattle.static_semantics.specs.Inferring.{Scope as Inner, refuses_where
 ghost use Rattle.module_semantics.specs.SignatureInference.{lacks_equality, replaced, where_type, with_function};
 ghost use Rattle.type_phrases.specs.Inferred.{Answers, Refuses};
 
-use cm_base::{Fault, List, NoMemory};
+use cm_base::{Diag, Fault, List, NoMemory, Place};
+use function_forms::{admits, alone};
 use semantic_objects::{TyName, TypeFn};
 use sml_modules::EnvGraph;
 use sml_trees::{At, LongName};
 use std::alloc::Global;
-use structure_matching::{admits, alone, dotted};
-use type_phrases::{refusal, refusal_of};
+use type_phrases::{refusal, unknown};
 
 /// 35 where a type function takes other arguments than the one that it replaces.
 fn check_arity(
@@ -71,16 +71,25 @@ fn check_equality(
     }
 }
 
-/// 37 with a long name.
+/// 37 with a long name: the diagnostic of an unknown name with another number, at another place.
 fn misfit(alloc: Global, g: &EnvGraph, at: At, long: &LongName) -> Fault
     ensures { Refuses g.now 37 at (join_with_byte 46 long.now.parts ∷ []) result }
 {
-    let Some((last, front)) = long.parts.as_slice().split_last() else {
-        return Fault::NoMemory;
-    };
-    match dotted(alloc, front, last) {
-        Ok(text) => refusal_of(alloc, g, 37, at, text),
-        Err(NoMemory) => Fault::NoMemory,
+    match unknown(alloc, g, long) {
+        Fault::Diag(diag) => {
+            let Diag { at: place, names, .. } = diag;
+            let Place { file, .. } = place;
+            Fault::Diag(Diag {
+                number: 37,
+                at: Place {
+                    file,
+                    line: at.line,
+                    col: at.col,
+                },
+                names,
+            })
+        }
+        Fault::NoMemory => Fault::NoMemory,
     }
 }
 

@@ -2,6 +2,7 @@
 #![tactic(auto)]
 
 mod checks;
+mod functions;
 mod replacing;
 mod whole;
 

@@ -12,6 +12,7 @@ ghost use Rattle.type_phrases.specs.Inferred.{Answers, KeepsTypes, progress, sco
 ghost use Rattle.where_types.specs.Where.{infer_where, known_function, GrowsByNodes};
 
 use crate::checks::replaced_name;
+use crate::functions::function_under;
 use crate::replacing::put_function;
 use cm_base::Fault;
 use core_scopes::Scope;
@@ -21,7 +22,6 @@ use sml_trees::{At, LongName, Name, Ty};
 use sml_types::TypeTable;
 use std::alloc::Global;
 use type_bindings::list_variables;
-use type_declarations::function_under;
 use type_phrases::unknown;
 
 /// The type function of a long name in an environment: 30 at it where it stands for no type.
@@ -49,7 +49,7 @@ fn function_in(
 /// long name's type takes arguments; 33 where that type is a name alone, flexible or not, which admits equality, and the
 /// new type function doesn't; 37 with the long name where it isn't a flexible name alone. The type function then stands
 /// in place of the name in all of the signature, by one walk over what is shared once. The scope is left as it was, and
-/// all ids keep what they stand for; the table has the variables of the list more.
+/// all ids keep what they stand for; the table has the variables of the list more, and may have types more.
 /// The Definition of Standard ML (Revised), rule 64.
 pub fn elab_where<V: Copy + Drop>(
     alloc: Global,

@@ -8,14 +8,15 @@ use Rattle.name_trails.specs.Trails.{Rows}
 use Rattle.static_semantics.specs.Inferring.{Progress}
 use Rattle.module_semantics.specs.SignatureInference.{with_function}
 use Rattle.type_phrases.specs.Inferred.{progress, scope_in}
-use Rattle.type_declarations.proofs.Listing.{list_is_in}
-use Rattle.where_types.proofs.Wheres.{unlisted, unfound, untyped, unfit, replaced_by, grown_progress}
+use Rattle.signature_specs.proofs.Listing.{list_made}
+use Rattle.where_types.proofs.Functions.{grown_progress}
+use Rattle.where_types.proofs.Wheres.{unlisted, unfound, untyped, unfit, replaced_by}
 use Rattle.where_types.proofs.whole.elab_where.Goals as goal
 
 pub function_under-requires-clause-list : goal.function_under-requires-clause-list
 function_under-requires-clause-list g c =
-    list_is_in c.args.g.now c.args.t.now c.list_variables.new.t c.args.tyvars.now c.in_ok-list.list c.is_kept.ensures
-    c.in_ok-list.ensures.made (λ inner home. c.in_ok-list.ensures.listed inner home)
+    (list_made c.args.g.now c.args.t.now c.list_variables.new.t c.args.tyvars.now c.args.tyvars.now c.in_ok-list.list
+    c.is_kept.ensures refl c.in_ok-list.ensures.made (λ inner home. c.in_ok-list.ensures.listed inner home)).there
 
 pub returns-in_err-list-clause-infers : goal.returns-in_err-list-clause-infers
 returns-in_err-list-clause-infers g c = λ u read.
@@ -71,4 +72,4 @@ returns-in_ok-put_function-clause-infers g c = λ u read.
     (progress c.function_under.new.t c.put_function.new.g) (c.in_ok-name.ensures inner sig refl refl)
     c.in_ok-put_function.ensures.ok.is
     (grown_progress graph c.put_function.new.g c.list_variables.new.t c.function_under.new.t
-    c.in_ok-put_function.ensures.ok.grows.made (c.in_ok-by.ensures.same))
+    c.in_ok-put_function.ensures.ok.grows.made c.in_ok-by.ensures.makes.state)
