@@ -1,5 +1,5 @@
 -- Names of entries among those that are specified, and entries behind them.
-use Rattle.std.proofs.Common.{◌≡◌, ℕ, refl, sym, ap, ap₂, ◌∙◌, subst, List, [], ◌∷◌, ◌++◌, map, Option, Some, None, Bool, true, false, ◌||◌}
+use Rattle.std.proofs.Common.{◌≡◌, ℕ, refl, sym, ap, ap₂, ◌∙◌, subst, List, [], ◌∷◌, ◌++◌, map, Bool, true, false, ◌||◌}
 use Rattle.std.specs.Prelude.{Result, Err}
 use Rattle.std.specs.List.{list_any}
 use Rattle.std.specs.Option.{is_some}
@@ -13,12 +13,11 @@ use Rattle.semantic_objects.specs.declared.entry.TypeStr.{TypeStr}
 use Rattle.semantic_objects.specs.declared.entry.ValueEntry.{ValueEntry}
 use Rattle.semantic_objects.specs.Tables.{Table, by_bytes, entry, with_entry, with_all}
 use Rattle.semantic_objects.specs.Environments.{Env, Signature, env_of, structures_of, table_of, modified_by}
-use Rattle.sml_modules.specs.declared.id.EnvId.{EnvId}
 use Rattle.sml_modules.specs.declared.parts.NamedEnv.{NamedEnv}
 use Rattle.sml_modules.specs.declared.parts.NamedType.{NamedType}
 use Rattle.sml_modules.specs.Items.{map_rows, Item, as_value}
 use Rattle.sml_modules.specs.Graphs.{Graph, env_at, structure_rows, type_rows}
-use Rattle.name_trails.specs.Trails.{Rows, last_entry}
+use Rattle.name_trails.specs.Trails.{last_entry}
 use Rattle.core_scopes.specs.declared.made.Made.{Made}
 use Rattle.core_scopes.specs.declared.made.NamedInScope.{NamedInScope}
 use Rattle.core_scopes.specs.Listed.{env_rows}
@@ -26,7 +25,7 @@ use Rattle.core_scopes.specs.Marks.{value_rows, env_of_made}
 use Rattle.core_scopes.specs.Scopes.{entry_of}
 use Rattle.core_scopes.proofs.Tables.{all_append, all_at_once}
 use Rattle.core_scopes.proofs.Scoping.{map_append}
-use Rattle.static_semantics.specs.Inferring.{Scope, gives, refuses_where}
+use Rattle.static_semantics.specs.Inferring.{Scope, gives}
 use Rattle.module_semantics.specs.SignatureInference.{shares, have_common, specified}
 use Rattle.type_phrases.specs.Inferred.{Answers, Refuses}
 use Rattle.type_phrases.proofs.Steps.{refused}

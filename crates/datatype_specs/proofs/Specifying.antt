@@ -1,18 +1,17 @@
 -- Datatypes that are specified, one after another.
-use Rattle.std.proofs.Common.{◌≡◌, ℕ, refl, sym, ap, ap₂, ◌∙◌, subst, List, [], ◌∷◌, ◌++◌, map, append-nil, append_assoc, Option, Some, None}
+use Rattle.std.proofs.Common.{◌≡◌, ℕ, refl, sym, ap, ◌∙◌, subst, List, [], ◌∷◌, ◌++◌, append-nil, append_assoc, Option, Some, None}
 use Rattle.std.specs.Prelude.{Result, Err, IsErrAnd, option_to_list}
 use Rattle.cm_base.specs.declared.fault.Fault.{Fault}
 use Rattle.semantic_objects.specs.declared.name.TyName.{TyName}
 use Rattle.semantic_objects.specs.declared.entry.TypeStr.{TypeStr}
 use Rattle.semantic_objects.specs.declared.entry.ValueEntry.{ValueEntry}
 use Rattle.semantic_objects.specs.Tables.{Table as Named, entry, with_all}
-use Rattle.semantic_objects.specs.Environments.{Env, Signature, env_of, structures_of, types, values, empty_env, with_type, with_value}
+use Rattle.semantic_objects.specs.Environments.{Env, Signature, env_of, types, empty_env, with_type, with_value}
 use Rattle.sml_trees.specs.declared.name.At.{At}
 use Rattle.sml_trees.specs.declared.name.Name.{Name}
 use Rattle.sml_trees.specs.declared.name.LongName.{LongName}
 use Rattle.sml_modules.specs.declared.id.EnvId.{EnvId}
-use Rattle.sml_modules.specs.Graphs.{Graph, env_at, structure_rows, type_rows}
-use Rattle.sml_modules.specs.Items.{map_rows}
+use Rattle.sml_modules.specs.Graphs.{Graph, structure_rows, type_rows}
 use Rattle.name_trails.specs.Trails.{Rows, last_entry}
 use Rattle.bare_phrases.specs.Phrases.{ConPhrase, DatPhrase}
 use Rattle.static_semantics.specs.Inferring.{Progress, Scope, Answer, ◌>>=◌, gives, name_at}

@@ -19,6 +19,7 @@ use cm_base::{Fault, List, NoMemory};
 use core_scopes::{Made, Scope};
 use datatype_elab::datatypes_in;
 use env_parts::{copy_type, copy_value};
+use function_forms::alone;
 use name_trails::NameTrail;
 use semantic_objects::{TyName, TypeStr, ValueEntry};
 use signature_specs::{Specified, specify_type, specify_value};
@@ -26,7 +27,6 @@ use sml_modules::EnvGraph;
 use sml_trees::{ConBind, DatBind};
 use sml_types::TypeTable;
 use std::alloc::Global;
-use function_forms::alone;
 
 /// What datatypes make, by name.
 #[derive(Drop)]

@@ -1,4 +1,4 @@
-use Rattle.std.proofs.Common.{◌≡◌, ◌∙◌, ap, map, sym, subst}
+use Rattle.std.proofs.Common.{map, sym, subst}
 use Rattle.bare_phrases.specs.PhraseOf.{dat_phrase}
 use Rattle.semantic_objects.specs.Environments.{Signature}
 use Rattle.core_scopes.specs.declared.made.Made.{Made}

@@ -1,4 +1,3 @@
-use Rattle.semantic_objects.specs.Environments.{Env}
 use Rattle.core_scopes.specs.declared.made.Made.{Made}
 use Rattle.core_scopes.specs.Marks.{env_of_made}
 use Rattle.type_phrases.specs.Inferred.{scope_in}
