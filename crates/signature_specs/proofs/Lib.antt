@@ -1,3 +1,4 @@
+pub mod Fronts
 pub mod Specifying
 pub mod Listing
 pub mod Valuing

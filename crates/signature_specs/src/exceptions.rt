@@ -1,6 +1,6 @@
 //! `exception` specifications.
 
-ghost use Rattle.std.specs.Prelude.{◌≡◌, [], map, IfOk};
+ghost use Rattle.std.specs.Prelude.{◌≡◌, [], map, IfOk, OnOk};
 ghost use Rattle.std.specs.Option.{option_map};
 ghost use Rattle.semantic_objects.specs.Trees.{BindsBelow};
 ghost use Rattle.semantic_objects.specs.declared.entry.ValueEntry.{ValueEntry};
@@ -12,7 +12,7 @@ ghost use Rattle.core_scopes.specs.Scopes.{IsScopeOf};
 ghost use Rattle.type_phrases.specs.Inferred.{Answers, KeepsTypes, scope_in};
 ghost use Rattle.type_phrases.specs.Steps.{OnlyMakes};
 ghost use Rattle.module_semantics.specs.SignatureInference.{infer_exception_specs};
-ghost use Rattle.signature_specs.specs.Specs.{signature_so_far};
+ghost use Rattle.signature_specs.specs.Specs.{signature_so_far, IsFrontOf};
 ghost use Rattle.signature_specs.specs.Steps.{infer_exception, exception_with, open_exception};
 
 use crate::specified::{Specified, specify_value};
@@ -126,6 +126,8 @@ pub fn elab_exception_specs<V: Copy + Drop>(
         (signature_so_far g.now made.old)) (λ done. signature_so_far g.now made.new) result }
     ensures makes { OnlyMakes t.old t.new }
     ensures scope { scope.new ≡ scope.old }
+    ensures front { OnOk result (IsFrontOf made.old made.new) }
+    ensures structures { OnOk result (made.new.structures ≡ made.old.structures) }
 {
     for con in cons {
         let entry = entry_of(alloc, g, t, scope, &con.arg)?;

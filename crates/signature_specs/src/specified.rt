@@ -1,6 +1,6 @@
 //! What a signature specifies, while it is made.
 
-ghost use Rattle.std.specs.Prelude.{◌≡◌, [], OnErr};
+ghost use Rattle.std.specs.Prelude.{◌≡◌, [], OnOk, OnErr};
 ghost use Rattle.std.specs.Option.{is_some};
 ghost use Rattle.semantic_objects.specs.Environments.{empty_env, with_type, with_value};
 ghost use Rattle.name_trails.specs.Trails.{last_entry};
@@ -9,7 +9,7 @@ ghost use Rattle.module_semantics.specs.SignatureNames.{also_bound, empty_signat
 ghost use Rattle.module_semantics.specs.SignatureInference.{specified};
 ghost use Rattle.sml_modules.specs.Graphs.{Graph};
 ghost use Rattle.type_phrases.specs.Inferred.{Answers};
-ghost use Rattle.signature_specs.specs.Specs.{signature_so_far};
+ghost use Rattle.signature_specs.specs.Specs.{signature_so_far, IsFrontOf};
 
 use cm_base::{Fault, List, NoMemory};
 use name_trails::NameTrail;
@@ -33,7 +33,8 @@ pub struct Specified {
 impl Specified {
     /// A signature that specifies nothing yet. It takes no memory.
     pub fn new(alloc: Global) -> Specified
-        ensures { (g : Graph) → signature_so_far g result ≡ empty_signature }
+        ensures empty { (g : Graph) → signature_so_far g result ≡ empty_signature }
+        ensures structures { result.structures ≡ [] }
     {
         Specified {
             bound: List::new(alloc),
@@ -44,8 +45,13 @@ impl Specified {
     }
 }
 
-/// 40 at a name that is specified.
-fn check_new<T>(alloc: Global, g: &EnvGraph, rows: &NameTrail<T>, name: &Name) -> Result<(), Fault>
+/// 40 at a name that is specified. The Definition of Standard ML (Revised), rules 77 and 79 to 84.
+pub fn check_new<T>(
+    alloc: Global,
+    g: &EnvGraph,
+    rows: &NameTrail<T>,
+    name: &Name,
+) -> Result<(), Fault>
     ensures { (inner : Scope) → inner.home ≡ g.now.home
         → Answers (refuses_where (is_some (last_entry rows.now name.now.text)) 40 inner (name_at name.now)) (λ u. tt)
         result }
@@ -69,6 +75,8 @@ pub fn specify_value(
         → Answers (specified inner (name_at name.now) (with_value name.now.text entry empty_env)
         (signature_so_far g.now made.old)) (λ u. signature_so_far g.now made.new) result }
     ensures refused { OnErr result (made.new ≡ made.old) }
+    ensures front { OnOk result (IsFrontOf made.old made.new) }
+    ensures structures { OnOk result (made.new.structures ≡ made.old.structures) }
 {
     check_new(alloc, g, &made.values, name)?;
     let text = name.text.copy()?;
@@ -89,6 +97,8 @@ pub fn specify_type(
         → Answers (specified inner (name_at name.now) (with_type name.now.text entry empty_env)
         (signature_so_far g.now made.old)) (λ u. signature_so_far g.now made.new) result }
     ensures refused { OnErr result (made.new ≡ made.old) }
+    ensures front { OnOk result (IsFrontOf made.old made.new) }
+    ensures structures { OnOk result (made.new.structures ≡ made.old.structures) }
 {
     check_new(alloc, g, &made.types, name)?;
     let text = name.text.copy()?;

@@ -1,12 +1,12 @@
 //! `type` and `eqtype` specifications.
 
-ghost use Rattle.std.specs.Prelude.{◌≡◌, map, IfOk, OnErr};
+ghost use Rattle.std.specs.Prelude.{◌≡◌, map, IfOk, OnOk, OnErr};
 ghost use Rattle.sml_modules.specs.Graphs.{new_name_of, with_name};
 ghost use Rattle.static_semantics.specs.Inferring.{Scope};
 ghost use Rattle.type_phrases.specs.Inferred.{Answers, KeepsTypes, progress};
 ghost use Rattle.module_semantics.specs.SigPhrases.{type_desc_phrase};
 ghost use Rattle.module_semantics.specs.SignatureInference.{infer_type_descs};
-ghost use Rattle.signature_specs.specs.Specs.{signature_so_far};
+ghost use Rattle.signature_specs.specs.Specs.{signature_so_far, IsFrontOf};
 ghost use Rattle.signature_specs.specs.Types.{infer_type_desc};
 
 use crate::own_types::own_type;
@@ -46,6 +46,8 @@ fn elab_type(
     ensures keeps { KeepsTypes t.old t.new }
     ensures items { g.new.items ≡ g.old.items }
     ensures home { g.new.home ≡ g.old.home }
+    ensures front { OnOk result (IsFrontOf made.old made.new) }
+    ensures structures { OnOk result (made.new.structures ≡ made.old.structures) }
 {
     list_variables(alloc, g, t, desc.tyvars.as_slice())?;
     let name = new_name(g, desc.tyvars.len(), eq)?;
@@ -75,6 +77,8 @@ pub fn elab_types(
     ensures keeps { KeepsTypes t.old t.new }
     ensures items { g.new.items ≡ g.old.items }
     ensures home { g.new.home ≡ g.old.home }
+    ensures front { OnOk result (IsFrontOf made.old made.new) }
+    ensures structures { OnOk result (made.new.structures ≡ made.old.structures) }
 {
     for desc in descs {
         elab_type(alloc, g, t, eq, desc, made)?;

@@ -24,7 +24,7 @@ use std::alloc::Global;
 
 /// The type that a phrase stands for where these type variables are in scope and no others, as a tree that is closed
 /// over them. The scope is left as it was.
-pub(crate) fn type_under<V: Copy + Drop>(
+pub fn type_under<V: Copy + Drop>(
     alloc: Global,
     g: &EnvGraph,
     t: &mut TypeTable,

@@ -1,6 +1,6 @@
 //! `val` specifications.
 
-ghost use Rattle.std.specs.Prelude.{◌≡◌, length, map, IfOk};
+ghost use Rattle.std.specs.Prelude.{◌≡◌, length, map, IfOk, OnOk};
 ghost use Rattle.semantic_objects.specs.Trees.{BindsBelow};
 ghost use Rattle.semantic_objects.specs.declared.entry.ValueEntry.{ValueEntry};
 ghost use Rattle.type_nodes.specs.Tables.{Table};
@@ -9,7 +9,7 @@ ghost use Rattle.core_scopes.specs.Scopes.{IsScopeOf};
 ghost use Rattle.type_phrases.specs.Inferred.{Answers, KeepsTypes, progress, scope_in};
 ghost use Rattle.module_semantics.specs.SigPhrases.{val_phrase};
 ghost use Rattle.module_semantics.specs.SignatureInference.{infer_vals};
-ghost use Rattle.signature_specs.specs.Specs.{signature_so_far};
+ghost use Rattle.signature_specs.specs.Specs.{signature_so_far, IsFrontOf};
 ghost use Rattle.signature_specs.specs.Steps.{infer_val, closed_entry};
 
 use crate::specified::{Specified, specify_value};
@@ -79,6 +79,8 @@ pub fn elab_vals<V: Copy + Drop>(
         (λ done. (signature_so_far g.now made.new, progress t.new g.now)) result }
     ensures keeps { KeepsTypes t.old t.new }
     ensures scope { scope.new ≡ scope.old }
+    ensures front { OnOk result (IsFrontOf made.old made.new) }
+    ensures structures { OnOk result (made.new.structures ≡ made.old.structures) }
 {
     for desc in descs {
         let entry = entry_of(alloc, g, t, scope, &desc.ty)?;

@@ -1,6 +1,4 @@
 pub mod Listing
-pub mod Marking
-pub mod Naming
 pub mod Finding
 pub mod Opening
 pub mod RealisingSteps

@@ -1,6 +1,5 @@
 pub mod Found
 pub mod Refusals
-pub mod Admitting
 pub mod Searching
 pub mod Values
 pub mod Enriching

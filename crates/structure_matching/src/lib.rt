@@ -1,12 +1,10 @@
 //! Environments that match signatures. The Definition of Standard ML (Revised), sections 5.2, 5.5 and 5.6.
 #![tactic(auto)]
 
-mod admitting;
 mod canonical;
 mod comparing;
 mod constructors;
 mod enriching;
-mod flexible;
 mod matching;
 mod parts;
 mod realisation_search;

@@ -15,11 +15,11 @@ ghost use Rattle.static_semantics.specs.Holding.{AllItems};
 ghost use Rattle.structure_matching.specs.Searching.{at_of, known_type, type_of_component, structure_of_component, of_components};
 ghost use Rattle.structure_matching.specs.Searching.{IsSearch, Continues, Realises, FindsType, FindsStructure, AreSettled};
 
-use crate::admitting::admits;
 use crate::parts::{Component, EnvPair, components, env_pair, type_at};
 use crate::refusals::{long_refusal, refusal};
 use crate::search::Search;
 use cm_base::{Fault, NoMemory, Place};
+use function_forms::admits;
 use matched_pairs::Pairs;
 use semantic_objects::{TyName, TypeFn};
 use sml_modules::{EnvGraph, EnvId, copy_function};

@@ -9,9 +9,9 @@ ghost use Rattle.module_semantics.specs.SignatureNames.{name_alone};
 ghost use Rattle.module_semantics.specs.Matching.{if_flexible};
 ghost use Rattle.structure_matching.specs.Searching.{IsSearch, Continues, Enters, Leaves};
 
-use crate::flexible::alone;
 use cm_base::{List, NoMemory, Text};
 use environment_walks::Replace;
+use function_forms::alone;
 use semantic_objects::{TyName, TypeFn};
 use type_walks::NameTable;
 

@@ -5,12 +5,22 @@ use Rattle.semantic_objects.specs.declared.entry.ValueEntry.{ValueEntry}
 use Rattle.bare_phrases.specs.PhraseOf.{ty_phrase, con_phrase}
 use Rattle.static_semantics.specs.Inferring.{gives}
 use Rattle.type_phrases.specs.Inferred.{Answers, scope_in}
-use Rattle.type_phrases.proofs.Keeping.{makes_later}
+use Rattle.type_phrases.proofs.Keeping.{makes_nothing, makes_later}
 use Rattle.type_phrases.proofs.PartsRead.{drop_item, drop_end}
 use Rattle.signature_specs.specs.Specs.{signature_so_far}
 use Rattle.signature_specs.specs.Steps.{infer_exception}
+use Rattle.signature_specs.proofs.Fronts.{front_itself, front_later}
 use Rattle.signature_specs.proofs.Excepting.{exceptions_refused, exceptions_taken, exceptions_more, exceptions_all}
 use Rattle.signature_specs.proofs.exceptions.elab_exception_specs.Goals as goal
+
+pub loop-con-init : goal.loop-con-init
+loop-con-init g c = record {
+  makes = makes_nothing c.args.t.now;
+  scope = refl;
+  front = front_itself c.args.made.now;
+  structures = refl;
+  left_is = λ u read. refl;
+}
 
 pub returns-in_err-entry-clause-infers : goal.returns-in_err-entry-clause-infers
 returns-in_err-entry-clause-infers g c = λ u read.
@@ -57,6 +67,9 @@ loop-con-preserved g c = record {
   makes = makes_later c.args.t.now c.loop-con.t c.entry_of.new.t c.loop-con.invariant.makes
       c.in_ok-entry.ensures.makes;
   scope = c.in_ok-entry.ensures.scope ∙ c.loop-con.invariant.scope;
+  front = front_later c.args.made.now c.loop-con.made c.specify_value.new.made c.loop-con.invariant.front
+      c.in_ok-specify_value.ensures.front;
+  structures = c.in_ok-specify_value.ensures.structures ∙ c.loop-con.invariant.structures;
   left_is = λ u read.
       let graph = c.args.g.now in
       let cons = c.args.cons.now in

@@ -1,8 +1,10 @@
+use Rattle.std.proofs.Common.{[], ◌∷◌}
 use Rattle.std.specs.Option.{is_some}
 use Rattle.semantic_objects.specs.Environments.{empty_env, with_type}
 use Rattle.name_trails.specs.Trails.{last_entry}
 use Rattle.static_semantics.specs.Inferring.{name_at}
 use Rattle.signature_specs.specs.Specs.{signature_so_far, env_so_far}
+use Rattle.signature_specs.proofs.Fronts.{front_type}
 use Rattle.signature_specs.proofs.Specifying.{not_specified, is_specified, type_is, type_set}
 use Rattle.signature_specs.proofs.specified.specify_type.Goals as goal
 
@@ -23,3 +25,7 @@ returns-clause-infers c = λ inner home.
     (type_is c.args.g.now c.args.made.now name c.args.entry) (c.in_ok-check_new.ensures inner home)
     (type_set c.args.g.now c.args.made.now name c.args.entry c.in_ok-text.text c.bind.new.self c.in_ok-text.ensures
     c.in_ok-bind.ensures.ok)
+
+pub returns-clause-front : goal.returns-clause-front
+returns-clause-front c =
+    front_type c.args.made.now c.bind.new.self ((c.in_ok-text.text, c.args.entry) ∷ []) c.in_ok-bind.ensures.ok

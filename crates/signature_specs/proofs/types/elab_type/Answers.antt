@@ -66,3 +66,8 @@ returns-clause-infers c = λ inner home.
       bound = names;
       env = env_so_far c.new_name.new.g c.specify_type.new.made;
     } in sig)) (sym c.in_ok-add.ensures.ok))
+
+pub returns-clause-front : goal.returns-clause-front
+returns-clause-front c =
+    let front = c.in_ok-specify_type.ensures.front in
+    record { structures = front.structures; types = front.types; values = front.values }

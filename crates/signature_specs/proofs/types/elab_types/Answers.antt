@@ -1,11 +1,22 @@
-use Rattle.std.proofs.Common.{◌+◌, ◌∙◌, ap, drop, map, sym}
+use Rattle.std.proofs.Common.{◌+◌, ◌∙◌, ap, drop, map, refl, sym}
 use Rattle.type_phrases.specs.Inferred.{progress}
-use Rattle.type_phrases.proofs.Keeping.{keeps_later}
+use Rattle.type_phrases.proofs.Keeping.{keeps_all, keeps_later}
 use Rattle.type_phrases.proofs.PartsRead.{drop_item, drop_end}
 use Rattle.module_semantics.specs.SigPhrases.{type_desc_phrase}
 use Rattle.signature_specs.specs.Specs.{signature_so_far}
+use Rattle.signature_specs.proofs.Fronts.{front_itself, front_later}
 use Rattle.signature_specs.proofs.Typing.{types_refused, types_more, types_all}
 use Rattle.signature_specs.proofs.types.elab_types.Goals as goal
+
+pub loop-desc-init : goal.loop-desc-init
+loop-desc-init c = record {
+  keeps = keeps_all c.args.t.now;
+  items = refl;
+  home = refl;
+  front = front_itself c.args.made.now;
+  structures = refl;
+  left_is = λ inner home. refl;
+}
 
 pub returns-in_err-elab_type-clause-infers : goal.returns-in_err-elab_type-clause-infers
 returns-in_err-elab_type-clause-infers c = λ inner home.
@@ -35,6 +46,9 @@ loop-desc-preserved c = record {
       c.in_ok-elab_type.ensures.keeps;
   items = c.in_ok-elab_type.ensures.items ∙ c.loop-desc.invariant.items;
   home = c.in_ok-elab_type.ensures.home ∙ c.loop-desc.invariant.home;
+  front = front_later c.args.made.now c.loop-desc.made c.elab_type.new.made c.loop-desc.invariant.front
+      c.in_ok-elab_type.ensures.front;
+  structures = c.in_ok-elab_type.ensures.structures ∙ c.loop-desc.invariant.structures;
   left_is = λ inner home.
       let descs = c.args.descs.now in
       let i = c.loop-desc.desc-index in

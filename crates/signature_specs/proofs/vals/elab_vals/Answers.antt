@@ -4,13 +4,23 @@ use Rattle.semantic_objects.specs.declared.entry.ValueEntry.{ValueEntry}
 use Rattle.bare_phrases.specs.PhraseOf.{ty_phrase}
 use Rattle.static_semantics.specs.Inferring.{gives}
 use Rattle.type_phrases.specs.Inferred.{Answers, progress, scope_in}
-use Rattle.type_phrases.proofs.Keeping.{keeps_later}
+use Rattle.type_phrases.proofs.Keeping.{keeps_all, keeps_later}
 use Rattle.type_phrases.proofs.PartsRead.{drop_item, drop_end}
 use Rattle.module_semantics.specs.SigPhrases.{val_phrase}
 use Rattle.signature_specs.specs.Specs.{signature_so_far}
 use Rattle.signature_specs.specs.Steps.{infer_val}
+use Rattle.signature_specs.proofs.Fronts.{front_itself, front_later}
 use Rattle.signature_specs.proofs.Valuing.{vals_refused, vals_taken, vals_more, vals_all}
 use Rattle.signature_specs.proofs.vals.elab_vals.Goals as goal
+
+pub loop-desc-init : goal.loop-desc-init
+loop-desc-init g c = record {
+  keeps = keeps_all c.args.t.now;
+  scope = refl;
+  front = front_itself c.args.made.now;
+  structures = refl;
+  left_is = λ u read. refl;
+}
 
 pub returns-in_err-entry-clause-infers : goal.returns-in_err-entry-clause-infers
 returns-in_err-entry-clause-infers g c = λ u read.
@@ -59,6 +69,9 @@ loop-desc-preserved g c = record {
   keeps = keeps_later c.args.t.now c.loop-desc.t c.entry_of.new.t c.loop-desc.invariant.keeps
       c.in_ok-entry.ensures.keeps;
   scope = c.in_ok-entry.ensures.scope ∙ c.loop-desc.invariant.scope;
+  front = front_later c.args.made.now c.loop-desc.made c.specify_value.new.made c.loop-desc.invariant.front
+      c.in_ok-specify_value.ensures.front;
+  structures = c.in_ok-specify_value.ensures.structures ∙ c.loop-desc.invariant.structures;
   left_is = λ u read.
       let graph = c.args.g.now in
       let descs = c.args.descs.now in

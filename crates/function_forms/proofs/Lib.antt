@@ -1,0 +1,3 @@
+pub mod Places
+pub mod Marking
+pub mod Naming
