@@ -8,16 +8,21 @@ use Rattle.cm_base.specs.declared.diag.Place.{Place}
 use Rattle.cm_base.specs.declared.fault.Fault.{Fault}
 use Rattle.cm_base.specs.declared.fault.Fault.TheVariants as fault
 use Rattle.semantic_objects.specs.declared.entry.TypeStr.{TypeStr}
+use Rattle.semantic_objects.specs.declared.entry.ValueEntry.{ValueEntry}
 use Rattle.semantic_objects.specs.Environments.{Env, types}
 use Rattle.unification.specs.Types.{State}
+use Rattle.unification.proofs.Walking.{or_false_left}
 use Rattle.env_parts.specs.declared.facts.Facts.{Facts}
-use Rattle.sml_modules.specs.Items.{Item as Node, at, as_type, item_facts}
+use Rattle.env_parts.specs.Types.{holds_free}
+use Rattle.sml_modules.specs.Items.{Item as Node, at, as_type, as_value, item_facts}
 use Rattle.static_semantics.specs.Inferring.{Scope, Answer, ◌>>=◌, gives, diag_at, refuses_where, found_at}
 use Rattle.static_semantics.specs.Holding.{AllItems}
-use Rattle.module_semantics.specs.Matching.{Item, present, misfits_where, fits_type, enriching_item, enriching_all}
+use Rattle.static_semantics.specs.EnvironmentsPut.{put_value}
+use Rattle.module_semantics.specs.Matching.{Item, present, misfits_where, fits_type, fits_value, enriching_item, enriching_all}
 use Rattle.structure_matching.specs.declared.parts.Component.{Component}
 use Rattle.structure_matching.specs.Searching.{at_of, known_type, of_components, FindsType, type_of_component}
-use Rattle.structure_matching.specs.Enriching.{Enriches}
+use Rattle.structure_matching.specs.Enriching.{Enriches, FindsValue, known_value, value_of_component}
+use Rattle.structure_matching.proofs.Itself.{value_fits_itself}
 use Rattle.structure_matching.proofs.RealisingSteps.{goes_on, stops, type_known}
 
 -- ---- items one after the other
@@ -151,3 +156,22 @@ type_fits inner place s root items path c p want found facts b e f g h k a i j f
     (sym (ap not (sym i ∙ j))) (known_found items path s root c p found facts f g h k finds)
 
 -- ---- a value
+
+-- one that is what is specified
+pub value_itself : (inner : Scope) (place : Place) (s : State) (root : Env) (items : List Node) (path : List (List ℕ))
+    (c : Component) (p : ℕ) (want : ValueEntry) (facts : Facts) → at items c.specified ≡ Node.ValueItem want
+    → c.found ≡ Some p → c.specified ≡ p → facts ≡ item_facts (at items c.specified) → facts.has_free ≡ false
+    → FindsValue items path s root c
+    → enriching_all inner (at_of place) s root (value_of_component items path c) ≡ gives tt
+value_itself inner place s root items path c p want facts e f same g h finds =
+    let closed : holds_free want.scheme.body ≡ false = or_false_left (holds_free want.scheme.body) false
+    (sym (ap (λ (z : Facts). z.has_free) (g ∙ ap item_facts e)) ∙ h) in
+    let there : at items p ≡ Node.ValueItem want = ap (at items) (sym same) ∙ e in
+    last_item inner place s root (enriching_item inner (at_of place) s root
+    (Item.ValueItem (path_of path c) (as_value (at items c.specified))))
+    ∙ ap (λ o. present inner (at_of place) (path_of path c) o
+    >>= λ y. misfits_where (not (fits_value s (as_value (at items c.specified)) y)) inner (at_of place) (path_of path c))
+    (finds ∙ ap (option_map (known_value items s)) f)
+    ∙ ap₂ (λ (x y : Node). misfits_where (not (fits_value s (as_value x) (put_value s.stands (as_value y)))) inner
+    (at_of place) (path_of path c)) e there
+    ∙ ap (λ b. misfits_where (not b) inner (at_of place) (path_of path c)) (value_fits_itself s want closed)

@@ -96,6 +96,9 @@ fn enrich_found_value(
         return Err(Fault::NoMemory);
     }
     let specified = value_at(g, component.specified)?;
+    if component.specified == place {
+        return Ok(());
+    }
     let found = value_at(g, place)?;
     if !fits_value(t, specified, found)? {
         return Err(long_refusal(g.alloc(), 37, at, path, &component.name));
