@@ -1,6 +1,6 @@
 -- Whole expressions and declarations: the scope that they begin with, and the table after a diagnostic.
 use Rattle.std.proofs.Common.{◌≡◌, ℕ, [], length, sym, ap, ap₂, ◌∙◌, subst}
-use Rattle.std.specs.Prelude.{Result, Ok, Err}
+use Rattle.std.specs.Prelude.{Result, Err}
 use Rattle.cm_base.specs.declared.fault.Fault.{Fault}
 use Rattle.cm_base.specs.declared.fault.Fault.TheVariants as fault
 use Rattle.semantic_objects.specs.declared.name.TyId.{TyId}
@@ -29,7 +29,6 @@ use Rattle.core_rules.specs.Expressions.{IsExp}
 use Rattle.core_rules.specs.Values.{read_made}
 use Rattle.core_rules.specs.Declarations.{IsDeclared}
 use Rattle.core_rules.proofs.Chains.{graph_then}
-use Rattle.type_phrases.proofs.Steps.{still_refused}
 
 scope_outermost : (g : Graph) (env : EnvId) (sc : Bindings OwnVariable) → seen g own_entry sc ≡ env_at g env
     → written_of sc ≡ [] → scope_of g sc ≡ outermost g.home (env_at g env)
@@ -64,31 +63,20 @@ begun g t sc env there k e f s = record {
 abbrev wanted : Graph → Table → EnvId → DecPhrase → Answer (Env × Progress)
 wanted g t env p = infer_dec depth (outermost g.home (env_at g env)) p (progress t g)
 
-dec_whole : {g : Graph} {t : Table} {sc : Bindings OwnVariable} {new : Moment} {r : Result (Made OwnVariable) Fault}
+pub dec_whole : {g : Graph} {t : Table} {sc : Bindings OwnVariable} {new : Moment} {r : Result (Made OwnVariable) Fault}
     (env : EnvId) (p : DecPhrase) → seen g own_entry sc ≡ env_at g env → written_of sc ≡ []
     → IsDeclared (moment g t sc) p new r → Answers (wanted g t env p) (read_made new) r
 dec_whole {g} {t} {sc} {new} {r} env p e f h =
     subst (λ inner. Answers (infer_dec depth inner p (progress t g)) (read_made new) r)
     (scope_outermost g env sc e f) h.elabs.infers
 
-pub dec_refused : {g : Graph} {t : Table} {sc : Bindings OwnVariable} {new : Moment} {d : Fault} (h : Graph) (u : Table)
-    (env : EnvId) (p : DecPhrase) → seen g own_entry sc ≡ env_at g env → written_of sc ≡ []
-    → IsDeclared (moment g t sc) p new (Err d)
-    → Answers (wanted g t env p) (λ (id : EnvId). (env_at h id, progress u h)) (Err d)
-dec_refused {g} {t} {sc} {new} {d} h u env p e f k =
-    still_refused (wanted g t env p) (read_made new) (λ (id : EnvId). (env_at h id, progress u h)) d
-    (dec_whole env p e f k)
-
-pub dec_given : {g new : Graph} {t u : Table} {sc : Bindings OwnVariable} {mid : Moment} {made : Made OwnVariable}
-    {id : EnvId} (env : EnvId) (p : DecPhrase) → seen g own_entry sc ≡ env_at g env → written_of sc ≡ []
-    → IsDeclared (moment g t sc) p mid (Ok made) → GivesEnv mid.graph new (env_of_made mid.graph own_entry made) id
-    → u ≡ mid.table → wanted g t env p ≡ gives (env_at new id, progress u new)
-dec_given {g} {new} {t} {u} {sc} {mid} {made} {id} env p e f k given same =
-    dec_whole env p e f k
-    ∙ ap₂ (λ (x : Env) (n : ℕ).
-    gives (x, (let st : Progress = record { types = state mid.table; names = n } in st)))
+-- the environment was made of what the declaration made
+pub dec_given : (mid new : Graph) (u : Table) (want : Answer (Env × Progress)) (made : Made OwnVariable) (id : EnvId)
+    → want ≡ gives (env_of_made mid own_entry made, progress u mid)
+    → GivesEnv mid new (env_of_made mid own_entry made) id → want ≡ gives (env_at new id, progress u new)
+dec_given mid new u want made id h given =
+    h ∙ ap₂ (λ (x : Env) (n : ℕ). gives (x, (let st : Progress = record { types = state u; names = n } in st)))
     (sym given.stands) (sym (ap length given.made))
-    ∙ ap (λ (z : Table). gives (env_at new id, progress z new)) (sym same)
 
 pub keeps_given : (old mid new : Graph) (env : Env) (id : EnvId) → Keeps old mid → GivesEnv mid new env id
     → Keeps old new

@@ -3,11 +3,13 @@
 ghost use Rattle.std.specs.Prelude.{◌≡◌, IfOk, OnErr};
 ghost use Rattle.unification.specs.Unification.{depth};
 ghost use Rattle.type_nodes.specs.Tables.{Has, type_of};
-ghost use Rattle.sml_modules.specs.Graphs.{HasEnv, Keeps, env_at};
+ghost use Rattle.sml_modules.specs.Graphs.{HasEnv, HasEnvs, Keeps, env_at};
 ghost use Rattle.bare_phrases.specs.PhraseOf.{dec_phrase, exp_phrase};
 ghost use Rattle.static_semantics.specs.Inferring.{outermost};
 ghost use Rattle.static_semantics.specs.CoreInference.{infer_dec, infer_exp};
+ghost use Rattle.core_scopes.specs.Marks.{env_of_made};
 ghost use Rattle.type_phrases.specs.Inferred.{Answers, Inferred, KeepsTypes, progress};
+ghost use Rattle.pattern_elab.specs.Scopes.{own_entry};
 ghost use Rattle.closing_laws.specs.Promises.{IsOfState};
 ghost use Rattle.elaboration_laws.specs.Declaring.{BindsValues, DecHas, ExpHas};
 ghost use Rattle.core_soundness.specs.Following.{HasFirmTypes, HasTypeByRules, DeclaresByRules};
@@ -15,14 +17,36 @@ ghost use Rattle.core_soundness.specs.Following.{HasFirmTypes, HasTypeByRules, D
 use crate::declared::elab_declared;
 use crate::exp::elab_in_scope;
 use cm_base::Fault;
-use core_scopes::Scope;
+use core_scopes::{Made, Scope};
 use declaration_forms::make_declared;
-use pattern_elab::CoreScope;
+use pattern_elab::{CoreScope, OwnVariable};
 use semantic_objects::TyId;
 use sml_modules::{EnvGraph, EnvId};
 use sml_trees::{Dec, Exp};
 use sml_types::TypeTable;
 use std::alloc::Global;
+
+/// The type of an expression. The table may have more after a refusal.
+fn type_in(
+    alloc: Global,
+    g: &mut EnvGraph,
+    t: &mut TypeTable,
+    env: EnvId,
+    exp: &Exp,
+) -> Result<TyId, Fault>
+    requires env { HasEnv g.old env }
+    requires ready { IsOfState (outermost g.old.home (env_at g.old env)) (progress t.old g.old) }
+    ensures infers { Inferred (infer_exp depth (outermost g.old.home (env_at g.old env)) (exp_phrase exp.now)
+        (progress t.old g.old)) result t.new g.new }
+    ensures has { IfOk result (Has t.new) }
+    ensures ids { KeepsTypes t.old t.new }
+    ensures graph { Keeps g.old g.new }
+    ensures home { g.new.home ≡ g.old.home }
+{
+    let mut scope: CoreScope = Scope::new(alloc, env);
+    t.is_kept();
+    elab_in_scope(alloc, g, t, &mut scope, exp)
+}
 
 /// The type of an expression in an environment of a graph, with no type variable written around it: 30 to 35, 37, 38, 40
 /// or 41 where inference gives that, and the table is then as before. What stands in the environment is of what the table
@@ -45,15 +69,35 @@ pub fn elab_exp(g: &mut EnvGraph, t: &mut TypeTable, env: EnvId, exp: &Exp) -> R
 {
     let alloc = g.alloc();
     let before = t.mark();
-    let mut scope: CoreScope = Scope::new(alloc, env);
-    t.is_kept();
-    match elab_in_scope(alloc, g, t, &mut scope, exp) {
+    match type_in(alloc, g, t, env, exp) {
         Ok(id) => Ok(id),
         Err(fault) => {
             t.undo(&before);
             Err(fault)
         }
     }
+}
+
+/// What a declaration makes. The table may have more after a refusal.
+fn made_in(
+    alloc: Global,
+    g: &mut EnvGraph,
+    t: &mut TypeTable,
+    env: EnvId,
+    dec: &Dec,
+) -> Result<Made<OwnVariable>, Fault>
+    requires env { HasEnv g.old env }
+    requires ready { IsOfState (outermost g.old.home (env_at g.old env)) (progress t.old g.old) }
+    ensures infers { Answers (infer_dec depth (outermost g.old.home (env_at g.old env)) (dec_phrase dec.now)
+        (progress t.old g.old)) (λ made. (env_of_made g.new own_entry made, progress t.new g.new)) result }
+    ensures envs { IfOk result (λ made. HasEnvs g.new made.structures) }
+    ensures ids { KeepsTypes t.old t.new }
+    ensures graph { Keeps g.old g.new }
+    ensures home { g.new.home ≡ g.old.home }
+{
+    let mut scope: CoreScope = Scope::new(alloc, env);
+    t.is_kept();
+    elab_declared(alloc, g, t, &mut scope, dec)
 }
 
 /// The environment of a declaration. The table may have more after a refusal.
@@ -73,9 +117,7 @@ fn declare_in(
     ensures graph { Keeps g.old g.new }
     ensures home { g.new.home ≡ g.old.home }
 {
-    let mut scope: CoreScope = Scope::new(alloc, env);
-    t.is_kept();
-    let made = elab_declared(alloc, g, t, &mut scope, dec)?;
+    let made = made_in(alloc, g, t, env, dec)?;
     let id = make_declared(alloc, g, made)?;
     Ok(id)
 }

@@ -1,0 +1,27 @@
+use Rattle.bare_phrases.specs.PhraseOf.{exp_phrase}
+use Rattle.pattern_elab.specs.Scopes.{own_entry}
+use Rattle.core_elab.proofs.Beginning.{whole, begun}
+use Rattle.core_elab.proofs.whole.type_in.Goals as goal
+
+pub elab_in_scope-requires : goal.elab_in_scope-requires
+elab_in_scope-requires c =
+    begun c.args.g.now c.args.t.now c.new-scope.result c.args.env
+    (c.new-scope.ensures.there c.args.g.now c.requires.env) c.is_kept.ensures
+    (c.new-scope.ensures.seen c.args.g.now own_entry) c.new-scope.ensures.written c.requires.ready
+
+pub returns-clause-infers : goal.returns-clause-infers
+returns-clause-infers c =
+    whole c.args.env (exp_phrase c.args.exp.now) (c.new-scope.ensures.seen c.args.g.now own_entry)
+    c.new-scope.ensures.written c.elab_in_scope.ensures
+
+pub returns-clause-has : goal.returns-clause-has
+returns-clause-has c = c.elab_in_scope.ensures.has
+
+pub returns-clause-ids : goal.returns-clause-ids
+returns-clause-ids c = c.elab_in_scope.ensures.goes.ids
+
+pub returns-clause-graph : goal.returns-clause-graph
+returns-clause-graph c = c.elab_in_scope.ensures.goes.graph
+
+pub returns-clause-home : goal.returns-clause-home
+returns-clause-home c = c.elab_in_scope.ensures.goes.home
