@@ -1,10 +1,9 @@
 -- What is written in the core, with functions behind `rec` alone, becomes phrases in which it is so.
-use Rattle.std.proofs.Common.{◌≡◌, List, [], ◌∷◌, ◌++◌, map, flat_map, Bool, true, false, if◌then◌else◌, ◌&&◌, ◌==◌, refl, sym, ap, ◌∙◌, subst}
+use Rattle.std.proofs.Common.{◌≡◌, ℕ, List, [], ◌∷◌, map, flat_map, Bool, true, false, if◌then◌else◌, ◌&&◌, ◌==◌, refl, sym, ap, ◌∙◌, subst}
 use Rattle.std.specs.Prelude.{codes}
 use Rattle.std.specs.List.{list_all}
 use Rattle.sml_trees.specs.declared.full_exp.FullHead.{FullHead}
 use Rattle.sml_trees.specs.declared.full_exp.FullHead.TheVariants as head
-use Rattle.sml_trees.specs.declared.full_pat.FullPat.{FullPat}
 use Rattle.sml_trees.specs.declared.full_exp.FullDec.{FullDec, roll-FullDec}
 use Rattle.sml_trees.specs.declared.full_exp.FullExp.{FullExp, roll-FullExp}
 use Rattle.sml_trees.specs.declared.full_exp.FullExpItem.{FullExpItem, roll-FullExpItem}
@@ -15,22 +14,19 @@ use Rattle.sml_trees.specs.declared.full_exp.FullRule.{FullRule, roll-FullRule}
 use Rattle.sml_trees.specs.declared.full_exp.FullValBind.{FullValBind, roll-FullValBind}
 use Rattle.sml_trees.specs.declared.full_exp.FullDec.TheOpen.{FullDec-F, FullExp-F, FullExpItem-F, FullClause-F, FullExpField-F, FullFunBind-F, FullRule-F, FullValBind-F}
 use Rattle.sml_trees.specs.declared.full_exp.FullDec.TheFolds.{map-FullDec, map-FullExp, map-FullExpItem, map-FullClause, map-FullExpField, map-FullFunBind, map-FullRule, map-FullValBind, fold-roll-FullDec, fold-roll-FullExp, fold-roll-FullExpItem, fold-roll-FullClause, fold-roll-FullExpField, fold-roll-FullFunBind, fold-roll-FullRule, fold-roll-FullValBind, ind-FullDec}
-use Rattle.sml_trees.specs.declared.exp.Dec.{Dec}
-use Rattle.sml_trees.specs.declared.exp.Exp.TheVariants as exp
 use Rattle.sml_trees.specs.declared.exp.Rule.{Rule}
 use Rattle.bare_forms.specs.declared.placed.PlacedExp.{PlacedExp}
 use Rattle.bare_forms.specs.declared.placed.BareClause.{BareClause}
 use Rattle.bare_forms.specs.declared.placed.CountedRule.{CountedRule}
 use Rattle.bare_forms.specs.Types.{bare_ty, bare_typ_bind, bare_dat_bind, bare_ex_bind}
 use Rattle.bare_forms.specs.Patterns.{bare_pat, long_at}
-use Rattle.bare_forms.specs.Runs.{Part}
-use Rattle.bare_forms.specs.Nodes.{rule, long_exp, exp_fields_from, body_exp}
+use Rattle.bare_forms.specs.Nodes.{long_exp, exp_fields_from, body_exp}
 use Rattle.bare_forms.specs.Expressions.{PlacedDec, head_args, plain_rules, rec_binds, rec_rules, rule_of, decs_of, sequence_dec, dec_level, exp_level, exp_item_level, clause_level, exp_field_level, fun_bind_level, rule_level, val_bind_level, bare_dec, bare_exp, bare_item, bare_clause, bare_field, bare_fun_bind, bare_rule, bare_val_bind}
 use Rattle.static_semantics.specs.Holding.{AllItems}
 use Rattle.recursion_laws.specs.Functions.{ExpFacts, BindFacts, ClauseFacts, is_sound, is_sound_bind, is_function_bind, is_sound_clause, has_some, takes_argument, recs_bind_functions, first_takes, dec_step, exp_step, item_step, clause_step, field_step, fun_step, rule_step, val_step, dec_binds, exp_binds, item_binds, clause_binds, field_binds, fun_binds, rule_binds, val_binds}
 use Rattle.recursion_laws.proofs.Forms.{first_true, second_true}
 use Rattle.recursion_laws.proofs.Exps.{passes}
-use Rattle.bare_functions.proofs.Nodes.{items_map, items_flat, HasE, HasF, HasR, HasD, ValueE, ValueR, has-field, has-rule, value-rule, has-Long, has-Record, has-Let, has-Typed, value-Typed, has-Handle, has-Raise, has-Fn, value-Fn, has-Val, has-Types, has-Datatypes, has-Replication, has-Exceptions, has-Open, has-Local, has-Sequence}
+use Rattle.bare_functions.proofs.Nodes.{items_map, items_flat, HasF, HasR, HasD, ValueE, ValueR, has-field, has-rule, value-rule, has-Long, has-Record, has-Let, has-Typed, value-Typed, has-Handle, has-Raise, has-Fn, value-Fn, has-Val, has-Types, has-Datatypes, has-Replication, has-Exceptions, has-Open, has-Local, has-Sequence}
 use Rattle.bare_functions.proofs.DerivedNodes.{HasP, HasPart, HasC, first_has, has-constant, has-unit, has-tuple, has-case, has-if, has-while, has-list, has-sequence, has-body, has-result, has-run, has-fun, value-fun}
 
 -- ---- what holds of each phrase where its tree binds functions alone
@@ -151,22 +147,22 @@ vals_values : (held : List HeldVal) → list_all is_function_bind (map val_binds
     → AllItems ValueB (map bare_val_bind (map (λ h. h.0) held))
 vals_values held all = each_of is_function_bind val_binds ValueB bare_val_bind (λ x q h. q.value h) held all
 
+from_if : (b p q : Bool) (recs binds : List CountedRule) → (p ≡ true → AllItems ValueB recs)
+    → (q ≡ true → AllItems ValueB binds) → (if b then p else q) ≡ true → AllItems ValueB (if b then recs else binds)
+from_if true p q recs binds f g h = f h
+from_if false p q recs binds f g h = g h
+
 -- from the first `rec` on
 from_rec : (held : List HeldVal) → recs_bind_functions (map val_binds (map (λ h. h.0) held)) ≡ true
     → AllItems ValueB (rec_binds (map bare_val_bind (map (λ h. h.0) held)))
 from_rec [] all = tt
 from_rec (h ∷ held) all =
-    by ((bare_val_bind h.0).recs == 0) (ap (λ n. if n == 0 then recs_bind_functions facts else list_all is_function_bind (val_binds h.0 ∷ facts)) (sym h.1.recs) ∙ all)
-  where
-    facts : List BindFacts
-    facts = map val_binds (map (λ h. h.0) held)
-    by : (b : Bool)
-        → (if b then recs_bind_functions (map val_binds (map (λ h. h.0) held))
-        else list_all is_function_bind (val_binds h.0 ∷ map val_binds (map (λ h. h.0) held))) ≡ true
-        → AllItems ValueB (if b then rec_binds (map bare_val_bind (map (λ h. h.0) held))
-        else (bare_val_bind h.0 ∷ map bare_val_bind (map (λ h. h.0) held)))
-    by true given = from_rec held given
-    by false given = vals_values (h ∷ held) given
+    let rest : Bool = recs_bind_functions (map val_binds (map (λ h. h.0) held)) in
+    let each : Bool = list_all is_function_bind (val_binds h.0 ∷ map val_binds (map (λ h. h.0) held)) in
+    from_if ((bare_val_bind h.0).recs == 0) rest each (rec_binds (map bare_val_bind (map (λ h. h.0) held)))
+    (bare_val_bind h.0 ∷ map bare_val_bind (map (λ h. h.0) held)) (λ given. from_rec held given)
+    (λ given. vals_values (h ∷ held) given)
+    (ap (λ (n : ℕ). if n == 0 then rest else each) (sym h.1.recs) ∙ all)
 
 -- ---- functions
 
@@ -274,10 +270,12 @@ dec_parts (FullDec-F.Val tyvars binds at) h =
     let made = map bare_val_bind (map (λ h. h.0) binds) in
     let functions = recs_bind_functions (map val_binds (map (λ h. h.0) binds)) in
     let sound = list_all is_sound_bind (map val_binds (map (λ h. h.0) binds)) in
-    let have = vals_have binds (second_true functions sound h) in
-    (has-Val tyvars (plain_rules made) (rec_rules made) at (plain_have made have)
-    (items_map HasR rule_of (rec_binds made) (recs_have made have))
-    (items_map ValueR rule_of (rec_binds made) (from_rec binds (first_true functions sound h))), tt)
+    let have = vals_have binds (second_true functions sound h) in (
+      has-Val tyvars (plain_rules made) (rec_rules made) at (plain_have made have)
+          (items_map HasR rule_of (rec_binds made) (recs_have made have))
+          (items_map ValueR rule_of (rec_binds made) (from_rec binds (first_true functions sound h))),
+      tt,
+    )
 dec_parts (FullDec-F.Fun tyvars binds at) h =
     let made = map bare_fun_bind (map (λ h. h.0) binds) in
     let have = funs_have binds h in
@@ -288,10 +286,12 @@ dec_parts (FullDec-F.Replication name long at) h = (has-Replication name long at
 dec_parts (FullDec-F.Exceptions binds at) h = (has-Exceptions (map bare_ex_bind binds) at, tt)
 dec_parts (FullDec-F.Local hidden decs at) h =
     let first = list_all passes (map dec_binds (map (λ h. h.0) hidden)) in
-    let second = list_all passes (map dec_binds (map (λ h. h.0) decs)) in
-    (has-Local (sequence_dec at (map bare_dec (map (λ h. h.0) hidden))) (sequence_dec at (map bare_dec (map (λ h. h.0) decs))) at
-    (has-Sequence (flat_map decs_of (map bare_dec (map (λ h. h.0) hidden))) at (decs_have hidden (first_true first second h)))
-    (has-Sequence (flat_map decs_of (map bare_dec (map (λ h. h.0) decs))) at (decs_have decs (second_true first second h))), tt)
+    let second = list_all passes (map dec_binds (map (λ h. h.0) decs)) in (
+      has-Local (sequence_dec at (map bare_dec (map (λ h. h.0) hidden))) (sequence_dec at (map bare_dec (map (λ h. h.0) decs))) at
+          (has-Sequence (flat_map decs_of (map bare_dec (map (λ h. h.0) hidden))) at (decs_have hidden (first_true first second h)))
+          (has-Sequence (flat_map decs_of (map bare_dec (map (λ h. h.0) decs))) at (decs_have decs (second_true first second h))),
+      tt,
+    )
 dec_parts (FullDec-F.Open longs at) h = (has-Open longs at, tt)
 dec_parts (FullDec-F.Infix strength names at) h = tt
 dec_parts (FullDec-F.Infixr strength names at) h = tt
@@ -321,9 +321,9 @@ dec_step_is x y is = subst (λ (z : FullDec-F FullDec FullExp FullExpItem FullCl
 exp_step_is : (x : FullExp-F FullDec FullExp FullExpItem FullClause FullExpField FullFunBind FullRule FullValBind) (y : FullExp-F HeldDec HeldExp HeldItem HeldClause HeldField HeldFun HeldRule HeldVal) → map-FullExp _ _ _ _ _ _ _ _ _ _ _ _ _ _ _ _ (λ h. h.0) (λ h. h.0) (λ h. h.0) (λ h. h.0) (λ h. h.0) (λ h. h.0) (λ h. h.0) (λ h. h.0) y ≡ x → ExpIs (roll-FullExp x)
 unfolding dec_binds exp_binds item_binds clause_binds field_binds fun_binds rule_binds val_binds bare_dec bare_exp bare_item bare_clause bare_field bare_fun_bind bare_rule bare_val_bind
 exp_step_is x y is = subst (λ (z : FullExp-F FullDec FullExp FullExpItem FullClause FullExpField FullFunBind FullRule FullValBind). ExpIs (roll-FullExp z)) is (record {
-      has = λ h. subst HasP (sym (fold-roll-FullExp _ _ _ _ _ _ _ _ dec_level exp_level exp_item_level clause_level exp_field_level fun_bind_level rule_level val_bind_level (map-FullExp _ _ _ _ _ _ _ _ _ _ _ _ _ _ _ _ (λ h. h.0) (λ h. h.0) (λ h. h.0) (λ h. h.0) (λ h. h.0) (λ h. h.0) (λ h. h.0) (λ h. h.0) y))) (exp_parts y (ap is_sound (sym (fold-roll-FullExp _ _ _ _ _ _ _ _ dec_step exp_step item_step clause_step field_step fun_step rule_step val_step (map-FullExp _ _ _ _ _ _ _ _ _ _ _ _ _ _ _ _ (λ h. h.0) (λ h. h.0) (λ h. h.0) (λ h. h.0) (λ h. h.0) (λ h. h.0) (λ h. h.0) (λ h. h.0) y))) ∙ h));
-      value = λ h. subst (λ (p : PlacedExp). ValueE p.exp) (sym (fold-roll-FullExp _ _ _ _ _ _ _ _ dec_level exp_level exp_item_level clause_level exp_field_level fun_bind_level rule_level val_bind_level (map-FullExp _ _ _ _ _ _ _ _ _ _ _ _ _ _ _ _ (λ h. h.0) (λ h. h.0) (λ h. h.0) (λ h. h.0) (λ h. h.0) (λ h. h.0) (λ h. h.0) (λ h. h.0) y))) (exp_value y (ap (λ (facts : ExpFacts). facts.function) (sym (fold-roll-FullExp _ _ _ _ _ _ _ _ dec_step exp_step item_step clause_step field_step fun_step rule_step val_step (map-FullExp _ _ _ _ _ _ _ _ _ _ _ _ _ _ _ _ (λ h. h.0) (λ h. h.0) (λ h. h.0) (λ h. h.0) (λ h. h.0) (λ h. h.0) (λ h. h.0) (λ h. h.0) y))) ∙ h));
-    })
+  has = λ h. subst HasP (sym (fold-roll-FullExp _ _ _ _ _ _ _ _ dec_level exp_level exp_item_level clause_level exp_field_level fun_bind_level rule_level val_bind_level (map-FullExp _ _ _ _ _ _ _ _ _ _ _ _ _ _ _ _ (λ h. h.0) (λ h. h.0) (λ h. h.0) (λ h. h.0) (λ h. h.0) (λ h. h.0) (λ h. h.0) (λ h. h.0) y))) (exp_parts y (ap is_sound (sym (fold-roll-FullExp _ _ _ _ _ _ _ _ dec_step exp_step item_step clause_step field_step fun_step rule_step val_step (map-FullExp _ _ _ _ _ _ _ _ _ _ _ _ _ _ _ _ (λ h. h.0) (λ h. h.0) (λ h. h.0) (λ h. h.0) (λ h. h.0) (λ h. h.0) (λ h. h.0) (λ h. h.0) y))) ∙ h));
+  value = λ h. subst (λ (p : PlacedExp). ValueE p.exp) (sym (fold-roll-FullExp _ _ _ _ _ _ _ _ dec_level exp_level exp_item_level clause_level exp_field_level fun_bind_level rule_level val_bind_level (map-FullExp _ _ _ _ _ _ _ _ _ _ _ _ _ _ _ _ (λ h. h.0) (λ h. h.0) (λ h. h.0) (λ h. h.0) (λ h. h.0) (λ h. h.0) (λ h. h.0) (λ h. h.0) y))) (exp_value y (ap (λ (facts : ExpFacts). facts.function) (sym (fold-roll-FullExp _ _ _ _ _ _ _ _ dec_step exp_step item_step clause_step field_step fun_step rule_step val_step (map-FullExp _ _ _ _ _ _ _ _ _ _ _ _ _ _ _ _ (λ h. h.0) (λ h. h.0) (λ h. h.0) (λ h. h.0) (λ h. h.0) (λ h. h.0) (λ h. h.0) (λ h. h.0) y))) ∙ h));
+})
 
 item_step_is : (x : FullExpItem-F FullDec FullExp FullExpItem FullClause FullExpField FullFunBind FullRule FullValBind) (y : FullExpItem-F HeldDec HeldExp HeldItem HeldClause HeldField HeldFun HeldRule HeldVal) → map-FullExpItem _ _ _ _ _ _ _ _ _ _ _ _ _ _ _ _ (λ h. h.0) (λ h. h.0) (λ h. h.0) (λ h. h.0) (λ h. h.0) (λ h. h.0) (λ h. h.0) (λ h. h.0) y ≡ x → ItemIs (roll-FullExpItem x)
 unfolding dec_binds exp_binds item_binds clause_binds field_binds fun_binds rule_binds val_binds bare_dec bare_exp bare_item bare_clause bare_field bare_fun_bind bare_rule bare_val_bind
@@ -332,9 +332,9 @@ item_step_is x y is = subst (λ (z : FullExpItem-F FullDec FullExp FullExpItem F
 clause_step_is : (x : FullClause-F FullDec FullExp FullExpItem FullClause FullExpField FullFunBind FullRule FullValBind) (y : FullClause-F HeldDec HeldExp HeldItem HeldClause HeldField HeldFun HeldRule HeldVal) → map-FullClause _ _ _ _ _ _ _ _ _ _ _ _ _ _ _ _ (λ h. h.0) (λ h. h.0) (λ h. h.0) (λ h. h.0) (λ h. h.0) (λ h. h.0) (λ h. h.0) (λ h. h.0) y ≡ x → ClauseIs (roll-FullClause x)
 unfolding dec_binds exp_binds item_binds clause_binds field_binds fun_binds rule_binds val_binds bare_dec bare_exp bare_item bare_clause bare_field bare_fun_bind bare_rule bare_val_bind
 clause_step_is x y is = subst (λ (z : FullClause-F FullDec FullExp FullExpItem FullClause FullExpField FullFunBind FullRule FullValBind). ClauseIs (roll-FullClause z)) is (record {
-      has = λ h. subst HasC (sym (fold-roll-FullClause _ _ _ _ _ _ _ _ dec_level exp_level exp_item_level clause_level exp_field_level fun_bind_level rule_level val_bind_level (map-FullClause _ _ _ _ _ _ _ _ _ _ _ _ _ _ _ _ (λ h. h.0) (λ h. h.0) (λ h. h.0) (λ h. h.0) (λ h. h.0) (λ h. h.0) (λ h. h.0) (λ h. h.0) y))) (has-result y.ty (bare_exp y.body.0) (y.body.1.has (ap is_sound_clause (sym (fold-roll-FullClause _ _ _ _ _ _ _ _ dec_step exp_step item_step clause_step field_step fun_step rule_step val_step (map-FullClause _ _ _ _ _ _ _ _ _ _ _ _ _ _ _ _ (λ h. h.0) (λ h. h.0) (λ h. h.0) (λ h. h.0) (λ h. h.0) (λ h. h.0) (λ h. h.0) (λ h. h.0) y))) ∙ h)));
-      takes = λ h. ap (λ (c : BareClause). has_some c.args) (fold-roll-FullClause _ _ _ _ _ _ _ _ dec_level exp_level exp_item_level clause_level exp_field_level fun_bind_level rule_level val_bind_level (map-FullClause _ _ _ _ _ _ _ _ _ _ _ _ _ _ _ _ (λ h. h.0) (λ h. h.0) (λ h. h.0) (λ h. h.0) (λ h. h.0) (λ h. h.0) (λ h. h.0) (λ h. h.0) y)) ∙ head_has y.head (ap (λ (c : ClauseFacts). c.takes) (sym (fold-roll-FullClause _ _ _ _ _ _ _ _ dec_step exp_step item_step clause_step field_step fun_step rule_step val_step (map-FullClause _ _ _ _ _ _ _ _ _ _ _ _ _ _ _ _ (λ h. h.0) (λ h. h.0) (λ h. h.0) (λ h. h.0) (λ h. h.0) (λ h. h.0) (λ h. h.0) (λ h. h.0) y))) ∙ h);
-    })
+  has = λ h. subst HasC (sym (fold-roll-FullClause _ _ _ _ _ _ _ _ dec_level exp_level exp_item_level clause_level exp_field_level fun_bind_level rule_level val_bind_level (map-FullClause _ _ _ _ _ _ _ _ _ _ _ _ _ _ _ _ (λ h. h.0) (λ h. h.0) (λ h. h.0) (λ h. h.0) (λ h. h.0) (λ h. h.0) (λ h. h.0) (λ h. h.0) y))) (has-result y.ty (bare_exp y.body.0) (y.body.1.has (ap is_sound_clause (sym (fold-roll-FullClause _ _ _ _ _ _ _ _ dec_step exp_step item_step clause_step field_step fun_step rule_step val_step (map-FullClause _ _ _ _ _ _ _ _ _ _ _ _ _ _ _ _ (λ h. h.0) (λ h. h.0) (λ h. h.0) (λ h. h.0) (λ h. h.0) (λ h. h.0) (λ h. h.0) (λ h. h.0) y))) ∙ h)));
+  takes = λ h. ap (λ (c : BareClause). has_some c.args) (fold-roll-FullClause _ _ _ _ _ _ _ _ dec_level exp_level exp_item_level clause_level exp_field_level fun_bind_level rule_level val_bind_level (map-FullClause _ _ _ _ _ _ _ _ _ _ _ _ _ _ _ _ (λ h. h.0) (λ h. h.0) (λ h. h.0) (λ h. h.0) (λ h. h.0) (λ h. h.0) (λ h. h.0) (λ h. h.0) y)) ∙ head_has y.head (ap (λ (c : ClauseFacts). c.takes) (sym (fold-roll-FullClause _ _ _ _ _ _ _ _ dec_step exp_step item_step clause_step field_step fun_step rule_step val_step (map-FullClause _ _ _ _ _ _ _ _ _ _ _ _ _ _ _ _ (λ h. h.0) (λ h. h.0) (λ h. h.0) (λ h. h.0) (λ h. h.0) (λ h. h.0) (λ h. h.0) (λ h. h.0) y))) ∙ h);
+})
 
 field_step_is : (x : FullExpField-F FullDec FullExp FullExpItem FullClause FullExpField FullFunBind FullRule FullValBind) (y : FullExpField-F HeldDec HeldExp HeldItem HeldClause HeldField HeldFun HeldRule HeldVal) → map-FullExpField _ _ _ _ _ _ _ _ _ _ _ _ _ _ _ _ (λ h. h.0) (λ h. h.0) (λ h. h.0) (λ h. h.0) (λ h. h.0) (λ h. h.0) (λ h. h.0) (λ h. h.0) y ≡ x → FieldIs (roll-FullExpField x)
 unfolding dec_binds exp_binds item_binds clause_binds field_binds fun_binds rule_binds val_binds bare_dec bare_exp bare_item bare_clause bare_field bare_fun_bind bare_rule bare_val_bind
@@ -351,10 +351,10 @@ rule_step_is x y is = subst (λ (z : FullRule-F FullDec FullExp FullExpItem Full
 val_step_is : (x : FullValBind-F FullDec FullExp FullExpItem FullClause FullExpField FullFunBind FullRule FullValBind) (y : FullValBind-F HeldDec HeldExp HeldItem HeldClause HeldField HeldFun HeldRule HeldVal) → map-FullValBind _ _ _ _ _ _ _ _ _ _ _ _ _ _ _ _ (λ h. h.0) (λ h. h.0) (λ h. h.0) (λ h. h.0) (λ h. h.0) (λ h. h.0) (λ h. h.0) (λ h. h.0) y ≡ x → ValIs (roll-FullValBind x)
 unfolding dec_binds exp_binds item_binds clause_binds field_binds fun_binds rule_binds val_binds bare_dec bare_exp bare_item bare_clause bare_field bare_fun_bind bare_rule bare_val_bind
 val_step_is x y is = subst (λ (z : FullValBind-F FullDec FullExp FullExpItem FullClause FullExpField FullFunBind FullRule FullValBind). ValIs (roll-FullValBind z)) is (record {
-      recs = ap (λ (b : BindFacts). b.recs) (fold-roll-FullValBind _ _ _ _ _ _ _ _ dec_step exp_step item_step clause_step field_step fun_step rule_step val_step (map-FullValBind _ _ _ _ _ _ _ _ _ _ _ _ _ _ _ _ (λ h. h.0) (λ h. h.0) (λ h. h.0) (λ h. h.0) (λ h. h.0) (λ h. h.0) (λ h. h.0) (λ h. h.0) y)) ∙ sym (ap (λ (b : CountedRule). b.recs) (fold-roll-FullValBind _ _ _ _ _ _ _ _ dec_level exp_level exp_item_level clause_level exp_field_level fun_bind_level rule_level val_bind_level (map-FullValBind _ _ _ _ _ _ _ _ _ _ _ _ _ _ _ _ (λ h. h.0) (λ h. h.0) (λ h. h.0) (λ h. h.0) (λ h. h.0) (λ h. h.0) (λ h. h.0) (λ h. h.0) y)));
-      has = λ h. subst HasB (sym (fold-roll-FullValBind _ _ _ _ _ _ _ _ dec_level exp_level exp_item_level clause_level exp_field_level fun_bind_level rule_level val_bind_level (map-FullValBind _ _ _ _ _ _ _ _ _ _ _ _ _ _ _ _ (λ h. h.0) (λ h. h.0) (λ h. h.0) (λ h. h.0) (λ h. h.0) (λ h. h.0) (λ h. h.0) (λ h. h.0) y))) (has-rule (bare_pat y.pat).pat (bare_exp y.exp.0).exp (y.exp.1.has (ap is_sound_bind (sym (fold-roll-FullValBind _ _ _ _ _ _ _ _ dec_step exp_step item_step clause_step field_step fun_step rule_step val_step (map-FullValBind _ _ _ _ _ _ _ _ _ _ _ _ _ _ _ _ (λ h. h.0) (λ h. h.0) (λ h. h.0) (λ h. h.0) (λ h. h.0) (λ h. h.0) (λ h. h.0) (λ h. h.0) y))) ∙ h)));
-      value = λ h. subst ValueB (sym (fold-roll-FullValBind _ _ _ _ _ _ _ _ dec_level exp_level exp_item_level clause_level exp_field_level fun_bind_level rule_level val_bind_level (map-FullValBind _ _ _ _ _ _ _ _ _ _ _ _ _ _ _ _ (λ h. h.0) (λ h. h.0) (λ h. h.0) (λ h. h.0) (λ h. h.0) (λ h. h.0) (λ h. h.0) (λ h. h.0) y))) (value-rule (bare_pat y.pat).pat (bare_exp y.exp.0).exp (y.exp.1.value (ap is_function_bind (sym (fold-roll-FullValBind _ _ _ _ _ _ _ _ dec_step exp_step item_step clause_step field_step fun_step rule_step val_step (map-FullValBind _ _ _ _ _ _ _ _ _ _ _ _ _ _ _ _ (λ h. h.0) (λ h. h.0) (λ h. h.0) (λ h. h.0) (λ h. h.0) (λ h. h.0) (λ h. h.0) (λ h. h.0) y))) ∙ h)));
-    })
+  recs = ap (λ (b : BindFacts). b.recs) (fold-roll-FullValBind _ _ _ _ _ _ _ _ dec_step exp_step item_step clause_step field_step fun_step rule_step val_step (map-FullValBind _ _ _ _ _ _ _ _ _ _ _ _ _ _ _ _ (λ h. h.0) (λ h. h.0) (λ h. h.0) (λ h. h.0) (λ h. h.0) (λ h. h.0) (λ h. h.0) (λ h. h.0) y)) ∙ sym (ap (λ (b : CountedRule). b.recs) (fold-roll-FullValBind _ _ _ _ _ _ _ _ dec_level exp_level exp_item_level clause_level exp_field_level fun_bind_level rule_level val_bind_level (map-FullValBind _ _ _ _ _ _ _ _ _ _ _ _ _ _ _ _ (λ h. h.0) (λ h. h.0) (λ h. h.0) (λ h. h.0) (λ h. h.0) (λ h. h.0) (λ h. h.0) (λ h. h.0) y)));
+  has = λ h. subst HasB (sym (fold-roll-FullValBind _ _ _ _ _ _ _ _ dec_level exp_level exp_item_level clause_level exp_field_level fun_bind_level rule_level val_bind_level (map-FullValBind _ _ _ _ _ _ _ _ _ _ _ _ _ _ _ _ (λ h. h.0) (λ h. h.0) (λ h. h.0) (λ h. h.0) (λ h. h.0) (λ h. h.0) (λ h. h.0) (λ h. h.0) y))) (has-rule (bare_pat y.pat).pat (bare_exp y.exp.0).exp (y.exp.1.has (ap is_sound_bind (sym (fold-roll-FullValBind _ _ _ _ _ _ _ _ dec_step exp_step item_step clause_step field_step fun_step rule_step val_step (map-FullValBind _ _ _ _ _ _ _ _ _ _ _ _ _ _ _ _ (λ h. h.0) (λ h. h.0) (λ h. h.0) (λ h. h.0) (λ h. h.0) (λ h. h.0) (λ h. h.0) (λ h. h.0) y))) ∙ h)));
+  value = λ h. subst ValueB (sym (fold-roll-FullValBind _ _ _ _ _ _ _ _ dec_level exp_level exp_item_level clause_level exp_field_level fun_bind_level rule_level val_bind_level (map-FullValBind _ _ _ _ _ _ _ _ _ _ _ _ _ _ _ _ (λ h. h.0) (λ h. h.0) (λ h. h.0) (λ h. h.0) (λ h. h.0) (λ h. h.0) (λ h. h.0) (λ h. h.0) y))) (value-rule (bare_pat y.pat).pat (bare_exp y.exp.0).exp (y.exp.1.value (ap is_function_bind (sym (fold-roll-FullValBind _ _ _ _ _ _ _ _ dec_step exp_step item_step clause_step field_step fun_step rule_step val_step (map-FullValBind _ _ _ _ _ _ _ _ _ _ _ _ _ _ _ _ (λ h. h.0) (λ h. h.0) (λ h. h.0) (λ h. h.0) (λ h. h.0) (λ h. h.0) (λ h. h.0) (λ h. h.0) y))) ∙ h)));
+})
 
 pub dec_is : (d : FullDec) → DecIs d
 dec_is = ind-FullDec DecIs ExpIs ItemIs ClauseIs FieldIs FunIs RuleIs ValIs dec_step_is exp_step_is item_step_is clause_step_is field_step_is fun_step_is rule_step_is val_step_is

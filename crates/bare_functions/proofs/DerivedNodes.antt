@@ -1,5 +1,5 @@
 -- What holds of what derived forms are made of.
-use Rattle.std.proofs.Common.{◌≡◌, ℕ, zero, suc, List, [], ◌∷◌, ◌++◌, map, length, Option, Some, None, Bool, true, false, if◌then◌else◌, ◌==◌, refl, sym, ap, ap₂, ◌∙◌, subst}
+use Rattle.std.proofs.Common.{◌≡◌, ℕ, zero, suc, List, [], ◌∷◌, map, length, Option, Some, None, Bool, true, false, refl, ap, ap₂, ◌∙◌, subst}
 use Rattle.std.specs.Prelude.{codes}
 use Rattle.sml_trees.specs.declared.name.At.{At}
 use Rattle.sml_trees.specs.declared.name.Name.{Name}
@@ -10,7 +10,6 @@ use Rattle.sml_trees.specs.declared.pat.Pat.TheVariants as pat
 use Rattle.sml_trees.specs.declared.exp.Dec.TheVariants as dec
 use Rattle.sml_trees.specs.declared.exp.Exp.{Exp}
 use Rattle.sml_trees.specs.declared.exp.Exp.TheVariants as exp
-use Rattle.sml_trees.specs.declared.exp.ExpField.{ExpField}
 use Rattle.sml_trees.specs.declared.exp.Rule.{Rule}
 use Rattle.bare_forms.specs.declared.placed.PlacedPat.{PlacedPat}
 use Rattle.bare_forms.specs.declared.placed.PlacedExp.{PlacedExp}
@@ -24,7 +23,7 @@ use Rattle.bare_forms.specs.Expressions.{result_exp}
 use Rattle.bare_forms.proofs.RunFusion.{run-value}
 use Rattle.static_semantics.specs.Holding.{AllItems}
 use Rattle.recursion_laws.specs.Functions.{has_some}
-use Rattle.bare_functions.proofs.Nodes.{HasE, HasF, HasR, HasD, ValueE, ValueR, has-field, has-rule, value-rule, has-Int, has-Str, has-Char, has-Long, has-Record, has-Let, has-App, has-Typed, has-Fn, value-Fn, has-Val, has-Sequence}
+use Rattle.bare_functions.proofs.Nodes.{HasE, HasF, HasR, ValueE, ValueR, has-field, has-rule, value-rule, has-Int, has-Str, has-Char, has-Long, has-Record, has-Let, has-App, has-Typed, has-Fn, value-Fn, has-Val, has-Sequence}
 
 abbrev pub HasP : PlacedExp → Type 0
 HasP p = HasE p.exp
@@ -42,7 +41,7 @@ has-unit at = has-Record [] at tt
 has-pair : (at : At) (a b : Exp) → HasE a → HasE b → HasE (pair_exp at a b)
 has-pair at a b first second =
     has-Record (field (label_of at 1) a ∷ field (label_of at 2) b ∷ []) at
-    (has-field (label_of at 1) a first, has-field (label_of at 2) b second, tt)
+    (has-field (label_of at 1) a first, (has-field (label_of at 2) b second, tt))
 
 pub has-tuple : (at : At) (n : ℕ) (parts : List PlacedExp) → AllItems HasP parts
     → AllItems HasF (exp_fields_from at n parts)
@@ -57,7 +56,7 @@ has-case at subject rules first second =
 pub has-if : (at : At) (a b c : Exp) → HasE a → HasE b → HasE c → HasE (if_exp at a b c)
 has-if at a b c first second third =
     has-case at a (rule (long_pat at (codes "true")) b ∷ rule (long_pat at (codes "false")) c ∷ []) first
-    (has-rule (long_pat at (codes "true")) b second, has-rule (long_pat at (codes "false")) c third, tt)
+    (has-rule (long_pat at (codes "true")) b second, (has-rule (long_pat at (codes "false")) c third, tt))
 
 has-then : (at : At) (a b : Exp) → HasE a → HasE b → HasE (then_exp at a b)
 has-then at a b first second =
@@ -76,12 +75,14 @@ has-while at a b first second =
     let bound = rule (long_pat at (codes "%0")) function in
     has-Let (dec.Sequence (while_dec at a b ∷ []) at) (while_call at) at
     (has-Sequence (while_dec at a b ∷ []) at (
-      has-Val [] [] (bound ∷ []) at tt
-          (has-rule (long_pat at (codes "%0")) function (has-Fn steps at (
-            has-rule (pat.Record [] at) step
-                (has-if at a again (unit_exp at) first (has-then at b (while_call at) second (has-call at)) (has-unit at)),
-            tt,
-          )), tt)
+      has-Val [] [] (bound ∷ []) at tt (
+        has-rule (long_pat at (codes "%0")) function (has-Fn steps at (
+          has-rule (pat.Record [] at) step
+              (has-if at a again (unit_exp at) first (has-then at b (while_call at) second (has-call at)) (has-unit at)),
+          tt,
+        )),
+        tt,
+      )
           (value-rule (long_pat at (codes "%0")) function (value-Fn steps at), tt),
       tt,
     ))

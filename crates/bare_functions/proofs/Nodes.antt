@@ -1,6 +1,5 @@
 -- What holds of a bare node, by what holds of its parts: in its phrase each `rec` binds functions.
-use Rattle.std.proofs.Common.{◌≡◌, ℕ, ℤ, List, [], ◌∷◌, ◌++◌, map, flat_map, Bool, true, false, refl, sym, ap, ◌∙◌, subst}
-use Rattle.std.specs.List.{list_all}
+use Rattle.std.proofs.Common.{◌≡◌, ℕ, ℤ, List, [], ◌∷◌, ◌++◌, map, flat_map, sym, subst}
 use Rattle.sml_trees.specs.declared.name.At.{At}
 use Rattle.sml_trees.specs.declared.name.Name.{Name}
 use Rattle.sml_trees.specs.declared.name.LongName.{LongName}
@@ -25,7 +24,7 @@ use Rattle.bare_phrases.specs.PhraseOf.{pat_phrase, exp_fields, rules_of, dec_ph
 use Rattle.bare_phrases.proofs.Forms.{exp_phrase-Int, exp_phrase-Str, exp_phrase-Char, exp_phrase-Long, exp_phrase-Record, exp_phrase-Let, exp_phrase-App, exp_phrase-Typed, exp_phrase-Handle, exp_phrase-Raise, exp_phrase-Fn, dec_phrase-Val, dec_phrase-Types, dec_phrase-Datatypes, dec_phrase-Replication, dec_phrase-Exceptions, dec_phrase-Local, dec_phrase-Open, dec_phrase-Sequence, dec_phrase-Structures, str_phrase-Struct, str_phrase-Named, str_phrase-Transparent, str_phrase-Opaque, str_phrase-Functor, str_phrase-Within}
 use Rattle.bare_forms.specs.Nodes.{rule, field}
 use Rattle.static_semantics.specs.Holding.{AllItems}
-use Rattle.unit_semantics.specs.UnitPhrases.{ModulePhrase, ModuleDec, module_phrase, module_dec, module_decs, module_binds}
+use Rattle.unit_semantics.specs.UnitPhrases.{module_phrase, module_dec, module_decs, module_binds}
 use Rattle.elaboration_laws.specs.Declaring.{BindsValues, ExpHas, ExpFieldsHave, RulesHave, DecHas, DecsHave, IsValue, AreValues}
 use Rattle.module_laws.specs.Declaring.{ModuleHas, ModuleDecHas, ModuleDecsHave, ModuleBindsHave}
 
@@ -67,7 +66,7 @@ ValueR r = IsValue (rule_phrase r).1
 -- a declaration, by itself and as one in a structure
 pub record HasD (d : Dec) : Type 0 where
   pub core : DecHas BindsValues (dec_phrase d)
-  pub module : ModuleDecHas BindsValues (module_dec (dec_phrase d))
+  pub inside : ModuleDecHas BindsValues (module_dec (dec_phrase d))
 
 abbrev pub HasM : Dec → Type 0
 HasM d = ModuleDecHas BindsValues (module_dec (dec_phrase d))
@@ -171,16 +170,17 @@ value-Fn rules at = value_by _ _ (exp_phrase-Fn rules at) tt
 
 dec_by : (d : Dec) (p : DecPhrase) → dec_phrase d ≡ p → DecHas BindsValues p
     → ModuleDecHas BindsValues (module_dec p) → HasD d
-dec_by d p is core module = record {
+dec_by d p is core inside = record {
   core = subst (DecHas BindsValues) (sym is) core;
-  module = subst (λ x. ModuleDecHas BindsValues (module_dec x)) (sym is) module;
+  inside = subst (λ x. ModuleDecHas BindsValues (module_dec x)) (sym is) inside;
 }
 
 pub has-Val : (tyvars : List Name) (rules recs : List Rule) (at : At) → AllItems HasR rules → AllItems HasR recs
     → AllItems ValueR recs → HasD (dec.Val tyvars rules recs at)
 has-Val tyvars rules recs at first second third =
-    let h = (rules_values recs third, rules_have rules first, rules_have recs second) in
-    dec_by _ _ (dec_phrase-Val tyvars rules recs at) h h
+    dec_by _ _ (dec_phrase-Val tyvars rules recs at)
+    (rules_values recs third, rules_have rules first, rules_have recs second)
+    (rules_values recs third, rules_have rules first, rules_have recs second)
 
 pub has-Types : (binds : List TypBind) (at : At) → HasD (dec.Types binds at)
 has-Types binds at = dec_by _ _ (dec_phrase-Types binds at) tt tt
@@ -199,7 +199,7 @@ has-Open longs at = dec_by _ _ (dec_phrase-Open longs at) tt tt
 
 pub has-Local : (a b : Dec) (at : At) → HasD a → HasD b → HasD (dec.Local a b at)
 has-Local a b at first second =
-    dec_by _ _ (dec_phrase-Local a b at) (first.core, second.core) (first.module, second.module)
+    dec_by _ _ (dec_phrase-Local a b at) (first.core, second.core) (first.inside, second.inside)
 
 decs_have : (decs : List Dec) → AllItems HasD decs → DecsHave BindsValues (dec_phrases (map dec_phrase decs))
 decs_have [] all = tt
@@ -212,7 +212,7 @@ modules_have (d ∷ ds) all = (all.0, modules_have ds all.1)
 
 pub as_modules : (decs : List Dec) → AllItems HasD decs → AllItems HasM decs
 as_modules [] all = tt
-as_modules (d ∷ ds) all = (all.0.module, as_modules ds all.1)
+as_modules (d ∷ ds) all = (all.0.inside, as_modules ds all.1)
 
 pub has-Sequence : (decs : List Dec) (at : At) → AllItems HasD decs → HasD (dec.Sequence decs at)
 has-Sequence decs at all =

@@ -1,5 +1,5 @@
 -- Structures as they are written, with functions behind `rec` alone, become phrases in which it is so.
-use Rattle.std.proofs.Common.{◌≡◌, List, [], ◌∷◌, map, flat_map, Option, Some, None, Bool, true, false, ◌&&◌, if◌then◌else◌, refl, sym, ap, ◌∙◌, subst}
+use Rattle.std.proofs.Common.{◌≡◌, List, map, flat_map, Option, Some, None, Bool, true, false, if◌then◌else◌, sym, ◌∙◌, subst}
 use Rattle.std.specs.List.{list_all}
 use Rattle.sml_trees.specs.declared.full_sig.FullSeal.{FullSeal}
 use Rattle.sml_trees.specs.declared.full_sig.FullSigExp.{FullSigExp}
@@ -8,14 +8,13 @@ use Rattle.sml_trees.specs.declared.full_str.FullStrDec.{FullStrDec, roll-FullSt
 use Rattle.sml_trees.specs.declared.full_str.FullStrExp.{FullStrExp, roll-FullStrExp}
 use Rattle.sml_trees.specs.declared.full_str.FullStrDec.TheOpen.{FullStrDec-F, FullStrExp-F, FullStrBind-F}
 use Rattle.sml_trees.specs.declared.full_str.FullStrDec.TheFolds.{map-FullStrDec, map-FullStrExp, map-FullStrBind, fold-roll-FullStrDec, fold-roll-FullStrExp, fold-roll-FullStrBind, ind-FullStrExp, ind-FullStrBind}
-use Rattle.sml_trees.specs.declared.exp.StrBind.{StrBind}
 use Rattle.sml_trees.specs.declared.exp.StrExp.TheVariants as str
 use Rattle.bare_forms.specs.declared.placed.PlacedStr.{PlacedStr}
 use Rattle.bare_forms.specs.Signatures.{bare_sig}
 use Rattle.bare_forms.specs.Expressions.{PlacedDec, decs_of, sequence_dec, bare_dec}
 use Rattle.bare_forms.specs.Structures.{sealed, str_dec_level, str_level, str_bind_level, bare_str_dec, bare_str, bare_str_bind}
 use Rattle.static_semantics.specs.Holding.{AllItems}
-use Rattle.recursion_laws.specs.Functions.{str_dec_step, str_step, str_bind_step, dec_binds, str_dec_binds, str_binds, str_bind_binds}
+use Rattle.recursion_laws.specs.Functions.{str_dec_step, str_step, str_bind_step, str_dec_binds, str_binds, str_bind_binds}
 use Rattle.recursion_laws.proofs.Forms.{first_true, second_true}
 use Rattle.recursion_laws.proofs.Exps.{passes}
 use Rattle.bare_functions.proofs.Nodes.{items_flat, HasM, HasS, HasB, as_modules, has-bind, module-Sequence, module-Local, module-Structures, has-Struct, has-Named, has-Transparent, has-Opaque, has-Functor, has-Within}
@@ -82,10 +81,12 @@ str_dec_parts (FullStrDec-F.Structures binds at) h =
     (module-Structures (map bare_str_bind (map (λ h. h.0) binds)) at (binds_have binds h), tt)
 str_dec_parts (FullStrDec-F.Local hidden decs at) h =
     let first = list_all passes (map str_dec_binds (map (λ h. h.0) hidden)) in
-    let second = list_all passes (map str_dec_binds (map (λ h. h.0) decs)) in
-    (module-Local (sequence_dec at (map bare_str_dec (map (λ h. h.0) hidden))) (sequence_dec at (map bare_str_dec (map (λ h. h.0) decs))) at
-    (module-Sequence (flat_map decs_of (map bare_str_dec (map (λ h. h.0) hidden))) at (decs_have hidden (first_true first second h)))
-    (module-Sequence (flat_map decs_of (map bare_str_dec (map (λ h. h.0) decs))) at (decs_have decs (second_true first second h))), tt)
+    let second = list_all passes (map str_dec_binds (map (λ h. h.0) decs)) in (
+      module-Local (sequence_dec at (map bare_str_dec (map (λ h. h.0) hidden))) (sequence_dec at (map bare_str_dec (map (λ h. h.0) decs))) at
+          (module-Sequence (flat_map decs_of (map bare_str_dec (map (λ h. h.0) hidden))) at (decs_have hidden (first_true first second h)))
+          (module-Sequence (flat_map decs_of (map bare_str_dec (map (λ h. h.0) decs))) at (decs_have decs (second_true first second h))),
+      tt,
+    )
 
 str_dec_step_is : (x : FullStrDec-F FullStrDec FullStrExp FullStrBind) (y : FullStrDec-F HeldDec HeldStr HeldBind) → map-FullStrDec _ _ _ _ _ _ (λ h. h.0) (λ h. h.0) (λ h. h.0) y ≡ x → StrDecIs (roll-FullStrDec x)
 unfolding str_dec_binds str_binds str_bind_binds bare_str_dec bare_str bare_str_bind

@@ -1,10 +1,9 @@
 -- What a text that is a unit becomes binds functions behind `rec`.
-use Rattle.std.proofs.Common.{◌≡◌, List, [], ◌∷◌, map, Option, Some, None, Bool, true, false, refl}
+use Rattle.std.proofs.Common.{◌≡◌, List, [], ◌∷◌, map, Bool, true, false}
 use Rattle.std.specs.List.{list_all}
 use Rattle.sml_trees.specs.declared.name.At.{At}
 use Rattle.sml_trees.specs.declared.exp.Dec.TheVariants as dec
 use Rattle.sml_trees.specs.declared.exp.StrExp.{StrExp}
-use Rattle.sml_trees.specs.declared.full_str.FullStrBind.{FullStrBind}
 use Rattle.sml_trees.specs.declared.full_unit.FullTopDec.{FullTopDec}
 use Rattle.sml_trees.specs.declared.full_unit.FullTopDec.TheVariants as full
 use Rattle.sml_trees.specs.declared.full_unit.FullParam.{FullParam}
@@ -13,16 +12,16 @@ use Rattle.sml_trees.specs.declared.full_unit.FullFunctorBind.{FullFunctorBind}
 use Rattle.bare_forms.specs.Patterns.{long_at}
 use Rattle.bare_forms.specs.Structures.{sealed, bare_str, bare_str_bind}
 use Rattle.bare_forms.specs.Units.{param_text, opening, functor_of, bare_functor, bare_topdec, bare_of}
-use Rattle.bare_phrases.specs.Phrases.{DecPhrase}
 use Rattle.static_semantics.specs.Holding.{AllItems}
-use Rattle.unit_semantics.specs.UnitPhrases.{ModulePhrase, ModuleBinds, FunPhrase, TopPhrase, fun_phrase, top_phrase, read_module, read_binds, read_top, read_unit}
+use Rattle.unit_semantics.specs.UnitPhrases.{ModulePhrase, ModuleBinds, TopPhrase, fun_phrase, top_phrase, read_module, read_binds, read_top, unit_phrases}
 use Rattle.elaboration_laws.specs.Declaring.{BindsValues}
 use Rattle.module_laws.specs.Declaring.{ModuleHas, ModuleBindsHave}
 use Rattle.unit_derivations.specs.Declaring.{FunHas, TopHas}
+use Rattle.unit_derivations.proofs.Promised.{units_have_derivations}
 use Rattle.recursion_laws.specs.Functions.{str_bind_binds, functor_binds, topdec_binds}
 use Rattle.recursion_laws.proofs.Forms.{first_true, second_true}
 use Rattle.recursion_laws.proofs.Units.{recs_are_functions}
-use Rattle.bare_functions.specs.Promises.{SourcesBindFunctions}
+use Rattle.bare_functions.specs.Promises.{SourcesBindFunctions, SourcesHaveDerivations}
 use Rattle.bare_functions.proofs.Nodes.{HasS, HasB, items_map, binds_have, has-Open, has-Sequence, has-Within}
 use Rattle.bare_functions.proofs.Structures.{has-sealed, str_is, bind_is}
 
@@ -41,7 +40,7 @@ has-opening : (at : At) (body : StrExp) → HasS body → HasS (opening at body)
 has-opening at body is =
     let opened = dec.Open (long_at at param_text ∷ []) at in
     has-Within (dec.Sequence (opened ∷ []) at) body at
-    (has-Sequence (opened ∷ []) at (has-Open (long_at at param_text ∷ []) at, tt)).module is
+    (has-Sequence (opened ∷ []) at (has-Open (long_at at param_text ∷ []) at, tt)).inside is
 
 has-functor : (bind : FullFunctorBind) (p : FullParam) → functor_binds bind ≡ true → HasS (functor_of bind p).body
 has-functor bind (param.Named name sig) is = has-sealed bind.seal (bare_str bind.body) (str_is bind.body is)
@@ -94,3 +93,8 @@ sources_bind_functions file source unit sealing is =
     (each_that topdec_binds (λ t. TopHas BindsValues (read_top sealing (top_phrase (bare_topdec t))))
     (λ t h. read_top_has sealing (top_phrase (bare_topdec t)) (topdec_has t h)) unit.topdecs
     (recs_are_functions file source unit is))))
+
+pub sources_have_derivations : SourcesHaveDerivations
+sources_have_derivations file source unit sealing is depth home basis given st h =
+    units_have_derivations.all depth home basis given sealing (unit_phrases (bare_of unit)) st
+    (sources_bind_functions file source unit sealing is) h
