@@ -1,4 +1,5 @@
 pub mod Scopes
 pub mod Bindings
 pub mod Units
+pub mod Spelt
 pub mod Promised

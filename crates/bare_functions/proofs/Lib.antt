@@ -1,0 +1,5 @@
+pub mod Nodes
+pub mod DerivedNodes
+pub mod Core
+pub mod Structures
+pub mod Units

@@ -1,0 +1,5 @@
+pub mod Forms
+pub mod Exps
+pub mod Decs
+pub mod Structures
+pub mod Units
