@@ -1,3 +1,3 @@
 pub mod Numbers
 pub mod Owners
-pub mod Lists
+pub mod Listed

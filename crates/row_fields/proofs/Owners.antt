@@ -1,10 +1,9 @@
 -- Type names and what owns them.
 use Rattle.std.proofs.Common.{◌≡◌, ◌≢◌, ℕ, refl, sym, ap, subst, ◌∙◌, List, Bool, true, false}
-use Rattle.node_bytes.specs.Nodes.{Node, Content}
+use Rattle.node_bytes.specs.Nodes.{Node}
 use Rattle.node_bytes.specs.Shapes.{with_byte, with_number, with_text}
 use Rattle.node_bytes.specs.Tables.{content_of}
 use Rattle.node_bytes.specs.declared.table.Item.{Item}
-use Rattle.semantic_objects.specs.declared.name.Owner.{Owner}
 use Rattle.semantic_objects.specs.declared.name.Owner.TheVariants as owner
 use Rattle.semantic_objects.specs.declared.name.TyName.{TyName}
 use Rattle.semantic_objects.specs.Symbols.{same_text}

@@ -1,5 +1,5 @@
 -- What a call answers that takes a field from the front of some items, of which other nodes are the parts.
-use Rattle.std.specs.Prelude.{◌≡◌, ◌≢◌, ℕ, List, length, get_or, Bool, Option, Some, None, All}
+use Rattle.std.specs.Prelude.{◌≡◌, ◌≢◌, ℕ, List, length, get_or, Bool, Option, Some, None}
 use Rattle.std.specs.Borrow.{Bor}
 use Rattle.cm_bytes.specs.Fields.{u32_of}
 use Rattle.node_bytes.specs.Nodes.{Node, Content}

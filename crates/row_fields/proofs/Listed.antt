@@ -1,18 +1,21 @@
 -- Lists of fields, behind their counts.
-use Rattle.std.proofs.Common.{◌≡◌, ◌≢◌, ℕ, zero, suc, ◌+◌, ◌<◌, refl, sym, ap, subst, ◌∙◌, List, [], ◌∷◌, ◌++◌, length, map, get_or, arith, Option, Some, None, Result, Ok, Err}
-use Rattle.std.proofs.lemmas.List.{length-append, length-map, map-append}
+use Rattle.std.proofs.Common.{◌≡◌, ◌≢◌, ℕ, suc, ◌+◌, ◌<◌, refl, sym, ap, subst, ◌∙◌, List, [], ◌∷◌, ◌++◌, length, map, arith, Option, Some, None, Result, Ok, Err}
+use Rattle.std.proofs.lemmas.List.{length-append, map-append}
 use Rattle.std.specs.List.{AllByRecursion}
 use Rattle.cm_base.specs.declared.fault.NoMemory.{NoMemory}
 use Rattle.cm_bytes.specs.Fields.{u32_of}
 use Rattle.node_bytes.specs.Nodes.{Node, Content}
-use Rattle.node_bytes.specs.Shapes.{with_number, with_items, with_list}
+use Rattle.node_bytes.specs.Shapes.{with_number, with_text, with_items, with_list}
 use Rattle.node_bytes.specs.Tables.{content_of}
 use Rattle.node_bytes.specs.declared.table.Item.{Item}
 use Rattle.interface_format.specs.Rules.{IsNumber}
 use Rattle.interface_format.proofs.Told.{Tells, number_told}
-use Rattle.row_fields.specs.Taking.{Begins, NeverBegins, Takes, itself}
+use Rattle.row_fields.specs.Taking.{Begins, NeverBegins, IsAny, IsText, part_of, with_status}
 use Rattle.row_fields.specs.Owning.{TakesOwned}
-use Rattle.row_fields.specs.Listing.{each_of, AreMany, AreItems}
+use Rattle.row_fields.specs.Listing.{each_of, AreMany, AreItems, HasName, IsValueName}
+use Rattle.semantic_objects.specs.declared.entry.VidStatus.{VidStatus}
+use Rattle.interface_format.specs.Tags.{with_named, with_value}
+use Rattle.interface_nodes.specs.Fields.{row_at, value_at}
 
 -- ---- one item more
 
@@ -115,3 +118,26 @@ pub list_never : {A : Type 0} (Fits : A → Type 0) (with_item : A → Content �
 list_never Fits with_item items h = record {
   never = λ made ys c f e. h.never made (length ys) (with_items with_item ys c) f.counted e;
 }
+
+-- ---- rows
+
+pub row_taken : (name copy : List ℕ) (place : ℕ) (a b c : List Item)
+    → ((made : List Node) → Begins IsText with_text made name a b)
+    → ((made : List Node) → Begins IsAny Content.part made (part_of made place) b c) → copy ≡ name
+    → (made : List Node) → Begins HasName with_named made (row_at made (record { name = copy; place = place })) a c
+row_taken name copy place a b c n p e made =
+    subst (λ (z : List ℕ). Begins HasName with_named made (row_at made (record { name = z; place = place })) a c) (sym e)
+    (record { fits = (n made).fits; is = (n made).is ∙ ap (with_text name) ((p made).is) })
+
+pub value_taken : (name copy : List ℕ) (status : VidStatus) (place : ℕ) (a b c d : List Item)
+    → ((made : List Node) → Begins IsText with_text made name a b)
+    → ((made : List Node) → Begins IsAny with_status made status b c)
+    → ((made : List Node) → Begins IsAny Content.part made (part_of made place) c d) → copy ≡ name → (made : List Node)
+    → Begins IsValueName with_value made (value_at made (record { name = copy; status = status; place = place })) a d
+value_taken name copy status place a b c d n s p e made =
+    subst (λ (z : List ℕ). Begins IsValueName with_value made
+    (value_at made (record { name = z; status = status; place = place })) a d) (sym e)
+    (record {
+      fits = (n made).fits;
+      is = (n made).is ∙ ap (with_text name) ((s made).is ∙ ap (with_status status) ((p made).is));
+    })
