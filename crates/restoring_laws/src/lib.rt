@@ -4,4 +4,4 @@
 
 mod laws;
 
-pub use laws::{interfaces_are_read, interfaces_go_back};
+pub use laws::{interfaces_are_read, interfaces_go_back, numbered_names_agree};

@@ -49,12 +49,14 @@ over_found home made nodes c places x p s r n e =
 pub variable_found : (home : List ℕ) (items rest : List Item) (rows : TypeRows) (i : ℕ)
     → ((made : List Node) → Begins IsNumber with_number made i items rest) → rest ≡ []
     → Makes home 1 items rows (Some (node.Bound i))
-variable_found home items rest rows i h e made told =
-    (tt, record {
-      node = ap (Node.node 1)
-          ((h made).is ∙ ap (λ (z : List Item). with_number i (content_of made z)) e);
-      symbols = tt;
-    })
+variable_found home items rest rows i h e made told = (
+  tt,
+  record {
+    node = ap (Node.node 1)
+        ((h made).is ∙ ap (λ (z : List Item). with_number i (content_of made z)) e);
+    symbols = tt;
+  },
+)
 
 pub variable_never : (home : List ℕ) (items : List Item) (rows : TypeRows) → NeverBegins IsNumber with_number items
     → Makes home 1 items rows None

@@ -1,7 +1,10 @@
 -- Rows that are the parts of a type.
-use Rattle.std.proofs.Common.{◌≡◌, ◌≢◌, ℕ, zero, suc, ◌+◌, ◌<◌, refl, sym, ap, ap₂, subst, ◌∙◌, List, [], ◌∷◌, length, map, get_or, Bool, true, false, arith}
+use Rattle.std.proofs.Common.{◌≡◌, ◌≢◌, ℕ, zero, suc, ◌+◌, ◌<◌, refl, sym, ap, ap₂, subst, ◌∙◌, List, [], ◌∷◌, ◌++◌, length, map, get_or, Bool, true, false, Option, Some, None, arith}
 use borrow.Author.Count.{below_more}
-use Rattle.node_bytes.specs.Nodes.{Node}
+use Rattle.std.specs.Prelude.{IsTrue}
+use Rattle.node_bytes.specs.Nodes.{Node, Content}
+use Rattle.row_fields.specs.Taking.{NeverBegins, Takes}
+use Rattle.node_bytes.specs.declared.table.Item.{Item}
 use Rattle.semantic_objects.specs.declared.node.TypeNode.{TypeNode}
 use Rattle.semantic_objects.specs.Trees.{Tree, Trees, trees_of}
 use Rattle.semantic_objects.specs.Nodes.{trees_at, unfolded, tree_at, AreBelow}
@@ -9,7 +12,7 @@ use Rattle.interface_format.specs.Trees.{type_node, type_nodes}
 use Rattle.interface_format.specs.Rules.{IsNumber, IsType, AreTypes, count_trees}
 use Rattle.interface_nodes.specs.Fields.{node_at, nodes_at}
 use Rattle.row_types.specs.declared.rows.TypeRows.{TypeRows}
-use Rattle.row_types.specs.Told.{Told, IsTypeOf, NoType, AreTold, Stands, PartsAre, LacksType, PartsAreOrLack}
+use Rattle.row_types.specs.Told.{Told, IsTypeOf, NoType, AreTold, Stands, PartsAre, LacksType, AllOrLacks, Makes}
 
 -- ---- a row that is told
 
@@ -76,3 +79,42 @@ lacks_never home made m places ts l n h e = lacks_refutes home made m n places t
 pub count_of_trees : (ts : List Tree) → count_trees (trees_of ts) ≡ length ts
 count_of_trees [] = refl
 count_of_trees (t ∷ ts) = ap suc (count_of_trees ts)
+
+-- ---- what tests say
+
+pub not_end : {P : Type 0} (b : Bool) → (IsTrue b → P) × (P → IsTrue b) → b ≡ false → P → ⊥
+not_end true h e p = absurd (cc)
+not_end false h e p = no_truth (h.1 p)
+  where
+    no_truth : IsTrue false → ⊥
+    no_truth k = cc
+
+pub is_so : {P : Type 0} (b : Bool) → (IsTrue b → P) × (P → IsTrue b) → b ≡ true → P
+is_so true h e = h.0 refl
+is_so false h e = absurd (cc)
+
+pub types_hold : (rows : TypeRows) (slice places : List ℕ) (all : Bool) → AllOrLacks rows slice all → slice ≡ places
+    → all ≡ true → (home : List ℕ) (made : List Node) → AreTold home made rows → PartsAre home made rows.nodes places
+types_hold rows slice places true h e so home made told = subst (PartsAre home made rows.nodes) e (h home made told)
+types_hold rows slice places false h e so home made told = absurd (cc)
+
+pub types_lack : (rows : TypeRows) (slice places : List ℕ) (all : Bool) → AllOrLacks rows slice all → slice ≡ places
+    → all ≡ false → (home : List ℕ) (made : List Node) → AreTold home made rows → LacksType home made places
+types_lack rows slice places true h e so home made told = absurd (cc)
+types_lack rows slice places false h e so home made told = subst (LacksType home made) e (h home made told)
+
+pub two_places : (a b c : List ℕ) (x y : ℕ) → a ≡ [] → b ≡ a ++ x ∷ [] → c ≡ b ++ y ∷ [] → c ≡ x ∷ y ∷ []
+two_places a b c x y e f g =
+    g ∙ ap (λ z. z ++ y ∷ []) (f ∙ ap (λ z. z ++ x ∷ []) e)
+
+pub at_tag : (home : List ℕ) (tag n : ℕ) (items slice : List Item) (rows : TypeRows) (found : Option TypeNode) → tag ≡ n
+    → slice ≡ items → Makes home n slice rows found → Makes home tag items rows found
+at_tag home tag n items slice rows found e f h =
+    subst (λ k. Makes home k items rows found) (sym e) (subst (λ z. Makes home n z rows found) f h)
+
+-- a field that wasn't given stands there never
+pub none_begins : {X A : Type 0} (value : List Node → X → A) (Fits : A → Type 0) (with_item : A → Content → Content)
+    (found : Option X) (items rest : List Item) → Takes value Fits with_item found items rest
+    → ((x : X) → found ≡ Some x → ⊥) → NeverBegins Fits with_item items
+none_begins value Fits with_item (Some x) items rest h none = absurd (none x refl)
+none_begins value Fits with_item None items rest h none = h
