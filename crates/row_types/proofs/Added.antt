@@ -1,5 +1,5 @@
 -- One row more is told.
-use Rattle.std.proofs.Common.{◌≡◌, ◌≢◌, ℕ, zero, suc, ◌+◌, ◌-◌, ◌<◌, refl, sym, ap, subst, ◌∙◌, List, [], ◌∷◌, ◌++◌, length, get_or, Bool, true, false, Option, Some, None, arith}
+use Rattle.std.proofs.Common.{◌≡◌, ℕ, zero, suc, ◌+◌, ◌-◌, ◌<◌, refl, sym, ap, subst, ◌∙◌, List, [], ◌∷◌, ◌++◌, length, get_or, Bool, true, false, Some, None, arith}
 use Rattle.std.specs.Prelude.{slice_get}
 use Rattle.std.proofs.lemmas.List.{length-append, get_or_append_left}
 use Rattle.node_bytes.specs.Nodes.{Node}
@@ -7,8 +7,7 @@ use Rattle.node_bytes.specs.Tables.{nowhere, row_node}
 use Rattle.node_bytes.specs.declared.table.Row.{Row}
 use Rattle.semantic_objects.specs.declared.node.TypeNode.{TypeNode}
 use Rattle.semantic_objects.specs.declared.node.TypeNode.TheVariants as node
-use Rattle.semantic_objects.specs.Trees.{Tree}
-use Rattle.semantic_objects.specs.Nodes.{node_tree, unfolded, tree_at, root, IsNodeAt, AreNodes}
+use Rattle.semantic_objects.specs.Nodes.{node_tree, unfolded, tree_at, IsNodeAt, AreNodes}
 use Rattle.semantic_objects.proofs.Unfolding.{at_front, root_push}
 use Rattle.interface_nodes.specs.Fields.{node_at}
 use Rattle.row_types.specs.declared.rows.TypeRows.{TypeRows}

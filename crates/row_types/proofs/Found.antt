@@ -13,18 +13,18 @@ use Rattle.semantic_objects.specs.declared.symbol.Symbol.{Symbol}
 use Rattle.semantic_objects.specs.declared.symbol.Symbol.TheVariants as symbol
 use Rattle.semantic_objects.specs.Symbols.{part_count, HasRisingLabels}
 use Rattle.semantic_objects.specs.Trees.{Tree, Trees, trees_of}
-use Rattle.semantic_objects.specs.Nodes.{trees_at, unfolded, IsOver as IsNodeOver}
+use Rattle.semantic_objects.specs.Nodes.{trees_at, unfolded}
 use Rattle.interface_format.specs.Tags.{with_named, with_type_name, record_node, arrow_node, named_node}
 use Rattle.interface_format.specs.Trees.{node_over, type_node, type_nodes}
-use Rattle.interface_format.specs.Rules.{IsNumber, IsTypeName, AreNames, IsSymbol, IsOver, IsType, AreTypes, count_trees}
-use Rattle.interface_format.proofs.Told.{Tells, Told, part_told, named_told, list_told, number_then_told}
+use Rattle.interface_format.specs.Rules.{IsNumber, IsTypeName, AreNames, IsSymbol, IsOver, count_trees}
+use Rattle.interface_format.proofs.Told.{Told, part_told, named_told, list_told, number_then_told}
 use Rattle.interface_format.proofs.Types.{type_name_told, count_nodes}
 use Rattle.interface_nodes.specs.declared.fields.NamedPlace.{NamedPlace}
 use Rattle.interface_nodes.specs.Fields.{node_at, nodes_at, row_at, rows_at}
 use Rattle.row_fields.specs.Taking.{Begins, NeverBegins, IsAny}
 use Rattle.row_fields.specs.Listing.{HasName, AreItems}
 use Rattle.row_types.specs.declared.rows.TypeRows.{TypeRows}
-use Rattle.row_types.specs.Told.{AreTold, PartsAre, LacksType, NoType, IsTypeOf, MakesOf, Makes, MakesRecord, MakesArrow, MakesNamed, name_of, place_of, AllOrLacks}
+use Rattle.row_types.specs.Told.{AreTold, PartsAre, LacksType, MakesOf, Makes, MakesRecord, MakesArrow, MakesNamed, name_of, place_of}
 use Rattle.row_types.proofs.Parts.{lacks_never, count_of_trees}
 use Rattle.row_types.proofs.Refused.{nothing_left, no_variable, no_record, no_arrow, no_named, fields_fit, args_fit}
 

@@ -1,5 +1,5 @@
 -- Rows that are the parts of a type.
-use Rattle.std.proofs.Common.{◌≡◌, ◌≢◌, ℕ, zero, suc, ◌+◌, ◌<◌, refl, sym, ap, ap₂, subst, ◌∙◌, List, [], ◌∷◌, ◌++◌, length, map, get_or, Bool, true, false, Option, Some, None, arith}
+use Rattle.std.proofs.Common.{◌≡◌, ℕ, zero, suc, ◌+◌, ◌<◌, refl, sym, ap, ap₂, subst, ◌∙◌, List, [], ◌∷◌, ◌++◌, length, get_or, Bool, true, false, Option, Some, None, arith}
 use borrow.Author.Count.{below_more}
 use Rattle.std.specs.Prelude.{IsTrue}
 use Rattle.node_bytes.specs.Nodes.{Node, Content}
@@ -7,12 +7,12 @@ use Rattle.row_fields.specs.Taking.{NeverBegins, Takes}
 use Rattle.node_bytes.specs.declared.table.Item.{Item}
 use Rattle.semantic_objects.specs.declared.node.TypeNode.{TypeNode}
 use Rattle.semantic_objects.specs.Trees.{Tree, Trees, trees_of}
-use Rattle.semantic_objects.specs.Nodes.{trees_at, unfolded, tree_at, AreBelow}
-use Rattle.interface_format.specs.Trees.{type_node, type_nodes}
-use Rattle.interface_format.specs.Rules.{IsNumber, IsType, AreTypes, count_trees}
+use Rattle.semantic_objects.specs.Nodes.{tree_at}
+use Rattle.interface_format.specs.Trees.{type_nodes}
+use Rattle.interface_format.specs.Rules.{IsNumber, AreTypes, count_trees}
 use Rattle.interface_nodes.specs.Fields.{node_at, nodes_at}
 use Rattle.row_types.specs.declared.rows.TypeRows.{TypeRows}
-use Rattle.row_types.specs.Told.{Told, IsTypeOf, NoType, AreTold, Stands, PartsAre, LacksType, AllOrLacks, Makes}
+use Rattle.row_types.specs.Told.{Told, NoType, AreTold, Stands, PartsAre, LacksType, AllOrLacks, Makes}
 
 -- ---- a row that is told
 

@@ -1,5 +1,5 @@
 -- Contents of rows that no type has.
-use Rattle.std.proofs.Common.{◌≡◌, ◌≢◌, ℕ, suc, ◌<◌, ◌≤◌, ◌^◌, refl, sym, ap, subst, ◌∙◌, List, [], ◌∷◌, length, map, arith}
+use Rattle.std.proofs.Common.{◌≡◌, ◌≢◌, ℕ, ◌<◌, refl, sym, subst, ◌∙◌, List, [], ◌∷◌, length, arith}
 use Rattle.std.specs.Prelude.{All}
 use Rattle.std.specs.List.{zip, AllByRecursion}
 use Rattle.std.proofs.lemmas.List.Elements.{All-head, All-tail}
@@ -9,9 +9,7 @@ use Rattle.node_bytes.specs.Tables.{content_of}
 use Rattle.node_bytes.specs.declared.table.Item.{Item}
 use Rattle.node_bytes.specs.declared.table.Item.TheVariants as item
 use Rattle.semantic_objects.specs.declared.name.TyName.{TyName}
-use Rattle.semantic_objects.specs.declared.symbol.Symbol.{Symbol}
 use Rattle.semantic_objects.specs.declared.symbol.Symbol.TheVariants as symbol
-use Rattle.semantic_objects.specs.Symbols.{part_count}
 use Rattle.semantic_objects.specs.Trees.{Tree, Trees}
 use Rattle.interface_format.specs.Tags.{with_named, with_type_name}
 use Rattle.interface_format.specs.Trees.{node_over, type_node, type_nodes}

@@ -1,5 +1,5 @@
 -- Which rows are types, and which ones. The rows are those of a table whose nodes are `made`.
-use Rattle.std.specs.Prelude.{◌≡◌, ◌≢◌, ℕ, ◌<◌, List, [], ◌∷◌, ◌++◌, length, map, get_or, Bool, true, false, Option, Some, None}
+use Rattle.std.specs.Prelude.{◌≡◌, ◌≢◌, ℕ, ◌<◌, List, [], ◌∷◌, ◌++◌, length, get_or, Bool, true, false, Option, Some, None}
 use Rattle.node_bytes.specs.Nodes.{Node}
 use Rattle.node_bytes.specs.Tables.{content_of, row_node}
 use Rattle.node_bytes.specs.declared.table.Item.{Item}
