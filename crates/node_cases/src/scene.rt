@@ -8,6 +8,7 @@ use crate::hex_words::{bytes_of, digits_line};
 use case_files::{Part, number_of, push_parts};
 use case_texts::{Scene, line};
 use cm_base::{List, NoMemory, Text};
+use interface_reading::{RestoreFault, read_rows};
 use node_bytes::{Item, WriteFault};
 use node_tables::NodeTable;
 use std::alloc::Global;
@@ -101,6 +102,36 @@ impl NodeScene {
             Err(WriteFault::NoMemory) => Err(NoMemory),
         }
     }
+
+    /// How many nodes an interface has that is spelled so behind its mark, or that none is.
+    fn count_read(&self, bytes: &[u8]) -> Result<Option<Vec<u8>>, NoMemory> {
+        match read_rows(self.alloc, bytes) {
+            Ok(rows) => number_line(self.alloc, rows.as_slice().len() as u64),
+            Err(RestoreFault::BadInterface) => Ok(Some(line(self.alloc, b"none")?)),
+            Err(RestoreFault::NoMemory) => Err(NoMemory),
+        }
+    }
+
+    /// The same of hex digits.
+    fn read(&self, digits: &Text) -> Result<Option<Vec<u8>>, NoMemory> {
+        match bytes_of(self.alloc, digits.as_bytes())? {
+            Some(bytes) => self.count_read(bytes.as_bytes()),
+            None => Ok(None),
+        }
+    }
+
+    /// The same of a byte, so many times.
+    fn read_many(&self, count: &Text, byte: &Text) -> Result<Option<Vec<u8>>, NoMemory> {
+        let (count, byte) = (number_of(count.as_bytes()), number_of(byte.as_bytes()));
+        let (Some(count), Some(byte)) = (count, byte) else {
+            return Ok(None);
+        };
+        if byte > 255 {
+            return Ok(None);
+        }
+        let bytes = vec![in self.alloc; byte as u8; count as usize]?;
+        self.count_read(bytes.as_slice())
+    }
 }
 
 impl Scene for NodeScene {
@@ -114,6 +145,8 @@ impl Scene for NodeScene {
             (b"add", [tag, items @ ..]) => self.add(tag.as_bytes(), items),
             (b"len", []) => number_line(self.alloc, self.table.len() as u64),
             (b"write", [root, limit]) => self.written(root, limit),
+            (b"read", [digits]) => self.read(digits),
+            (b"read-many", [count, byte]) => self.read_many(count, byte),
             _ => Ok(None),
         }
     }

@@ -1,0 +1,6 @@
+use Rattle.row_fields.proofs.Listed.{row_taken}
+use Rattle.row_fields.proofs.fields.Fields.named.Goals as goal
+
+pub returns : goal.returns
+returns c = row_taken c.in-Some.name.now c.in_ok-name.name c.in-Some-part.place c.args.self.now c.text.new.self
+    c.part.new.self c.in-Some.ensures c.in-Some-part.ensures c.in_ok-name.ensures
