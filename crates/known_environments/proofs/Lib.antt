@@ -1,3 +1,4 @@
 pub mod Copying
-pub mod Knowing
+pub mod Becoming
 pub mod Staying
+pub mod Leaving

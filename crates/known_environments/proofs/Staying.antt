@@ -5,6 +5,7 @@ use Rattle.semantic_objects.specs.declared.entry.ConEntry.{ConEntry}
 use Rattle.semantic_objects.specs.declared.entry.TypeFn.{TypeFn}
 use Rattle.semantic_objects.specs.declared.entry.TypeStr.{TypeStr}
 use Rattle.semantic_objects.specs.declared.entry.ValueEntry.{ValueEntry}
+use Rattle.semantic_objects.specs.declared.entry.VidStatus.{VidStatus}
 use Rattle.semantic_objects.specs.Trees.{Tree, Trees, TypeScheme}
 use Rattle.semantic_objects.specs.Environments.{Env, Structures}
 use Rattle.env_parts.specs.declared.facts.Facts.{Facts}
@@ -52,31 +53,26 @@ each_stays s (t ∷ ts) h = (
 
 -- ---- entries
 
-function_of : (f : TypeFn) (body : Tree) → body ≡ f.body
-    → (let g : TypeFn = record { arity = f.arity; body = body } in g) ≡ f
-function_of f body e = cc
+abbrev function_with : ℕ → Tree → TypeFn
+function_with arity body = record { arity = arity; body = body }
 
-scheme_of : (σ : TypeScheme) (body : Tree) → body ≡ σ.body
-    → (let τ : TypeScheme = record { marks = σ.marks; body = body } in τ) ≡ σ
-scheme_of σ body e = cc
+abbrev scheme_with : List Bool → Tree → TypeScheme
+scheme_with marks body = record { marks = marks; body = body }
 
-con_of : (con : ConEntry) (σ : TypeScheme) → σ ≡ con.scheme
-    → (let other : ConEntry = record { name = con.name; scheme = σ } in other) ≡ con
-con_of con σ e = cc
+abbrev con_with : List ℕ → TypeScheme → ConEntry
+con_with name σ = record { name = name; scheme = σ }
 
-type_of : (str : TypeStr) (f : TypeFn) (cons : List ConEntry) → f ≡ str.function → cons ≡ str.cons
-    → (let other : TypeStr = record { function = f; cons = cons } in other) ≡ str
-type_of str f cons e k = cc
+abbrev type_with : TypeFn → List ConEntry → TypeStr
+type_with function cons = record { function = function; cons = cons }
 
-value_of : (value : ValueEntry) (σ : TypeScheme) → σ ≡ value.scheme
-    → (let other : ValueEntry = record { status = value.status; scheme = σ } in other) ≡ value
-value_of value σ e = cc
+abbrev value_with : VidStatus → TypeScheme → ValueEntry
+value_with status σ = record { status = status; scheme = σ }
 
 cons_stay : (s : Substitution) (cons : List ConEntry) → Each (λ t. put_tree s t ≡ t) (con_types cons)
     → map (changed_con (putting s)) cons ≡ cons
 cons_stay s [] h = refl
 cons_stay s (con ∷ cons) h = ap₂ (λ x xs. x ∷ xs)
-    (con_of con ((putting s).scheme con.scheme) (scheme_of con.scheme (put_tree s con.scheme.body) h.0))
+    (ap (con_with con.name) (ap (scheme_with con.scheme.marks) h.0))
     (cons_stay s cons h.1)
 
 pub type_stays : (s : Substitution) (str : TypeStr) (facts : Facts) → facts ≡ facts_of (type_types str)
@@ -84,15 +80,14 @@ pub type_stays : (s : Substitution) (str : TypeStr) (facts : Facts) → facts �
 type_stays s str facts e h =
     let each : Each (λ t. put_tree s t ≡ t) (type_types str) =
     each_stays s (type_types str) (sym (ap (λ (f : Facts). f.has_free) e) ∙ h) in
-    type_of str ((putting s).function str.function) (map (changed_con (putting s)) str.cons)
-    (function_of str.function (put_tree s str.function.body) each.0) (cons_stay s str.cons each.1)
+    ap₂ type_with (ap (function_with str.function.arity) each.0) (cons_stay s str.cons each.1)
 
 pub value_stays : (s : Substitution) (value : ValueEntry) (facts : Facts) → facts ≡ facts_of (value_types value)
     → facts.has_free ≡ false → changed_value (putting s) value ≡ value
 value_stays s value facts e h =
     let each : Each (λ t. put_tree s t ≡ t) (value_types value) =
     each_stays s (value_types value) (sym (ap (λ (f : Facts). f.has_free) e) ∙ h) in
-    value_of value ((putting s).scheme value.scheme) (scheme_of value.scheme (put_tree s value.scheme.body) each.0)
+    ap (value_with value.status) (ap (scheme_with value.scheme.marks) each.0)
 
 -- ---- environments
 

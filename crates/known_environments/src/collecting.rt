@@ -23,7 +23,7 @@ fn open_variable(
 ) -> Result<(), NoMemory>
     requires has { Has t.old (TyId.Variable number) }
     requires known { AreKnown (state t.old).stands known.old }
-    ensures known { OnOk result (AreKnown (state t.old).stands known.new) }
+    ensures known { OnOk result (AreKnown (state t.new).stands known.new) }
     ensures same { t.new ≡ t.old }
 {
     let open = open_scheme(alloc, t, TyId::Variable(number))?;
@@ -39,7 +39,7 @@ fn note_variable(
     number: usize,
 ) -> Result<(), NoMemory>
     requires { AreKnown (state t.old).stands known.old }
-    ensures known { OnOk result (AreKnown (state t.old).stands known.new) }
+    ensures known { OnOk result (AreKnown (state t.new).stands known.new) }
     ensures same { t.new ≡ t.old }
 {
     if known.of(number).is_some() {
@@ -60,7 +60,7 @@ fn note_node(
     node: &TypeNode,
 ) -> Result<(), NoMemory>
     requires { AreKnown (state t.old).stands known.old }
-    ensures known { OnOk result (AreKnown (state t.old).stands known.new) }
+    ensures known { OnOk result (AreKnown (state t.new).stands known.new) }
     ensures same { t.new ≡ t.old }
 {
     match node {
@@ -78,7 +78,7 @@ fn note_nodes(
     nodes: &[TypeNode],
 ) -> Result<(), NoMemory>
     requires { AreKnown (state t.old).stands known.old }
-    ensures known { OnOk result (AreKnown (state t.old).stands known.new) }
+    ensures known { OnOk result (AreKnown (state t.new).stands known.new) }
     ensures same { t.new ≡ t.old }
 {
     for node in nodes {
@@ -95,7 +95,7 @@ fn note_cons(
     cons: &[ConEntry],
 ) -> Result<(), NoMemory>
     requires { AreKnown (state t.old).stands known.old }
-    ensures known { OnOk result (AreKnown (state t.old).stands known.new) }
+    ensures known { OnOk result (AreKnown (state t.new).stands known.new) }
     ensures same { t.new ≡ t.old }
 {
     for con in cons {
@@ -112,7 +112,7 @@ fn note_type(
     entry: &TypeStr,
 ) -> Result<(), NoMemory>
     requires { AreKnown (state t.old).stands known.old }
-    ensures known { OnOk result (AreKnown (state t.old).stands known.new) }
+    ensures known { OnOk result (AreKnown (state t.new).stands known.new) }
     ensures same { t.new ≡ t.old }
 {
     note_nodes(alloc, t, known, entry.function.body.nodes())?;
@@ -128,7 +128,7 @@ fn note_place(
     steps: &mut List<Step>,
 ) -> Result<(), NoMemory>
     requires { AreKnown (state t.old).stands known.old }
-    ensures known { OnOk result (AreKnown (state t.old).stands known.new) }
+    ensures known { OnOk result (AreKnown (state t.new).stands known.new) }
     ensures same { t.new ≡ t.old }
 {
     let alloc = g.alloc();
@@ -154,7 +154,7 @@ fn meet(
     steps: &mut List<Step>,
 ) -> Result<(), NoMemory>
     requires { AreKnown (state t.old).stands known.old }
-    ensures known { OnOk result (AreKnown (state t.old).stands known.new) }
+    ensures known { OnOk result (AreKnown (state t.new).stands known.new) }
     ensures same { t.new ≡ t.old }
 {
     let facts = g.facts_at(place);
@@ -175,7 +175,7 @@ fn take(
     steps: &mut List<Step>,
 ) -> Result<(), NoMemory>
     requires { AreKnown (state t.old).stands known.old }
-    ensures known { OnOk result (AreKnown (state t.old).stands known.new) }
+    ensures known { OnOk result (AreKnown (state t.new).stands known.new) }
     ensures same { t.new ≡ t.old }
 {
     match step {
@@ -193,7 +193,7 @@ pub(crate) fn collect(
     known: &mut Known,
 ) -> Result<(), NoMemory>
     requires { AreKnown (state t.old).stands known.old }
-    ensures known { OnOk result (AreKnown (state t.old).stands known.new) }
+    ensures known { OnOk result (AreKnown (state t.new).stands known.new) }
     ensures same { t.new ≡ t.old }
 {
     let alloc = g.alloc();

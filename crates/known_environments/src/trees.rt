@@ -61,11 +61,7 @@ fn known_nodes(alloc: Global, by: &Knowing, nodes: &[TypeNode]) -> Result<List<T
 }
 
 /// A type with what is known put in for its variables.
-pub(crate) fn known_tree(
-    alloc: Global,
-    by: &Knowing,
-    tree: &TypeTree,
-) -> Result<TypeTree, NoMemory>
+pub(crate) fn known_tree(alloc: Global, by: &Knowing, tree: &TypeTree) -> Result<TypeTree, NoMemory>
     ensures { IfOk result (λ made. made ≡ put_tree (state by.now).stands tree.now) }
 {
     let nodes = known_nodes(alloc, by, tree.nodes())?;

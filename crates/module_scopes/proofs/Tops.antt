@@ -111,17 +111,17 @@ pub defines_structures : (g : Graph) (made new : Rows EnvId) (old : TopScope) (c
     (record old { core = core; defined = record old.defined { structures = new } })
 defines_structures g made new old core e h u = record {
   seen = ap (λ (env : Env). let a : Top = record {
-      env = env;
-      signatures = (top_seen g old).signatures;
-      functors = (top_seen g old).functors;
-      funsigs = (top_seen g old).funsigs;
-    } in a) (ap (λ (sc : Scope). sc.env) u.seen);
+    env = env;
+    signatures = (top_seen g old).signatures;
+    functors = (top_seen g old).functors;
+    funsigs = (top_seen g old).funsigs;
+  } in a) (ap (λ (sc : Scope). sc.env) u.seen);
   defined = ap (λ (env : Env). let a : Top = record {
-      env = env;
-      signatures = (defined_top g old.defined).signatures;
-      functors = (defined_top g old.defined).functors;
-      funsigs = (defined_top g old.defined).funsigs;
-    } in a) (structures_more g old.defined.structures made new e);
+    env = env;
+    signatures = (defined_top g old.defined).signatures;
+    functors = (defined_top g old.defined).functors;
+    funsigs = (defined_top g old.defined).funsigs;
+  } in a) (structures_more g old.defined.structures made new e);
   there = λ t. record {
     core = u.there t.core;
     written = u.written ∙ t.written;

@@ -19,11 +19,7 @@ use std::alloc::Global;
 
 /// Binds a structure behind those that a declaration binds before it. Want of memory leaves these as they were.
 /// The Definition of Standard ML (Revised), rule 61.
-pub fn bind_structure(
-    made: &mut NameTrail<EnvId>,
-    name: &Text,
-    env: EnvId,
-) -> Result<(), NoMemory>
+pub fn bind_structure(made: &mut NameTrail<EnvId>, name: &Text, env: EnvId) -> Result<(), NoMemory>
     ensures ok { OnOk result ((g : Graph) → structures_env g made.new
         ≡ with_structure name.now (env_at g env) (structures_env g made.old)) }
     ensures there { OnOk result ((g : Graph) → HasEnv g env → AreEnvs g made.old → AreEnvs g made.new) }
@@ -35,7 +31,10 @@ pub fn bind_structure(
 }
 
 /// Structures with their names.
-pub(crate) fn list_structures(alloc: Global, rows: &[(Text, EnvId)]) -> Result<List<NamedEnv>, NoMemory>
+pub(crate) fn list_structures(
+    alloc: Global,
+    rows: &[(Text, EnvId)],
+) -> Result<List<NamedEnv>, NoMemory>
     ensures { IfOk result (λ list. env_rows list ≡ rows.now) }
 {
     let mut list = List::new(alloc);

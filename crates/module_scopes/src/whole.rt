@@ -38,7 +38,11 @@ fn functor_rows(alloc: Global, made: &[(Text, FunId)]) -> Result<Rows, NoMemory>
 }
 
 /// The environment of structures, made at once.
-fn structures_made(alloc: Global, g: &mut EnvGraph, made: &NameTrail<EnvId>) -> Result<EnvId, NoMemory>
+fn structures_made(
+    alloc: Global,
+    g: &mut EnvGraph,
+    made: &NameTrail<EnvId>,
+) -> Result<EnvId, NoMemory>
     requires { AreEnvs g.old made.now }
     ensures ok { IfOk result (GivesEnv g.old g.new (structures_env g.old made.now)) }
     ensures err { OnErr result (g.new ≡ g.old) }
@@ -49,11 +53,7 @@ fn structures_made(alloc: Global, g: &mut EnvGraph, made: &NameTrail<EnvId>) -> 
 
 /// The top of what a unit defines, made at once: it takes as many steps as there are names. Want of memory may leave
 /// nodes behind. The Definition of Standard ML (Revised), rules 87 to 89.
-pub fn make_defined(
-    alloc: Global,
-    g: &mut EnvGraph,
-    defined: &Defined,
-) -> Result<TopId, NoMemory>
+pub fn make_defined(alloc: Global, g: &mut EnvGraph, defined: &Defined) -> Result<TopId, NoMemory>
     requires { IsDefinedIn g.old defined.now }
     ensures { IfOk result (GivesTop g.old g.new (defined_top g.old defined.now)) }
 {

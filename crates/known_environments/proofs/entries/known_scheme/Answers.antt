@@ -1,6 +1,6 @@
 use Rattle.std.proofs.Common.{length}
 use Rattle.type_nodes.specs.Tables.{state}
-use Rattle.known_environments.proofs.Knowing.{put_below}
+use Rattle.known_environments.proofs.Becoming.{put_below}
 use Rattle.known_environments.proofs.entries.known_scheme.Goals as goal
 
 pub make-requires : goal.make-requires

@@ -1,4 +1,4 @@
-use Rattle.known_environments.proofs.Knowing.{more_known}
+use Rattle.known_environments.proofs.Becoming.{more_known}
 use Rattle.known_environments.proofs.known.Known.add.Goals as goal
 
 pub returns : goal.returns

@@ -1,4 +1,4 @@
-use Rattle.known_environments.proofs.Knowing.{nothing_known}
+use Rattle.known_environments.proofs.Becoming.{nothing_known}
 use Rattle.known_environments.proofs.known.Known.new.Goals as goal
 
 pub returns : goal.returns

@@ -9,8 +9,7 @@ use Rattle.module_scopes.proofs.top.TopScope.find_functor.Goals as goal
 pub returns-in-Some : goal.returns-in-Some
 returns-in-Some c =
     let e : last_entry c.args.self.now.defined.functors c.args.name.now ≡ Some c.in-Some.fun =
-    sym c.defined_functor.ensures ∙ c.in-Some.is in
-    (
+    sym c.defined_functor.ensures ∙ c.in-Some.is in (
       holds_last (HasFunctor c.args.g.now) c.args.self.now.defined.functors c.args.name.now c.in-Some.fun
           c.requires.defined.functors e,
       found_over (functor_at c.args.g.now) c.args.self.now.defined.functors (top_at c.args.g.now c.args.self.now.given).functors

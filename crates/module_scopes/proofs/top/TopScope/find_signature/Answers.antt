@@ -9,8 +9,7 @@ use Rattle.module_scopes.proofs.top.TopScope.find_signature.Goals as goal
 pub returns-in-Some : goal.returns-in-Some
 returns-in-Some c =
     let e : last_entry c.args.self.now.defined.signatures c.args.name.now ≡ Some c.in-Some.sig =
-    sym c.defined_signature.ensures ∙ c.in-Some.is in
-    (
+    sym c.defined_signature.ensures ∙ c.in-Some.is in (
       holds_last (HasSignature c.args.g.now) c.args.self.now.defined.signatures c.args.name.now c.in-Some.sig
           c.requires.defined.signatures e,
       found_over (signature_at c.args.g.now) c.args.self.now.defined.signatures (top_at c.args.g.now c.args.self.now.given).signatures
