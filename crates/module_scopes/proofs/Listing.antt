@@ -1,7 +1,5 @@
 -- Structures, signatures and functors by name as entries and as places of a graph.
-use Rattle.std.proofs.Common.{◌≡◌, ℕ, refl, sym, ap, ap₂, ◌∙◌, subst, List, [], ◌∷◌, ◌++◌}
-use Rattle.semantic_objects.specs.declared.entry.TypeStr.{TypeStr}
-use Rattle.semantic_objects.specs.declared.entry.ValueEntry.{ValueEntry}
+use Rattle.std.proofs.Common.{◌≡◌, ℕ, refl, sym, ap, ◌∙◌, subst, List, [], ◌∷◌}
 use Rattle.semantic_objects.specs.Tables.{Table as Named, with_all}
 use Rattle.semantic_objects.specs.Environments.{Env, Signature, Functor, Top, env_of}
 use Rattle.env_parts.specs.declared.tables.TopTables.{TopTables}
@@ -15,7 +13,7 @@ use Rattle.sml_modules.specs.declared.parts.NamedValue.{NamedValue}
 use Rattle.sml_modules.specs.Items.{Item, at, as_signature, as_functor, IsSignature, IsFunctor, map_rows}
 use Rattle.sml_modules.specs.Nodes.{AreAll, AreTopTables, top_of_tables}
 use Rattle.sml_modules.specs.Adding.{Adds}
-use Rattle.sml_modules.specs.Graphs.{Graph, env_at, signature_at, functor_at, HasEnv, HasSignature, HasFunctor, HasEnvs, Keeps, GivesEnv, GivesTop, structure_rows, type_rows, value_rows, env_of_entries}
+use Rattle.sml_modules.specs.Graphs.{Graph, env_at, HasEnv, HasEnvs, Keeps, GivesEnv, GivesTop, structure_rows, type_rows, value_rows, env_of_entries}
 use Rattle.sml_modules.proofs.Keeping.{extends_self, gives_top}
 use Rattle.sml_modules.proofs.Setting.{all_map, all_with_all}
 use Rattle.name_trails.specs.Trails.{Rows}
@@ -26,9 +24,8 @@ use Rattle.core_scopes.specs.Marks.{value_rows as rows_read}
 use Rattle.pattern_elab.specs.declared.own.OwnVariable.{OwnVariable}
 use Rattle.pattern_elab.specs.Scopes.{own_entry}
 use Rattle.module_scopes.specs.declared.defined.Defined.{Defined}
-use Rattle.module_scopes.specs.Tops.{AllRows, structures_env, signatures_over, functors_over, defined_top, AreSignatures, AreFunctors, IsDefinedIn}
+use Rattle.module_scopes.specs.Tops.{AllRows, structures_env, defined_top, IsDefinedIn}
 use Rattle.module_scopes.specs.Places.{sig_places, fun_places}
-use Rattle.module_scopes.proofs.Rows.{rows_hold}
 use Rattle.module_scopes.proofs.Tops.{tops_stay}
 
 -- ---- structures as entries

@@ -1,6 +1,5 @@
 -- What is in scope at the top level, and what was defined.
 use Rattle.std.proofs.Common.{◌≡◌, ℕ, refl, sym, ap, ap₂, ◌∙◌, subst, List, [], ◌∷◌, ◌++◌}
-use Rattle.semantic_objects.specs.declared.name.TyId.{TyId}
 use Rattle.semantic_objects.specs.declared.entry.ValueEntry.{ValueEntry}
 use Rattle.semantic_objects.specs.Tables.{Table as Named, with_entry, with_all}
 use Rattle.semantic_objects.specs.Environments.{Env, Signature, Functor, Top, env_of, table_of, structures_of, modified_by, with_structure}
@@ -13,13 +12,13 @@ use Rattle.sml_modules.specs.declared.id.TopId.{TopId}
 use Rattle.sml_modules.specs.Items.{map_rows}
 use Rattle.sml_modules.specs.Graphs.{Graph, env_at, signature_at, functor_at, top_at, HasEnv, HasSignature, HasFunctor, Keeps}
 use Rattle.name_trails.specs.Trails.{Rows}
-use Rattle.static_semantics.specs.Inferring.{Scope, under, outermost}
-use Rattle.core_scopes.specs.Scopes.{Bindings, seen, written_of, AreEnvs, IsScopeOf}
+use Rattle.static_semantics.specs.Inferring.{Scope, outermost}
+use Rattle.core_scopes.specs.Scopes.{Bindings, seen, written_of, AreEnvs}
 use Rattle.core_scopes.specs.Marks.{Becomes}
 use Rattle.core_scopes.proofs.Scoping.{envs_append, stays_in_scope}
 use Rattle.pattern_elab.specs.declared.own.OwnVariable.{OwnVariable}
 use Rattle.pattern_elab.specs.Scopes.{own_entry, variable_of, scope_of}
-use Rattle.unit_semantics.specs.UnitInference.{top_with, with_given, top_of_env, top_of_signatures, top_of_functors, top_of_funsigs}
+use Rattle.unit_semantics.specs.UnitInference.{with_given, top_of_env, top_of_signatures, top_of_functors, top_of_funsigs}
 use Rattle.module_scopes.specs.declared.defined.Defined.{Defined}
 use Rattle.module_scopes.specs.declared.top.TopScope.{TopScope}
 use Rattle.module_scopes.specs.Tops.{structures_env, signatures_over, functors_over, defined_top, top_seen, AreSignatures, AreFunctors, IsDefinedIn, IsTopScope}

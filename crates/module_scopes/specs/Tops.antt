@@ -3,14 +3,13 @@
 use Rattle.std.specs.Prelude.{◌≡◌, [], ◌∷◌}
 use Rattle.semantic_objects.specs.Tables.{Table as Named, with_all}
 use Rattle.semantic_objects.specs.Environments.{Env, Signature, Functor, Top, env_of}
-use Rattle.type_nodes.specs.Tables.{Table}
 use Rattle.sml_modules.specs.declared.id.EnvId.{EnvId}
 use Rattle.sml_modules.specs.declared.id.SigId.{SigId}
 use Rattle.sml_modules.specs.declared.id.FunId.{FunId}
 use Rattle.sml_modules.specs.Items.{map_rows}
 use Rattle.sml_modules.specs.Graphs.{Graph, env_at, signature_at, functor_at, top_at, HasSignature, HasFunctor, HasTop}
 use Rattle.name_trails.specs.Trails.{Rows}
-use Rattle.core_scopes.specs.Scopes.{Bindings, written_of, AreEnvs, IsScopeOf}
+use Rattle.core_scopes.specs.Scopes.{written_of, AreEnvs, IsScopeOf}
 use Rattle.pattern_elab.specs.Scopes.{scope_of}
 use Rattle.module_scopes.specs.declared.defined.Defined.{Defined}
 use Rattle.module_scopes.specs.declared.top.TopScope.{TopScope}

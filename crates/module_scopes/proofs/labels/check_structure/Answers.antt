@@ -1,4 +1,4 @@
-use Rattle.std.proofs.Common.{◌≡◌, sym, ap, ◌∙◌, []}
+use Rattle.std.proofs.Common.{sym, ap, ◌∙◌, []}
 use Rattle.std.specs.Option.{is_some}
 use Rattle.semantic_objects.specs.Tables.{Table, entry, with_all}
 use Rattle.semantic_objects.specs.Environments.{Env, structures}

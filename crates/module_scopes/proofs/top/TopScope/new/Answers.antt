@@ -1,7 +1,6 @@
-use Rattle.std.proofs.Common.{◌≡◌, ap, ap₂, ◌∙◌}
+use Rattle.std.proofs.Common.{ap₂, ◌∙◌}
 use Rattle.semantic_objects.specs.Environments.{Env, modified_by}
 use Rattle.sml_modules.specs.Graphs.{env_at, top_at}
-use Rattle.core_scopes.specs.Scopes.{seen}
 use Rattle.pattern_elab.specs.Scopes.{own_entry}
 use Rattle.module_scopes.proofs.Tops.{top_begins, core_begins}
 use Rattle.module_scopes.proofs.top.TopScope.new.Goals as goal
