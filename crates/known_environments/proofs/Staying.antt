@@ -12,7 +12,7 @@ use Rattle.env_parts.specs.declared.facts.Facts.{Facts}
 use Rattle.env_parts.specs.Types.{holds_free, any_holds_free, facts_of, con_types, type_types, value_types, types_in}
 use Rattle.unification.specs.Types.{Substitution}
 use Rattle.unification.specs.Closing.{put_tree, put_trees}
-use Rattle.realisation.specs.Environments.{by_types, changed_con, changed_type, changed_value, changed, changed_structures, each_row}
+use Rattle.realisation.specs.Environments.{changed_con, changed_type, changed_value, changed, changed_structures}
 use Rattle.realisation.proofs.Listing.{Each}
 use Rattle.realisation.proofs.Changing.{changed_agree, changed_stays, stays}
 use Rattle.realisation.proofs.Realising.{by_types_stays}

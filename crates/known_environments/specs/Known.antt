@@ -1,5 +1,5 @@
 -- What is known of variables, and what becomes of an environment.
-use Rattle.std.specs.Prelude.{◌≡◌, ℕ, ◌<◌, List, [], length, slice_get, Some}
+use Rattle.std.specs.Prelude.{◌≡◌, ℕ, ◌<◌, [], length, slice_get, Some}
 use Rattle.semantic_objects.specs.Trees.{Tree}
 use Rattle.unification.specs.Types.{Substitution}
 use Rattle.unification.specs.Closing.{closed_over, put_tree}
