@@ -1,0 +1,4 @@
+pub mod Copying
+pub mod Becoming
+pub mod Staying
+pub mod Leaving
