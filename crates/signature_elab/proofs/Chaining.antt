@@ -9,10 +9,11 @@ use Rattle.sml_trees.specs.declared.name.LongName.{LongName}
 use Rattle.semantic_objects.specs.declared.name.TyName.{TyName}
 use Rattle.semantic_objects.specs.declared.entry.ValueEntry.{ValueEntry}
 use Rattle.semantic_objects.specs.Tables.{Table as Named}
-use Rattle.semantic_objects.specs.Environments.{Env, Signature, modified_by}
+use Rattle.semantic_objects.specs.Environments.{Env, Signature, Top, modified_by}
+use Rattle.sml_modules.specs.declared.id.TopId.{TopId}
 use Rattle.sml_modules.specs.declared.parts.SigParts.{SigParts}
 use Rattle.sml_modules.specs.Items.{map_rows}
-use Rattle.sml_modules.specs.Graphs.{Graph, signature_of, HasSigParts}
+use Rattle.sml_modules.specs.Graphs.{Graph, signature_of, HasSigParts, HasTop}
 use Rattle.type_nodes.specs.Tables.{Table, type_of}
 use Rattle.unification.specs.Types.{Ty}
 use Rattle.bare_phrases.specs.Phrases.{TyPhrase}
@@ -34,7 +35,7 @@ use Rattle.signature_parts.specs.Ending.{structure_specified}
 use Rattle.signature_parts.specs.Growing.{Grows, IsUnder, IsBound, IsOpenSig, IsSpecified, IsListed}
 use Rattle.signature_parts.proofs.Again.{specified_again, with_nothing}
 use Rattle.signature_parts.proofs.Elaborated.{grows_self, grows_then, grows_nodes, envs_kept, so_far_kept, scope_kept, names_same}
-use Rattle.signature_elab.specs.Phrases.{infer_added, infer_structure, IsReady, IsOwn, IsReadyIn}
+use Rattle.signature_elab.specs.Phrases.{infer_added, infer_structure, signatures_at, IsReady, IsOwn, IsReadyIn}
 
 -- ---- steps of inference
 
@@ -440,4 +441,34 @@ specs_end {V} {sigs} {g} {h} {t} {u} {past} {made} {old} {new} {specs} {left} s 
   keeps = s.keeps;
   graph = s.graph;
   bound = s.bound;
+}
+
+-- ---- what is asked of a scope, later
+
+pub ready_later : {V : Type 0} {g h : Graph} {sc now : Bindings V} {top : TopId} → Grows g h → now ≡ sc
+    → IsReady g top sc → IsReady h top now
+ready_later {V} {g} {h} {sc} {now} {top} k e r = record {
+  top = k.keeps.has_top top r.top;
+  there = subst (IsScopeOf h) (sym e) (scope_there g h k.keeps sc r.there);
+}
+
+pub signatures_kept : {g h : Graph} {top : TopId} → Grows g h → HasTop g top → signatures_at h top ≡ signatures_at g top
+signatures_kept {g} {h} {top} k there = ap (λ (t : Top). t.signatures) (k.keeps.top top there)
+
+pub specs_ready : {V : Type 0} {sigs : Named Signature} {g h : Graph} {t u : Table} {past made : Specified}
+    {old new : Bindings V} {specs left : SpecPhrases} {top : TopId}
+    → SpecsSoFar sigs g h t u past made old new specs left → IsReadyIn g top past old → IsReadyIn h top made new
+specs_ready {V} {sigs} {g} {h} {t} {u} {past} {made} {old} {new} {specs} {left} {top} s r = record {
+  ready = record { top = s.graph.keeps.has_top top r.ready.top; there = s.bound.there };
+  envs = s.bound.envs;
+  own = specs_own s r.own;
+}
+
+-- before the first specification
+pub first_ready : {V : Type 0} {g : Graph} {top : TopId} {sc : Bindings V} (made : Specified)
+    → signature_so_far g made ≡ empty_signature → made.structures ≡ [] → IsReady g top sc → IsReadyIn g top made sc
+first_ready {V} {g} {top} {sc} made e none r = record {
+  ready = r;
+  envs = subst (AreEnvs g) (sym none) tt;
+  own = nothing_specified g made sc e;
 }

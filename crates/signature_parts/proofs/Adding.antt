@@ -63,6 +63,7 @@ module _ (g : Graph) (old new : Specified) (inner : Scope) (name : Name) (sig : 
       (structure_set g old name.text sig.env text rows t e)
       ∙ ap (λ (made : Specified). gives (signature_so_far g made)) (sym n)
 
+module _ (g : Graph) (old new : Specified) (sig : SigParts) where
   pub structure_front : (text : List ℕ) (rows : Rows EnvId) → rows ≡ old.structures ++ (text, sig.env) ∷ []
       → new ≡ record old { structures = rows; bound = old.bound ++ sig.bound } → IsFrontOf old new
   structure_front text rows e n = subst (IsFrontOf old) (sym n) (record {

@@ -27,7 +27,7 @@ use Rattle.signature_specs.specs.Specs.{env_so_far, signature_so_far, IsFrontOf}
 use Rattle.where_types.specs.Where.{GrowsByNodes}
 use Rattle.signature_parts.specs.Growing.{Grows, IsUnder, IsBound, IsOpenSig, IsSpecified, IsListed}
 use Rattle.signature_parts.specs.Steps.{mark_of}
-use Rattle.signature_parts.proofs.Closing.{keeps_then}
+use Rattle.signature_parts.proofs.Finishing.{keeps_then}
 
 -- ---- graphs that grow
 

@@ -1,5 +1,5 @@
 pub mod Binding
 pub mod Again
 pub mod Adding
-pub mod Closing
+pub mod Finishing
 pub mod Elaborated

@@ -25,6 +25,16 @@ use std::alloc::Global;
 /// How many type names a signature may bind.
 pub(crate) const MOST_NAMES: usize = 1_048_576;
 
+/// Adds type names behind others.
+fn append(bound: &mut List<TyName>, names: List<TyName>) -> Result<(), NoMemory>
+    ensures { OnOk result (bound.new ≡ bound.old ++ names) }
+{
+    for name in names.into_vec() {
+        bound.add(name)?;
+    }
+    Ok(())
+}
+
 /// Adds type names to those that a signature binds. More than 1,048,576 are refused as want of memory is, before they
 /// are added.
 fn add_names(made: &mut Specified, names: List<TyName>) -> Result<(), NoMemory>
@@ -33,10 +43,7 @@ fn add_names(made: &mut Specified, names: List<TyName>) -> Result<(), NoMemory>
     if names.len() > MOST_NAMES || made.bound.len() > MOST_NAMES - names.len() {
         return Err(NoMemory);
     }
-    for name in names.into_vec() {
-        made.bound.add(name)?;
-    }
-    Ok(())
+    append(&mut made.bound, names)
 }
 
 /// Specifies a structure with an open signature: 40 at its name where a structure has it already. The signature that is

@@ -1,4 +1,4 @@
-pub mod Functions
+pub mod TypeFunctions
 pub mod Wheres
 pub mod Names
-pub mod Checks
+pub mod Checking

@@ -32,6 +32,56 @@ is_name name other b to from = by_test b (same_name name other) refl refl
         let e : b ≡ true = from (name_is name other k) in
         absurd (cc)
 
+-- the next of some names
+pub listed_next : (name : TyName) (all left rest : List TyName) (item : TyName) → left ≡ item ∷ rest
+    → same_name name item ≡ false → is_listed name left ≡ is_listed name all → is_listed name rest ≡ is_listed name all
+listed_next name all left rest item e f h =
+    sym (ap (is_listed name) e ∙ ap (λ b. b || is_listed name rest) f) ∙ h
+
+pub listed_here : (name : TyName) (all left rest : List TyName) (item : TyName) → left ≡ item ∷ rest
+    → same_name name item ≡ true → is_listed name left ≡ is_listed name all → true ≡ is_listed name all
+listed_here name all left rest item e f h =
+    sym (ap (is_listed name) e ∙ ap (λ b. b || is_listed name rest) f) ∙ h
+
+pub listed_none : (name : TyName) (all left : List TyName) → left ≡ [] → is_listed name left ≡ is_listed name all
+    → false ≡ is_listed name all
+listed_none name all left e h = sym (ap (is_listed name) e) ∙ h
+
+-- all but one
+abbrev pub others : TyName → List TyName → List TyName
+others name names = filter (λ m. not (same_name name m)) names
+
+others_first : (name item : TyName) (rest : List TyName)
+    → others name (item ∷ rest) ≡ others name (item ∷ []) ++ others name rest
+others_first name item rest = by_test (not (same_name name item))
+  where
+    by_test : (b : Bool) → cond b (item ∷ others name rest) (others name rest)
+        ≡ cond b (item ∷ []) [] ++ others name rest
+    by_test true = refl
+    by_test false = refl
+
+pub others_next : (name item : TyName) (names left rest kept new : List TyName) → left ≡ item ∷ rest
+    → kept ++ others name left ≡ others name names → new ≡ kept ++ others name (item ∷ [])
+    → new ++ others name rest ≡ others name names
+others_next name item names left rest kept new e h k =
+    ap (λ z. z ++ others name rest) k
+    ∙ append_assoc kept (others name (item ∷ [])) (others name rest)
+    ∙ ap (λ z. kept ++ z) (sym (ap (others name) e ∙ others_first name item rest)) ∙ h
+
+pub others_end : (name : TyName) (names left kept : List TyName) → left ≡ []
+    → kept ++ others name left ≡ others name names → kept ≡ others name names
+others_end name names left kept e h =
+    sym (ap (λ z. kept ++ others name z) e ∙ append-nil kept) ∙ h
+
+pub other_added : (name item : TyName) (old new : List TyName) → same_name name item ≡ false → new ≡ old ++ item ∷ []
+    → new ≡ old ++ others name (item ∷ [])
+other_added name item old new f e =
+    e ∙ ap (λ b. old ++ cond (not b) (item ∷ []) []) (sym f)
+
+pub other_left : (name item : TyName) (old : List TyName) → same_name name item ≡ true
+    → old ≡ old ++ others name (item ∷ [])
+other_left name item old f = sym (ap (λ b. old ++ cond (not b) (item ∷ []) []) f ∙ append-nil old)
+
 -- ---- a signature without a name
 
 pub put_alone : (list : List Replace) (name : TyName) (by : TypeFn) (env : Env)

@@ -10,6 +10,7 @@ ghost use Rattle.static_semantics.specs.Inferring.{Scope as Inner, refuses_where
 ghost use Rattle.module_semantics.specs.SignatureInference.{lacks_equality, replaced, where_type, with_function};
 ghost use Rattle.type_phrases.specs.Inferred.{Answers, Refuses};
 
+use crate::replacing::is_name;
 use cm_base::{Diag, Fault, List, NoMemory, Place};
 use function_forms::{admits, alone};
 use semantic_objects::{TyName, TypeFn};
@@ -42,7 +43,7 @@ fn lacks_equality(
     name: Option<&TyName>,
     by: &TypeFn,
 ) -> Result<bool, NoMemory>
-    ensures { IfOk result (λ lacks. lacks ≡ lacks_equality (option_copied name) by.now) }
+    ensures { IfOk result (λ lacks. lacks ≡ lacks_equality (option_copied name.entry) by.now) }
 {
     match name {
         Some(name) => {
@@ -62,7 +63,7 @@ fn check_equality(
     by: &TypeFn,
 ) -> Result<(), Fault>
     ensures { (inner : Inner) → inner.home ≡ g.now.home
-        → Answers (refuses_where (lacks_equality (option_copied name) by.now) 33 inner at) (λ u. tt) result }
+        → Answers (refuses_where (lacks_equality (option_copied name.entry) by.now) 33 inner at) (λ u. tt) result }
 {
     if lacks_equality(alloc, name, by)? {
         Err(refusal(g, 33, at, List::new(alloc)))
@@ -98,7 +99,7 @@ fn is_listed(names: &[TyName], name: &TyName) -> bool
     ensures { result ≡ is_listed name.now names.now }
 {
     for other in names {
-        if name.is_same(other) {
+        if is_name(name, other) {
             return true;
         }
     }
@@ -115,7 +116,7 @@ fn flexible(
     bound: &List<TyName>,
 ) -> Result<TyName, Fault>
     ensures { (inner : Inner) (by : TypeFunction) (sig : Signature) → inner.home ≡ g.now.home → sig.bound ≡ bound.now
-        → Answers (replaced inner at long.now by sig (option_copied name)) (λ name. with_function name by sig) result }
+        → Answers (replaced inner at long.now by sig (option_copied name.entry)) (λ name. with_function name by sig) result }
 {
     match name {
         Some(name) => {

@@ -1,6 +1,6 @@
 //! Signatures with a type function in place of a flexible name.
 
-ghost use Rattle.std.specs.Prelude.{◌≡◌, ◌∷◌, [], filter, not, IfOk, OnErr};
+ghost use Rattle.std.specs.Prelude.{◌≡◌, ◌∷◌, ◌++◌, [], filter, not, IfOk, OnOk, OnErr};
 ghost use Rattle.semantic_objects.specs.Symbols.{same_name};
 ghost use Rattle.sml_modules.specs.Graphs.{signature_of, HasSigParts};
 ghost use Rattle.module_semantics.specs.SignatureInference.{with_function};
@@ -12,15 +12,31 @@ use semantic_objects::{TyName, TypeFn};
 use sml_modules::{EnvGraph, SigParts};
 use std::alloc::Global;
 
+/// Whether two names are one.
+pub(crate) fn is_name(name: &TyName, other: &TyName) -> bool
+    ensures { result ≡ same_name name.now other.now }
+{
+    name.is_same(other)
+}
+
+/// Adds a name behind others, if it isn't a certain one.
+fn add_other(left: &mut List<TyName>, name: &TyName, other: &TyName) -> Result<(), NoMemory>
+    ensures { OnOk result (left.new ≡ left.old ++ filter (λ m. not (same_name name.now m)) (other.now ∷ [])) }
+{
+    if is_name(name, other) {
+        return Ok(());
+    }
+    left.add(other.copy()?)?;
+    Ok(())
+}
+
 /// All names but one.
 fn without(alloc: Global, names: &[TyName], name: &TyName) -> Result<List<TyName>, NoMemory>
     ensures { IfOk result (λ left. left ≡ filter (λ m. not (same_name name.now m)) names.now) }
 {
     let mut left = List::new(alloc);
     for other in names {
-        if !name.is_same(other) {
-            left.add(other.copy()?)?;
-        }
+        add_other(&mut left, name, other)?;
     }
     Ok(left)
 }

@@ -7,7 +7,7 @@ ghost use Rattle.type_nodes.specs.Tables.{Table};
 ghost use Rattle.bare_phrases.specs.PhraseOf.{ty_phrase};
 ghost use Rattle.sml_modules.specs.Graphs.{env_at, signature_of, HasEnv, HasSigParts};
 ghost use Rattle.static_semantics.specs.Inferring.{Scope as Inner, found_at};
-ghost use Rattle.core_scopes.specs.Scopes.{IsScopeOf};
+ghost use Rattle.core_scopes.specs.Scopes.{seen, IsScopeOf};
 ghost use Rattle.type_phrases.specs.Inferred.{Answers, KeepsTypes, progress, scope_in};
 ghost use Rattle.where_types.specs.Where.{infer_where, known_function, GrowsByNodes};
 
@@ -24,7 +24,25 @@ use std::alloc::Global;
 use type_bindings::list_variables;
 use type_phrases::unknown;
 
-/// The type function of a long name in an environment: 30 at it where it stands for no type.
+/// The type function of a long name in a scope: 30 at it where it stands for no type.
+fn function_seen(
+    alloc: Global,
+    g: &EnvGraph,
+    inside: &Scope<()>,
+    long: &LongName,
+) -> Result<TypeFn, Fault>
+    requires { IsScopeOf g.now inside.now }
+    ensures { (inner : Inner) (read : Unit {0} → ValueEntry) → inner.home ≡ g.now.home
+        → Answers (known_function inner long.now (found_at types long.now.parts (seen g.now read inside.now)))
+        (λ function. function) result }
+{
+    match inside.find_long_type_function(g, long.parts.as_slice())? {
+        Some(function) => Ok(function),
+        None => Err(unknown(alloc, g, long)),
+    }
+}
+
+/// .. in an environment.
 fn function_in(
     alloc: Global,
     g: &EnvGraph,
@@ -37,10 +55,7 @@ fn function_in(
         (λ function. function) result }
 {
     let inside: Scope<()> = Scope::new(alloc, env);
-    match inside.find_long_type_function(g, long.parts.as_slice())? {
-        Some(function) => Ok(function),
-        None => Err(unknown(alloc, g, long)),
-    }
+    function_seen(alloc, g, &inside, long)
 }
 
 /// The signature `sig where type tyvars long = ty`, of an open signature. 40 at a type variable that stands in the list

@@ -1,5 +1,5 @@
 use Rattle.std.proofs.Common.{drop}
-use Rattle.signature_parts.proofs.Closing.{Renumbered}
+use Rattle.signature_parts.proofs.Finishing.{Renumbered}
 use Rattle.signature_parts.proofs.closing.bound_names.Given as goal
 
 -- the names so far, and those that are left

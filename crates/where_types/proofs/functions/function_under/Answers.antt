@@ -5,7 +5,7 @@ use Rattle.static_semantics.specs.Inferring.{with_written_alone}
 use Rattle.static_semantics.specs.TypeInference.{as_written}
 use Rattle.type_phrases.specs.Inferred.{scope_in}
 use Rattle.type_declarations.proofs.Listing.{function_refused}
-use Rattle.where_types.proofs.Functions.{function_given}
+use Rattle.where_types.proofs.TypeFunctions.{function_given}
 use Rattle.where_types.proofs.functions.function_under.Goals as goal
 
 pub returns-in_err-made-clause-infers : goal.returns-in_err-made-clause-infers

@@ -9,7 +9,7 @@ use Rattle.static_semantics.specs.Inferring.{Progress}
 use Rattle.module_semantics.specs.SignatureInference.{with_function}
 use Rattle.type_phrases.specs.Inferred.{progress, scope_in}
 use Rattle.signature_specs.proofs.Listing.{list_made}
-use Rattle.where_types.proofs.Functions.{grown_progress}
+use Rattle.where_types.proofs.TypeFunctions.{grown_progress}
 use Rattle.where_types.proofs.Wheres.{unlisted, unfound, untyped, unfit, replaced_by}
 use Rattle.where_types.proofs.whole.elab_where.Goals as goal
 
@@ -59,8 +59,8 @@ returns-in_err-name-clause-infers g c = λ u read.
     c.in_err-name.field-0.0 c.from_residual-in_err-name.result c.from_residual-in_err-name.ensures.1
     (c.in_err-name.ensures inner sig refl refl)
 
-pub returns-in_ok-put_function-clause-infers : goal.returns-in_ok-put_function-clause-infers
-returns-in_ok-put_function-clause-infers g c = λ u read.
+pub returns-clause-infers : goal.returns-in_ok-put_function-clause-infers
+returns-clause-infers g c = λ u read.
     let graph = c.args.g.now in
     let inner = scope_in graph u read c.args.scope.now in
     let sig = signature_of graph c.args.sig.now in
