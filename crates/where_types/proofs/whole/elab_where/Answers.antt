@@ -8,6 +8,7 @@ use Rattle.name_trails.specs.Trails.{Rows}
 use Rattle.static_semantics.specs.Inferring.{Progress}
 use Rattle.module_semantics.specs.SignatureInference.{with_function}
 use Rattle.type_phrases.specs.Inferred.{progress, scope_in}
+use Rattle.type_phrases.proofs.Keeping.{keeps_later}
 use Rattle.signature_specs.proofs.Listing.{list_made}
 use Rattle.where_types.proofs.TypeFunctions.{grown_progress}
 use Rattle.where_types.proofs.Wheres.{unlisted, unfound, untyped, unfit, replaced_by}
@@ -59,7 +60,7 @@ returns-in_err-name-clause-infers g c = λ u read.
     c.in_err-name.field-0.0 c.from_residual-in_err-name.result c.from_residual-in_err-name.ensures.1
     (c.in_err-name.ensures inner sig refl refl)
 
-pub returns-clause-infers : goal.returns-in_ok-put_function-clause-infers
+pub returns-clause-infers : goal.returns-clause-infers
 returns-clause-infers g c = λ u read.
     let graph = c.args.g.now in
     let inner = scope_in graph u read c.args.scope.now in
@@ -73,3 +74,18 @@ returns-clause-infers g c = λ u read.
     c.in_ok-put_function.ensures.ok.is
     (grown_progress graph c.put_function.new.g c.list_variables.new.t c.function_under.new.t
     c.in_ok-put_function.ensures.ok.grows.made c.in_ok-by.ensures.makes.state)
+
+pub returns-in_err-name-clause-keeps : goal.returns-in_err-name-clause-keeps
+returns-in_err-name-clause-keeps g c =
+    keeps_later c.args.t.now c.list_variables.new.t c.function_under.new.t c.in_ok-list.ensures.ids
+    c.in_ok-by.ensures.makes.keeps
+
+pub returns-in_err-put_function-clause-keeps : goal.returns-in_err-put_function-clause-keeps
+returns-in_err-put_function-clause-keeps g c =
+    keeps_later c.args.t.now c.list_variables.new.t c.function_under.new.t c.in_ok-list.ensures.ids
+    c.in_ok-by.ensures.makes.keeps
+
+pub returns-clause-keeps : goal.returns-clause-keeps
+returns-clause-keeps g c =
+    keeps_later c.args.t.now c.list_variables.new.t c.function_under.new.t c.in_ok-list.ensures.ids
+    c.in_ok-by.ensures.makes.keeps
