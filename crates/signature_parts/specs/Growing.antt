@@ -45,23 +45,23 @@ pub record IsOpenSig {V : Type 0} (g h : Graph) (t u : Table) (old new : Binding
 -- a specification was, after others: with the answer of inference, and what it specifies is in scope
 pub record IsSpecified {V : Type 0} (g h : Graph) (t u : Table) (past made : Specified) (old new : Bindings V)
     (want : Scope → Signature → Progress → Answer (Signature × Progress)) (result : Result (Unit {0}) Fault) : Type 0
-    where
-  pub infers : (w : Table) (read : V → ValueEntry)
-      → Answers (want (scope_in g w read old) (signature_so_far g past) (progress t g))
-      (λ done. (signature_so_far h made, progress u h)) result
-  pub keeps : KeepsTypes t u
-  pub graph : Grows g h
-  pub bound : OnOk result (IsBound g h past made old new)
+  where
+    pub infers : (w : Table) (read : V → ValueEntry)
+        → Answers (want (scope_in g w read old) (signature_so_far g past) (progress t g))
+        (λ done. (signature_so_far h made, progress u h)) result
+    pub keeps : KeepsTypes t u
+    pub graph : Grows g h
+    pub bound : OnOk result (IsBound g h past made old new)
 
 -- more was specified, and the scope is left as it was
 pub record IsListed {V : Type 0} (g h : Graph) (t u : Table) (past made : Specified) (old new : Bindings V)
     (want : Scope → Signature → Progress → Answer (Signature × Progress)) (result : Result (Unit {0}) Fault) : Type 0
-    where
-  pub infers : (w : Table) (read : V → ValueEntry)
-      → Answers (want (scope_in g w read old) (signature_so_far g past) (progress t g))
-      (λ done. (signature_so_far h made, progress u h)) result
-  pub keeps : KeepsTypes t u
-  pub graph : Grows g h
-  pub scope : OnOk result (new ≡ old)
-  pub front : OnOk result (IsFrontOf past made)
-  pub envs : OnOk result (AreEnvs h made.structures)
+  where
+    pub infers : (w : Table) (read : V → ValueEntry)
+        → Answers (want (scope_in g w read old) (signature_so_far g past) (progress t g))
+        (λ done. (signature_so_far h made, progress u h)) result
+    pub keeps : KeepsTypes t u
+    pub graph : Grows g h
+    pub scope : OnOk result (new ≡ old)
+    pub front : OnOk result (IsFrontOf past made)
+    pub envs : OnOk result (AreEnvs h made.structures)

@@ -45,11 +45,7 @@ fn bound_names(alloc: Global, olds: &[TyName]) -> Result<NewNames, NoMemory>
 /// A finished signature, of an open one: it binds its flexible names, which are numbered from 0 in the order of its list.
 /// More than 1,048,576 are refused as want of memory is. All ids keep what they stand for.
 /// The Definition of Standard ML (Revised), rule 65.
-pub fn close_signature(
-    alloc: Global,
-    g: &mut EnvGraph,
-    sig: &SigParts,
-) -> Result<SigId, NoMemory>
+pub fn close_signature(alloc: Global, g: &mut EnvGraph, sig: &SigParts) -> Result<SigId, NoMemory>
     requires { HasSigParts g.old sig.now }
     ensures there { IfOk result (HasSignature g.new) }
     ensures is { IfOk result (λ id. signature_at g.new id ≡ closed (signature_of g.old sig.now)) }

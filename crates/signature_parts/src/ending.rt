@@ -15,10 +15,7 @@ use sml_modules::{EnvGraph, NamedValue, SigParts};
 use std::alloc::Global;
 
 /// Values with their names.
-fn list_values(
-    alloc: Global,
-    rows: &[(Text, ValueEntry)],
-) -> Result<List<NamedValue>, NoMemory>
+fn list_values(alloc: Global, rows: &[(Text, ValueEntry)]) -> Result<List<NamedValue>, NoMemory>
     ensures { IfOk result (λ list. value_rows list ≡ rows.now) }
 {
     let mut list = List::new(alloc);
@@ -33,11 +30,7 @@ fn list_values(
 
 /// The open signature of what is specified: its environment is made at once. Want of memory leaves the graph as it was.
 /// The Definition of Standard ML (Revised), rule 62.
-pub fn end_signature(
-    alloc: Global,
-    g: &mut EnvGraph,
-    made: Specified,
-) -> Result<SigParts, NoMemory>
+pub fn end_signature(alloc: Global, g: &mut EnvGraph, made: Specified) -> Result<SigParts, NoMemory>
     requires { AreEnvs g.old made.structures }
     ensures ok { IfOk result (GivesParts g.old g.new (signature_so_far g.old made)) }
     ensures err { OnErr result (g.new ≡ g.old) }

@@ -79,11 +79,7 @@ fn nameless(alloc: Global) -> Result<Text, NoMemory>
 }
 
 /// Opens the one structure of a scope that has no name.
-fn open_nameless(
-    alloc: Global,
-    g: &EnvGraph,
-    scope: &Scope<()>,
-) -> Result<Made<()>, NoMemory>
+fn open_nameless(alloc: Global, g: &EnvGraph, scope: &Scope<()>) -> Result<Made<()>, NoMemory>
     requires { IsScopeOf g.now scope.now }
     ensures is { IfOk result (λ made. OpensNameless g.now scope.now made) }
     ensures there { IfOk result (λ made. HasEnvs g.now made.structures) }

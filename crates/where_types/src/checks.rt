@@ -20,13 +20,7 @@ use std::alloc::Global;
 use type_phrases::{refusal, unknown};
 
 /// 35 where a type function takes other arguments than the one that it replaces.
-fn check_arity(
-    alloc: Global,
-    g: &EnvGraph,
-    at: At,
-    old: &TypeFn,
-    by: &TypeFn,
-) -> Result<(), Fault>
+fn check_arity(alloc: Global, g: &EnvGraph, at: At, old: &TypeFn, by: &TypeFn) -> Result<(), Fault>
     ensures { (inner : Inner) → inner.home ≡ g.now.home
         → Answers (refuses_where (not (eqb by.now.arity old.now.arity)) 35 inner at) (λ u. tt) result }
 {
@@ -38,11 +32,7 @@ fn check_arity(
 }
 
 /// Whether a type name admits equality, and the type function that replaces it doesn't.
-fn lacks_equality(
-    alloc: Global,
-    name: Option<&TyName>,
-    by: &TypeFn,
-) -> Result<bool, NoMemory>
+fn lacks_equality(alloc: Global, name: Option<&TyName>, by: &TypeFn) -> Result<bool, NoMemory>
     ensures { IfOk result (λ lacks. lacks ≡ lacks_equality (option_copied name.entry) by.now) }
 {
     match name {
@@ -78,7 +68,11 @@ fn misfit(alloc: Global, g: &EnvGraph, at: At, long: &LongName) -> Fault
 {
     match unknown(alloc, g, long) {
         Fault::Diag(diag) => {
-            let Diag { at: place, names, .. } = diag;
+            let Diag {
+                at: place,
+                names,
+                ..
+            } = diag;
             let Place { file, .. } = place;
             Fault::Diag(Diag {
                 number: 37,

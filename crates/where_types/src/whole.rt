@@ -43,12 +43,7 @@ fn function_seen(
 }
 
 /// .. in an environment.
-fn function_in(
-    alloc: Global,
-    g: &EnvGraph,
-    env: EnvId,
-    long: &LongName,
-) -> Result<TypeFn, Fault>
+fn function_in(alloc: Global, g: &EnvGraph, env: EnvId, long: &LongName) -> Result<TypeFn, Fault>
     requires { HasEnv g.now env }
     ensures { (inner : Inner) → inner.home ≡ g.now.home
         → Answers (known_function inner long.now (found_at types long.now.parts (env_at g.now env)))
