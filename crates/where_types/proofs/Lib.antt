@@ -1,0 +1,4 @@
+pub mod TypeFunctions
+pub mod Wheres
+pub mod Names
+pub mod Checking
