@@ -34,7 +34,7 @@ use Rattle.history_laws.specs.FromNothing.{if_loaded, project_in, sources_in, un
 -- ---- over two folders with one project
 
 module _ (by : Definitions) (a b : Files) (alike : LoadsAlike a b) where
-  out_same : (root out : List ℕ) → out_in a root out ≡ out_in b root out
+  pub out_same : (root out : List ℕ) → out_in a root out ≡ out_in b root out
   out_same root out = ap (λ (r : Result Bindings Diag). r >>= λ anchors. out_path anchors root out) alike.anchors
 
   pub target_same : (command : Command) → target_of a command ≡ target_of b command
@@ -76,7 +76,7 @@ module _ (by : Definitions) (a b : Files) (alike : LoadsAlike a b) where
 
 -- ---- what is asked
 
-asked_loading : (by : Definitions) (files : Files) (defs : List Def) (r : Result Project Diag)
+pub asked_loading : (by : Definitions) (files : Files) (defs : List Def) (r : Result Project Diag)
     → (of_loading (plain_plan by.skel files) defs r).asked_skeletons ≡ unread_in by files (if_loaded r)
 asked_loading by files defs (Ok project) = refl
 asked_loading by files defs (Err diag) = refl
