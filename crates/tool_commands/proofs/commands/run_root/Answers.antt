@@ -108,7 +108,7 @@ returns-in-Err-Tool-clause-performs g c = λ outside.
     (blamed by works (g.S.Sink.written c.args.out.now)
     (g.C.Compiler.asked c.args.compiler.now) (g.C.Compiler.asked_skeletons c.args.compiler.now)
     (g.F.Folder.holds c.args.folder.now) (g.F.Folder.holds c.load.new.folder) t0 t1
-    (λ files is. (steps files is).cut) c.load.ensures.tool (λ e. cc))
+    (λ files is. (steps files is).cut) c.load.ensures.tool (λ e. ap (λ x. Err x) c.in-Err-Tool.field-0-is))
 
 pub returns-in-Err-NoMemory-clause-performs : goal.returns-in-Err-NoMemory-clause-performs
 returns-in-Err-NoMemory-clause-performs g c = λ outside.
