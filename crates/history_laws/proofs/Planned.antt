@@ -135,7 +135,7 @@ after_has by project defs None plan stops is =
     (names_of project (skeletons_of by.skel project).found defs) plan is)
     stops
 
-abbrev HaveAll : Definitions → Result (List PlannedUnit) Diag → Type 0
+abbrev pub HaveAll : Definitions → Result (List PlannedUnit) Diag → Type 0
 HaveAll by (Ok planned) = HaveSkeletons by.skel planned
 HaveAll by (Err diag) = Unit {0}
 
@@ -145,7 +145,7 @@ units_have : (by : Definitions) (project : Project) (r : Result Plan Diag)
 units_have by project (Ok plan) have = have plan refl
 units_have by project (Err diag) have = tt
 
-loading_has : (by : Definitions) (files : Files) (defs : List Def) (r : Result Project Diag)
+pub loading_has : (by : Definitions) (files : Files) (defs : List Def) (r : Result Project Diag)
     → HaveAll by (of_loading (plain_plan by.skel files) defs r).units
 loading_has by files defs (Ok project) =
     units_have by project (plan_of by.skel project defs).result

@@ -1,3 +1,4 @@
-pub mod Histories
-pub mod Meanings
 pub mod Roots
+pub mod Meanings
+pub mod Keeping
+pub mod Histories

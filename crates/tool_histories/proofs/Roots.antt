@@ -49,7 +49,7 @@ use Rattle.tool_histories.specs.FromNothing.{units_of}
 
 -- ---- a meaning but for the paths that it writes
 
-record SameEffect (a b : plain.Meaning) : Type 0 where
+pub record SameEffect (a b : plain.Meaning) : Type 0 where
   pub status : a.status ≡ b.status
   pub output : a.output ≡ b.output
   pub files : a.files ≡ b.files
@@ -64,7 +64,7 @@ module _ (by : Definitions) (target : Option (List ℕ)) (defs : List Def) where
   abbrev pub skeletons_at : Result Project Diag → Files → List (List ℕ)
   skeletons_at r files = (of_loading (plain_plan by.skel files) defs r).asked_skeletons
 
-  effect_is : (r : Result Project Diag) (files : Files)
+  pub effect_is : (r : Result Project Diag) (files : Files)
       → SameEffect (built_of r files) (coming_to by files target (skeletons_at r files) (units_of by files defs r))
   effect_is (Ok project) files =
       let is = built_is by files (units_of by files defs (Ok project)) in
@@ -130,16 +130,16 @@ module _ (by : Definitions) (rules : ToolRules) (files clean : Files) (alone : H
   alike : LoadsAlike files clean
   alike = loading_reads files clean alone.project
 
-  r : Result Project Diag
+  abbrev pub r : Result Project Diag
   r = project_of clean rules defs root false
 
-  u : Result (List PlannedUnit) Diag
+  abbrev pub u : Result (List PlannedUnit) Diag
   u = units_of by clean defs r
 
-  b : Build
+  abbrev pub b : Build
   b = build_of by u
 
-  sk : Files → List (List ℕ)
+  abbrev sk : Files → List (List ℕ)
   sk here = skeletons_at by target defs r (loaded_in here)
 
   effect_at : (here : Files) → SameEffect (built_of by target defs r here) (coming_to by here target

@@ -5,5 +5,7 @@
 mod laws;
 mod program;
 
-pub use laws::{a_command_knows_no_store, every_list_of_calls};
+pub use laws::{
+    a_command_keeps_the_store_good, a_command_knows_no_store, every_history, every_list_of_calls,
+};
 pub use program::call_program;
