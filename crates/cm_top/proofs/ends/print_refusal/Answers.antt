@@ -4,7 +4,7 @@ use Rattle.cm_top.specs.Performing.{state_of}
 use Rattle.cm_top.specs.Sessions.{refused}
 use Rattle.cm_top.proofs.Ending.{nothing_printed}
 use Rattle.cm_top.proofs.Steps.{refused_performs, still_wanting}
-use Rattle.cm_top.proofs.sessions.print_refusal.Goals as goal
+use Rattle.cm_top.proofs.ends.print_refusal.Goals as goal
 
 pub returns-in-Ok-clause-performs : goal.returns-in-Ok-clause-performs
 returns-in-Ok-clause-performs g c =

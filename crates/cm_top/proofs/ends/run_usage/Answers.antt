@@ -3,7 +3,7 @@ use Rattle.cm_top.specs.Headline.{run_of}
 use Rattle.cm_top.specs.Meaning.{usage}
 use Rattle.cm_top.specs.declared.status.Status.TheVariants as status
 use Rattle.cm_top.proofs.Ending.{after_print, nothing_done, nothing_printed}
-use Rattle.cm_top.proofs.run.run_usage.Goals as goal
+use Rattle.cm_top.proofs.ends.run_usage.Goals as goal
 
 pub returns-in-Ok-clause-ends : goal.returns-in-Ok-clause-ends
 returns-in-Ok-clause-ends g c = λ files is text before.
