@@ -1,5 +1,5 @@
 use Rattle.group_loader.proofs.GoingOn.{source_goes}
-use Rattle.group_loader.proofs.descent.load_source.Goals as goal
+use Rattle.group_loader.proofs.members.load_source.Goals as goal
 
 pub returns-clause-goes : goal.returns-clause-goes
 returns-clause-goes g c =
