@@ -4,5 +4,5 @@
 mod renewal;
 mod sealing;
 
-pub use renewal::{NewNames, new_names};
+pub use renewal::{NewNames, new_names, own_function};
 pub use sealing::{open_signature, seal};

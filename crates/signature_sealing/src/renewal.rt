@@ -32,7 +32,7 @@ fn variables(alloc: Global, count: u32) -> Result<List<TypeTree>, NoMemory>
 }
 
 /// The type function of a type name alone: the name with its variables in their order.
-fn own_function(alloc: Global, name: &TyName) -> Result<TypeFn, NoMemory>
+pub fn own_function(alloc: Global, name: &TyName) -> Result<TypeFn, NoMemory>
     ensures { IfOk result (λ function. function ≡ (own_type name.now).function) }
 {
     let args = variables(alloc, name.arity)?;
