@@ -2,6 +2,7 @@
 #![tactic(auto)]
 
 mod chain;
+mod inferring;
 mod kind;
 mod printing;
 mod reading;
@@ -10,6 +11,7 @@ mod scene;
 use case_files::{Case, CaseFault, Kinds, Report, Wrong, run_cases};
 use case_texts::{Answers, refusal, try_texts};
 use chain::chain;
+use inferring::inferred;
 use cm_base::{Fault, Text};
 use kind::{Kind, kind_of};
 use printing::{counts_of, lines_of, names_line};
@@ -40,11 +42,20 @@ fn of_unit(alloc: Global, kind: Kind, case: &Case, tree: &BareUnit) -> Result<Ve
     }
     match bound {
         Ok(Some(bound)) => match kind {
-            Kind::Elaborated | Kind::MadeNames => Ok(lines_of(alloc, &unit.graph, bound.own)?),
             Kind::Counted | Kind::Chain => Ok(counts_of(alloc, &unit.graph, bound.own)?),
+            _ => Ok(lines_of(alloc, &unit.graph, bound.own)?),
         },
         Ok(None) => Err(CaseFault::Wrong(case.line, Wrong::Words)),
         Err(fault) => Ok(refusal(alloc, &fault)?),
+    }
+}
+
+/// What is answered of the values of a unit's declarations.
+fn of_values(alloc: Global, case: &Case, tree: &BareUnit) -> Result<Vec<u8>, CaseFault> {
+    let is_brief = case.find(b"briefly")?.is_some();
+    match declarations_of(tree) {
+        Some(dec) => Ok(inferred(alloc, dec, is_brief)?),
+        None => Err(CaseFault::Wrong(case.line, Wrong::Words)),
     }
 }
 
@@ -56,7 +67,10 @@ fn of_declarations(
     decs: &[u8],
 ) -> Result<Vec<u8>, CaseFault> {
     match unit_of(alloc, decs) {
-        Ok(tree) => of_unit(alloc, kind, case, &tree),
+        Ok(tree) => match kind {
+            Kind::Inferred => of_values(alloc, case, &tree),
+            _ => of_unit(alloc, kind, case, &tree),
+        },
         Err(fault) => Ok(refusal(alloc, &fault)?),
     }
 }
@@ -76,7 +90,7 @@ impl Answers for Kind {
 impl Kinds for DatatypeKinds {
     fn try_case(&self, alloc: Global, case: &Case, report: &mut Report) -> Result<(), CaseFault> {
         match kind_of(case.kind.as_bytes()) {
-            Some(kind) => try_texts(alloc, &kind, (b"", b""), case, report),
+            Some(kind) => try_texts(alloc, &kind, (b"briefly", b""), case, report),
             None => Err(CaseFault::Wrong(case.line, Wrong::Kind)),
         }
     }

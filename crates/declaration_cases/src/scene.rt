@@ -14,7 +14,7 @@ use type_bindings::replicate;
 use type_declarations::elab_types;
 
 /// With the built-in structures.
-const OPTIONS: Options = Options {
+pub const OPTIONS: Options = Options {
     nobasis: false,
     opaque: false,
 };
