@@ -1,18 +1,25 @@
 -- What a call answers for a `val` by its phrase, in the scope with its own type variables and as a whole. Only private
 -- functions cite this file.
-use Rattle.std.specs.Prelude.{ℕ, List, [], ◌++◌, Option, None, Result}
+use Rattle.std.specs.Prelude.{ℕ, List, [], ◌++◌, map, None, Result}
 use Rattle.cm_base.specs.declared.fault.Fault.{Fault}
 use Rattle.sml_trees.specs.declared.name.At.{At}
+use Rattle.semantic_objects.specs.declared.name.TyId.{TyId}
 use Rattle.semantic_objects.specs.Environments.{Env}
+use Rattle.unification.specs.Types.{Ty}
 use Rattle.unification.specs.Unification.{depth}
 use Rattle.unification.specs.Closing.{kept_since}
+use Rattle.type_nodes.specs.Tables.{type_of}
+use Rattle.name_trails.specs.Trails.{Rows}
 use Rattle.bare_phrases.specs.Phrases.{Rules, DecPhrase}
 use Rattle.static_semantics.specs.Inferring.{Progress, Scope, Answer, ◌>>=◌, Bound, under_bound}
 use Rattle.static_semantics.specs.CoreInference.{Group, RecPats, rec_bound, rec_groups, infer_binds, infer_rec_pats, infer_rec_exps, infer_dec}
 use Rattle.core_scopes.specs.declared.made.Made.{Made}
 use Rattle.pattern_elab.specs.declared.own.OwnVariable.{OwnVariable}
+use Rattle.pattern_elab.specs.Scopes.{bound_of}
 use Rattle.closing_laws.specs.Variables.{val_end}
 use Rattle.core_rules.specs.Moments.{Moment, progress_at, Elabs}
+use Rattle.core_rules.specs.Bindings.{Nothing}
+use Rattle.core_rules.specs.RecBindings.{infer_rec_exps_by, read_progress}
 use Rattle.core_rules.specs.Values.{read_made, ValuesAlone}
 
 -- the steps behind the patterns of `rec` bindings, and behind the plain bindings
@@ -35,6 +42,16 @@ val_of n own _ sc st = None
 abbrev pub IsValOf : Moment → ℕ → List (List ℕ × ℕ) → DecPhrase → Moment → Result (Made OwnVariable) Fault → Type 0
 IsValOf old n own phrase new result =
     Elabs old (λ sc. val_of n own phrase sc (progress_at old)) read_made ValuesAlone new result
+
+-- the expressions of the `rec` bindings of a `val`, by the types of their patterns; nothing is said of other declarations
+abbrev pub recs_of : List Ty → DecPhrase → Scope → Progress → Answer Progress
+recs_of types (DecPhrase.Val tyvars binds recs at) sc st = infer_rec_exps_by sc recs types st
+recs_of types _ sc st = None
+
+abbrev pub AreRecsOf : Moment → Rows OwnVariable → DecPhrase → List TyId → Moment → Result (Unit {0}) Fault → Type 0
+AreRecsOf old bound phrase types new result =
+    Elabs old (λ sc. recs_of (map (type_of old.table) types) phrase (under_bound (bound_of bound) sc) (progress_at old))
+    read_progress Nothing new result
 
 -- of a whole declaration whose values alone are made
 abbrev pub IsOfValues : Moment → DecPhrase → Moment → Result (Made OwnVariable) Fault → Type 0

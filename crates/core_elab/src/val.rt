@@ -7,7 +7,7 @@ ghost use Rattle.type_schemes.specs.Schemes.{HaveAll};
 ghost use Rattle.core_rules.specs.Moments.{moment};
 ghost use Rattle.core_rules.specs.Ready.{IsReadyAt, IsReadyUnder};
 ghost use Rattle.core_rules.specs.Values.{AreRecsUnder};
-ghost use Rattle.core_elab.specs.Vals.{IsValOf, IsOfValues};
+ghost use Rattle.core_elab.specs.Vals.{AreRecsOf, IsValOf, IsOfValues};
 
 use crate::binds::elab_binds;
 use crate::patterns::rec_patterns;
@@ -50,6 +50,31 @@ fn elab_recs_under(
     result
 }
 
+/// The expressions of the `rec` bindings of a `val` under the variables of their patterns, which are left again. Another
+/// declaration is answered as want of memory is.
+#[cycle(elab_in_scope)]
+fn elab_recs_of(
+    alloc: Global,
+    g: &mut EnvGraph,
+    t: &mut TypeTable,
+    scope: &mut CoreScope,
+    bound: &NameTrail<OwnVariable>,
+    dec: &Dec,
+    types: &List<TyId>,
+) -> Result<(), Fault>
+    requires scope { IsReadyUnder (moment g.old t.old scope.old) bound.now }
+    requires types { HaveAll t.old types.now }
+    ensures { AreRecsOf (moment g.old t.old scope.old) bound.now (dec_phrase dec.now) types.now
+        (moment g.new t.new scope.new) result }
+{
+    match dec {
+        Dec::Val(_, _, recs, _) => {
+            elab_recs_under(alloc, g, t, scope, bound, recs.as_slice(), types)
+        }
+        _ => Err(Fault::NoMemory),
+    }
+}
+
 /// The bindings of a `val`, and its end by a mark from before it, in the scope with its own type variables, which is
 /// left as it was. Another declaration is answered as want of memory is.
 #[cycle(elab_in_scope)]
@@ -78,7 +103,7 @@ fn elab_val_under(
             let pats = rec_patterns(alloc, g, t, scope, recursive, &mut bound, &mut groups)?;
             is_ready_under(g, t, scope, &pats.bound);
             are_there(t, &pats.types);
-            elab_recs_under(alloc, g, t, scope, &pats.bound, recursive, &pats.types)?;
+            elab_recs_of(alloc, g, t, scope, &pats.bound, dec, &pats.types)?;
             close_val(alloc, g, t, *at, own, groups, since)
         }
         _ => Err(Fault::NoMemory),

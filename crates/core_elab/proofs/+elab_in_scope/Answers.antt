@@ -14,7 +14,7 @@ use Rattle.core_rules.proofs.Declaring.{as_dec, dec_passed, dec_memory, val_decl
 use Rattle.core_rules.specs.Ready.{made_at}
 use Rattle.static_semantics.specs.Inferring.{under, under_bound}
 use Rattle.core_rules.proofs.RecBinding.{rec_first, rec_second, rec_done, rec_of, recs_begin, recs_next, recs_fail, recs_stop, recs_end, has_first}
-use Rattle.core_rules.proofs.Under.{recs_under, binds_alone, val_first, val_second, val_memory, val_third, val_done, val_distinct, val_front}
+use Rattle.core_rules.proofs.Under.{recs_under, binds_alone, val_first, val_second, val_third, val_done, val_distinct, val_front}
 use Rattle.core_rules.proofs.WholeVal.{val_stops, val_whole, under_as}
 use Rattle.core_rules.specs.Bindings.{IsBind, AreBinds}
 use Rattle.core_rules.specs.Joined.{AreEntered}
@@ -23,12 +23,12 @@ use Rattle.pattern_elab.proofs.Scoping.{core_later}
 use Rattle.pattern_elab.specs.Scopes.{scope_of, bound_of}
 use Rattle.sml_trees.specs.declared.exp.Dec.{Dec}
 use Rattle.sml_trees.specs.declared.exp.Rule.{out-Rule, Rule}
-use Rattle.std.proofs.Common.{rules, refl, length, sym, ap, ap₂, ◌∙◌, subst, map, [], ◌∷◌, ◌++◌, List}
+use Rattle.std.proofs.Common.{refl, length, sym, ap, ap₂, ◌∙◌, subst, map, [], ◌∷◌, ◌++◌, List}
 use Rattle.type_nodes.specs.Tables.{Table, IsFrontOf, state}
 use Rattle.sml_types.proofs.Frames.{drop_past}
 use Rattle.type_phrases.proofs.PartsRead.{drop_item}
 use Rattle.value_closing.specs.Groups.{groups_of}
-use Rattle.core_elab.proofs.Vals.{val_phrase, of_val, as_under, of_values, no_values}
+use Rattle.core_elab.proofs.Vals.{val_phrase, of_val, as_under, of_values, of_recs, as_recs_under, at_once}
 use Rattle.core_elab.proofs.+elab_in_scope.Goals as goal
 
 pub exp::elab_in_scope-returns-in-Int : goal.exp::elab_in_scope-returns-in-Int
@@ -403,7 +403,10 @@ val::elab_val_under-close_val-requires-clause-front t c =
     (binds_alone (map rule_phrase c.as_slice-plain.result.now) c.new-bound.result c.elab_binds.new.bound
     (groups_of c.new-groups.result) (groups_of c.elab_binds.new.groups) c.new-bound.ensures
     (ap groups_of c.new-groups.ensures) c.in_ok-elab_binds-in-Val.ensures)
-    c.in_ok-pats-in-Val.ensures.pats c.args.since.now c.in_ok-pats-in-Val.pats.bound c.requires.front c.in_ok-elab_recs_under-in-Val.ensures
+    c.in_ok-pats-in-Val.ensures.pats c.args.since.now c.in_ok-pats-in-Val.pats.bound c.requires.front (as_recs_under c.in_ok-pats-in-Val.pats.bound c.in_ok-pats-in-Val.pats.types c.in-Val.field-0 c.as_slice-plain.result.now
+    c.as_slice-recursive.result.now c.in-Val.at (val_phrase c.in-Val.field-0 c.in-Val.binds c.in-Val.recs c.as_slice-plain.result.now c.as_slice-recursive.result.now c.in-Val.at
+    (ap dec_phrase c.in-Val.is ∙ dec_phrase-Val c.in-Val.field-0 c.in-Val.binds c.in-Val.recs c.in-Val.at)
+    c.as_slice-plain.ensures c.as_slice-recursive.ensures) c.in_ok-elab_recs_of-in-Val.ensures)
 
 pub val::elab_val_under-close_val-requires-clause-distinct : goal.val::elab_val_under-close_val-requires-clause-distinct
 val::elab_val_under-close_val-requires-clause-distinct t c =
@@ -415,8 +418,8 @@ val::elab_val_under-close_val-requires-clause-distinct t c =
     (ap groups_of c.new-groups.ensures) c.in_ok-elab_binds-in-Val.ensures)
     c.in_ok-pats-in-Val.ensures.pats
 
-pub val::elab_val_under-returns-in_ok-elab_recs_under-in-Val : goal.val::elab_val_under-returns-in_ok-elab_recs_under-in-Val
-val::elab_val_under-returns-in_ok-elab_recs_under-in-Val t c =
+pub val::elab_val_under-returns-in_ok-elab_recs_of-in-Val : goal.val::elab_val_under-returns-in_ok-elab_recs_of-in-Val
+val::elab_val_under-returns-in_ok-elab_recs_of-in-Val t c =
     of_val (state c.args.since.now).next c.args.own.now c.in-Val.field-0 c.as_slice-plain.result.now c.as_slice-recursive.result.now c.in-Val.at (val_phrase c.in-Val.field-0 c.in-Val.binds c.in-Val.recs c.as_slice-plain.result.now c.as_slice-recursive.result.now c.in-Val.at
     (ap dec_phrase c.in-Val.is ∙ dec_phrase-Val c.in-Val.field-0 c.in-Val.binds c.in-Val.recs c.in-Val.at)
     c.as_slice-plain.ensures c.as_slice-recursive.ensures)
@@ -427,17 +430,20 @@ val::elab_val_under-returns-in_ok-elab_recs_under-in-Val t c =
     (groups_of c.new-groups.result) (groups_of c.elab_binds.new.groups) c.new-bound.ensures
     (ap groups_of c.new-groups.ensures) c.in_ok-elab_binds-in-Val.ensures)
     c.in_ok-pats-in-Val.ensures.pats c.in_ok-pats-in-Val.pats.bound (length c.elab_binds.new.bound) refl
-    c.in_ok-pats-in-Val.ensures.since c.in_ok-elab_recs_under-in-Val.ensures c.close_val.ensures.same
-    (c.close_val.ensures.answer (scope_at (moment c.elab_recs_under.new.g c.elab_recs_under.new.t
-    c.elab_recs_under.new.scope)) refl) c.close_val.ensures.structures)
+    c.in_ok-pats-in-Val.ensures.since (as_recs_under c.in_ok-pats-in-Val.pats.bound c.in_ok-pats-in-Val.pats.types c.in-Val.field-0 c.as_slice-plain.result.now
+    c.as_slice-recursive.result.now c.in-Val.at (val_phrase c.in-Val.field-0 c.in-Val.binds c.in-Val.recs c.as_slice-plain.result.now c.as_slice-recursive.result.now c.in-Val.at
+    (ap dec_phrase c.in-Val.is ∙ dec_phrase-Val c.in-Val.field-0 c.in-Val.binds c.in-Val.recs c.in-Val.at)
+    c.as_slice-plain.ensures c.as_slice-recursive.ensures) c.in_ok-elab_recs_of-in-Val.ensures) c.close_val.ensures.same
+    (c.close_val.ensures.answer (scope_at (moment c.elab_recs_of.new.g c.elab_recs_of.new.t
+    c.elab_recs_of.new.scope)) refl) c.close_val.ensures.structures)
 
-pub val::elab_val_under-returns-in_err-elab_recs_under-in-Val : goal.val::elab_val_under-returns-in_err-elab_recs_under-in-Val
-val::elab_val_under-returns-in_err-elab_recs_under-in-Val t c =
+pub val::elab_val_under-returns-in_err-elab_recs_of-in-Val : goal.val::elab_val_under-returns-in_err-elab_recs_of-in-Val
+val::elab_val_under-returns-in_err-elab_recs_of-in-Val t c =
     of_val (state c.args.since.now).next c.args.own.now c.in-Val.field-0 c.as_slice-plain.result.now c.as_slice-recursive.result.now c.in-Val.at (val_phrase c.in-Val.field-0 c.in-Val.binds c.in-Val.recs c.as_slice-plain.result.now c.as_slice-recursive.result.now c.in-Val.at
     (ap dec_phrase c.in-Val.is ∙ dec_phrase-Val c.in-Val.field-0 c.in-Val.binds c.in-Val.recs c.in-Val.at)
     c.as_slice-plain.ensures c.as_slice-recursive.ensures)
-    (passed c.from_residual-in_err-elab_recs_under-in-Val.result c.in_err-elab_recs_under-in-Val.field-0.0
-    c.from_residual-in_err-elab_recs_under-in-Val.ensures.1
+    (passed c.from_residual-in_err-elab_recs_of-in-Val.result c.in_err-elab_recs_of-in-Val.field-0.0
+    c.from_residual-in_err-elab_recs_of-in-Val.ensures.1
     (val_third (state c.args.since.now).next c.in-Val.at c.args.own.now (map rule_phrase c.as_slice-plain.result.now)
     (map rule_phrase c.as_slice-recursive.result.now)
     c.requires.scope.core
@@ -445,7 +451,10 @@ val::elab_val_under-returns-in_err-elab_recs_under-in-Val t c =
     (groups_of c.new-groups.result) (groups_of c.elab_binds.new.groups) c.new-bound.ensures
     (ap groups_of c.new-groups.ensures) c.in_ok-elab_binds-in-Val.ensures)
     c.in_ok-pats-in-Val.ensures.pats c.in_ok-pats-in-Val.pats.bound (length c.elab_binds.new.bound) refl
-    c.in_ok-pats-in-Val.ensures.since c.in_err-elab_recs_under-in-Val.ensures))
+    c.in_ok-pats-in-Val.ensures.since (as_recs_under c.in_ok-pats-in-Val.pats.bound c.in_ok-pats-in-Val.pats.types c.in-Val.field-0 c.as_slice-plain.result.now
+    c.as_slice-recursive.result.now c.in-Val.at (val_phrase c.in-Val.field-0 c.in-Val.binds c.in-Val.recs c.as_slice-plain.result.now c.as_slice-recursive.result.now c.in-Val.at
+    (ap dec_phrase c.in-Val.is ∙ dec_phrase-Val c.in-Val.field-0 c.in-Val.binds c.in-Val.recs c.in-Val.at)
+    c.as_slice-plain.ensures c.as_slice-recursive.ensures) c.in_err-elab_recs_of-in-Val.ensures)))
 
 pub val::elab_val-returns-in_err-own-in-Val : goal.val::elab_val-returns-in_err-own-in-Val
 val::elab_val-returns-in_err-own-in-Val t c =
@@ -767,8 +776,15 @@ val::elab_val_under-are_there-requires t c =
     c.in_ok-pats-in-Val.ensures.pats.answers.have
 
 pub val::elab_val_under-returns-in_default : goal.val::elab_val_under-returns-in_default
-val::elab_val_under-returns-in_default t c = no_values c.requires.scope.core
+val::elab_val_under-returns-in_default t c = at_once c.requires.scope.core
 
-pub val::elab_val_under-elab_recs_under-requires : goal.val::elab_val_under-elab_recs_under-requires
-val::elab_val_under-elab_recs_under-requires t c =
-    (search rules, (c.is_ready_under.ensures, c.are_there.ensures))
+pub val::elab_recs_of-returns-in_default : goal.val::elab_recs_of-returns-in_default
+val::elab_recs_of-returns-in_default t c = at_once c.requires.scope.core
+
+pub val::elab_recs_of-returns-in-Val : goal.val::elab_recs_of-returns-in-Val
+val::elab_recs_of-returns-in-Val t c =
+    of_recs c.args.bound.now c.args.types.now c.in-Val.field-0 c.in-Val.field-1 c.as_slice.result.now c.in-Val.field-3
+    (val_phrase c.in-Val.field-0 c.in-Val.field-1 c.in-Val.recs c.in-Val.field-1 c.as_slice.result.now c.in-Val.field-3
+    (ap dec_phrase c.in-Val.is ∙ dec_phrase-Val c.in-Val.field-0 c.in-Val.field-1 c.in-Val.recs c.in-Val.field-3)
+    refl c.as_slice.ensures)
+    c.elab_recs_under.ensures

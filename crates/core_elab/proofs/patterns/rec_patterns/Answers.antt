@@ -1,5 +1,4 @@
 use Rattle.std.proofs.Common.{map, ap, ◌∙◌, drop}
-use Rattle.std.specs.Prelude.{Err}
 use Rattle.cm_base.specs.declared.fault.Fault.TheVariants as fault
 use Rattle.bare_phrases.specs.PhraseOf.{rule_phrase}
 use Rattle.value_closing.specs.Groups.{groups_of}

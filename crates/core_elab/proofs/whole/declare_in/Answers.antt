@@ -1,5 +1,4 @@
-use Rattle.std.proofs.Common.{refl, ◌∙◌, ap, sym}
-use Rattle.std.specs.Prelude.{Err}
+use Rattle.std.proofs.Common.{refl, ◌∙◌}
 use Rattle.cm_base.specs.declared.fault.Fault.TheVariants as fault
 use Rattle.unification.specs.Unification.{depth}
 use Rattle.sml_modules.specs.Graphs.{env_at}
