@@ -53,6 +53,6 @@ pub fn typed(alloc: Global, exp: &Exp, is_brief: bool) -> Result<Vec<u8>, NoMemo
     let top = basis(alloc, &mut graph, OPTIONS)?;
     let env = graph.env_of(top)?;
     let mut table = TypeTable::new(alloc)?;
-    let answer = elab_exp(alloc, &mut graph, &mut table, env, exp);
+    let answer = elab_exp(&mut graph, &mut table, env, exp);
     answer_line(alloc, &mut table, answer, is_brief)
 }
