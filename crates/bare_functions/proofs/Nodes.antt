@@ -19,7 +19,7 @@ use Rattle.sml_trees.specs.declared.exp.Rule.{Rule}
 use Rattle.sml_trees.specs.declared.exp.StrBind.{StrBind, roll-StrBind}
 use Rattle.sml_trees.specs.declared.exp.StrExp.{StrExp}
 use Rattle.sml_trees.specs.declared.exp.StrExp.TheVariants as str
-use Rattle.bare_phrases.specs.Phrases.{ExpPhrase, ExpFields, Rules, DecPhrase, DecPhrases, StrPhrase, StrBinds}
+use Rattle.bare_phrases.specs.Phrases.{ExpPhrase, DecPhrase, StrPhrase}
 use Rattle.bare_phrases.specs.PhraseOf.{pat_phrase, exp_fields, rules_of, dec_phrases, str_binds, exp_field_level, rule_level, str_bind_level, exp_level, dec_level, str_level, exp_phrase, exp_field_phrase, rule_phrase, dec_phrase, str_phrase, str_bind_phrase}
 use Rattle.bare_phrases.proofs.Forms.{exp_phrase-Int, exp_phrase-Str, exp_phrase-Char, exp_phrase-Long, exp_phrase-Record, exp_phrase-Let, exp_phrase-App, exp_phrase-Typed, exp_phrase-Handle, exp_phrase-Raise, exp_phrase-Fn, dec_phrase-Val, dec_phrase-Types, dec_phrase-Datatypes, dec_phrase-Replication, dec_phrase-Exceptions, dec_phrase-Local, dec_phrase-Open, dec_phrase-Sequence, dec_phrase-Structures, str_phrase-Struct, str_phrase-Named, str_phrase-Transparent, str_phrase-Opaque, str_phrase-Functor, str_phrase-Within}
 use Rattle.bare_forms.specs.Nodes.{rule, field}
