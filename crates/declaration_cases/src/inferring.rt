@@ -27,7 +27,11 @@ fn push_value(
     if !out.is_empty() {
         push_parts(alloc, out, &[Part::Text(b"; ")])?;
     }
-    push_parts(alloc, out, &[Part::Text(name.as_bytes()), Part::Text(b" : ")])?;
+    push_parts(
+        alloc,
+        out,
+        &[Part::Text(name.as_bytes()), Part::Text(b" : ")],
+    )?;
     let id = table.instantiate(scheme)?;
     let closed = table.generalise(id, &List::new(alloc))?;
     push_scheme(alloc, out, &closed)?;
