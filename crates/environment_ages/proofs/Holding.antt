@@ -1,5 +1,5 @@
 -- The variables in a type, node by node.
-use Rattle.std.proofs.Common.{◌≡◌, ℕ, zero, suc, ◌+◌, ◌-◌, ◌<◌, ◌≤◌, refl, sym, ap, ap₂, ◌∙◌, subst, arith, Option, Some, None, drop, List, [], ◌∷◌, ◌++◌, length, map, get_or, Bool, true, false, ◌&&◌}
+use Rattle.std.proofs.Common.{◌≡◌, ℕ, suc, ◌+◌, ◌-◌, ◌<◌, ◌≤◌, refl, sym, ap, ap₂, ◌∙◌, subst, arith, Option, Some, None, drop, List, [], ◌∷◌, ◌++◌, length, map, get_or, Bool, true, false, ◌&&◌}
 use Rattle.std.specs.Prelude.{◌↔◌, slice_get}
 use Rattle.std.proofs.lemmas.Bool.{eqb-true, eq-eqb, ltb-true, lt-ltb}
 use Rattle.std.proofs.lemmas.List.{length-append}
@@ -70,10 +70,10 @@ scheme_is n m σ body b e f h =
     let k : b ≡ holds (limits (Some (length σ.marks)) n) σ.body =
     h ∙ ap₂ (λ x t. holds (limits (Some x) n) t) e f in (
       λ is. let i : holds (limits (Some (length σ.marks)) n) σ.body ≡ true = sym k ∙ is in
-      record {
-        closed = λ j bound. ltb-true j (length σ.marks) (own_of (limits (Some (length σ.marks)) n) σ.body j i bound);
-        below = λ v free. free_of (limits (Some (length σ.marks)) n) σ.body v i free;
-      },
+          record {
+            closed = λ j bound. ltb-true j (length σ.marks) (own_of (limits (Some (length σ.marks)) n) σ.body j i bound);
+            below = λ v free. free_of (limits (Some (length σ.marks)) n) σ.body v i free;
+          },
       λ is. k ∙ holds_of (limits (Some (length σ.marks)) n) σ.body
           (λ j bound. lt-ltb j (length σ.marks) (is.closed j bound)) is.below,
     )

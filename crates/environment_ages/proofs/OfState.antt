@@ -1,22 +1,17 @@
 -- An environment in which variables of a table alone stand is of what the table knows, and the other way round.
-use Rattle.std.proofs.Common.{◌≡◌, ℕ, ◌<◌, List, refl, sym, ap, ap₂, ◌∙◌, subst, true, ◌||◌}
-use Rattle.std.specs.Prelude.{◌↔◌}
+use Rattle.std.proofs.Common.{◌≡◌, ℕ, List, refl, sym, ap₂, ◌∙◌, ◌||◌}
 use Rattle.semantic_objects.specs.declared.entry.TypeFn.{TypeFn}
 use Rattle.semantic_objects.specs.Trees.{Tree, Trees, TypeScheme, frees, frees_any}
 use Rattle.semantic_objects.specs.Environments.{Env}
 use Rattle.unification.specs.Types.{Ty, State, occurs, occurs_any}
 use Rattle.unification.specs.Fitting.{IsFit}
-use Rattle.unification.specs.Instances.{fill, fill_all}
-use Rattle.type_nodes.specs.Keeping.{IsKept}
-use Rattle.type_nodes.specs.Tables.{Table, state}
-use Rattle.sml_modules.specs.Graphs.{Graph}
+use Rattle.unification.specs.Instances.{fill_all}
 use Rattle.static_semantics.specs.BasicTypes.{unit_ty}
 use Rattle.static_semantics.specs.Inferring.{Progress, outermost, seen}
-use Rattle.static_semantics.specs.Growing.{TyIn, SchemeIn, FunctionIn, IsReady}
+use Rattle.static_semantics.specs.Growing.{TyIn, SchemeIn, FunctionIn}
 use Rattle.static_semantics.proofs.Holding.{env_more}
-use Rattle.type_phrases.specs.Inferred.{progress}
 use Rattle.closing_laws.specs.Promises.{Any, IsOfState}
-use Rattle.environment_ages.specs.Below.{FreesBelow, SchemeBelow, FunctionBelow, StandsBelow, IsOfTable}
+use Rattle.environment_ages.specs.Below.{FreesBelow, SchemeBelow, FunctionBelow, StandsBelow}
 
 -- the variables of a type as inference reads it are those that are free in the tree
 mutual

@@ -1,5 +1,5 @@
 -- What stands in the tables of environments.
-use Rattle.std.proofs.Common.{◌≡◌, ℕ, List, [], ◌∷◌, ◌++◌, map, refl, sym, ap, ◌∙◌, subst, Option, Some, None, Bool, true, cond, nat_eq}
+use Rattle.std.proofs.Common.{◌≡◌, ℕ, List, [], ◌∷◌, ◌++◌, map, refl, sym, ap, ◌∙◌, subst, Option, Some, None, true, cond, nat_eq}
 use Rattle.std.specs.Option.{is_some}
 use Rattle.std.proofs.lemmas.Bool.{eqb-true}
 use Rattle.unification.proofs.Walking.{either_way}
@@ -14,7 +14,7 @@ use Rattle.environment_walks.specs.declared.steps.Step.{Step}
 use Rattle.environment_walks.specs.Changing.{image_in}
 use Rattle.environment_walks.specs.Stepping.{entered}
 use Rattle.environment_ages.specs.Below.{SchemeBelow, FunctionBelow, StandsBelow}
-use Rattle.environment_ages.specs.Walking.{ItemBelow, AreBelow, AreDone, AreAsked, Asked}
+use Rattle.environment_ages.specs.Walking.{ItemBelow, AreBelow, AreDone, AreAsked}
 
 -- ---- rows
 

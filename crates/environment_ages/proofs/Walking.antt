@@ -1,8 +1,7 @@
 -- The steps of a walk.
-use Rattle.std.proofs.Common.{◌≡◌, ℕ, List, [], ◌∷◌, ◌++◌, map, refl, sym, ap, ◌∙◌, subst, Bool, true, false}
+use Rattle.std.proofs.Common.{◌≡◌, ℕ, List, [], ◌∷◌, ◌++◌, map, refl, sym, subst, Bool, true, false}
 use Rattle.std.specs.Prelude.{◌↔◌, Result, Ok, Err, IfOk}
 use Rattle.std.specs.Option.{is_some}
-use Rattle.semantic_objects.specs.Environments.{Env}
 use Rattle.sml_modules.specs.declared.node.EnvNode.{EnvNode}
 use Rattle.sml_modules.specs.declared.node.Node.TheVariants as node
 use Rattle.sml_modules.specs.Items.{Item, at, as_env, IsEnv}

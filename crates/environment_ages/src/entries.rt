@@ -44,11 +44,7 @@ fn cons_are_below(alloc: Global, count: usize, cons: &List<ConEntry>) -> Result<
 }
 
 /// .. in a type structure.
-pub(crate) fn type_is_below(
-    alloc: Global,
-    count: usize,
-    entry: &TypeStr,
-) -> Result<bool, NoMemory>
+pub(crate) fn type_is_below(alloc: Global, count: usize, entry: &TypeStr) -> Result<bool, NoMemory>
     ensures { IfOk result (λ below. IsTrue below ↔ TypeHas (SchemeBelow count) (FunctionBelow count) entry.now) }
 {
     if function_is_below(alloc, count, &entry.function)? {

@@ -108,12 +108,7 @@ fn open(
 }
 
 /// A type structure or a value is met: whether the walk goes on.
-fn meet_entry(
-    g: &EnvGraph,
-    count: usize,
-    place: usize,
-    done: &mut Images,
-) -> Result<bool, NoMemory>
+fn meet_entry(g: &EnvGraph, count: usize, place: usize, done: &mut Images) -> Result<bool, NoMemory>
     requires { AreBelow count g.now.items done.old }
     ensures { IfOk result (λ goes. GoesOn (ItemBelow count (at g.now.items place))
         (AreBelow count g.now.items done.new) goes) }
