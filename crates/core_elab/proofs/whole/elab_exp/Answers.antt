@@ -9,7 +9,7 @@ use Rattle.type_phrases.specs.Inferred.{progress}
 use Rattle.type_phrases.proofs.Keeping.{keeps_all}
 use Rattle.core_soundness.proofs.Promised.{exp_follows}
 use Rattle.core_rules.proofs.Ruling.{keeps_same}
-use Rattle.core_elab.proofs.Beginning.{refused}
+use Rattle.core_elab.proofs.Beginning.{refused, graph_itself}
 use Rattle.core_elab.proofs.whole.elab_exp.Goals as goal
 
 pub undo-requires : goal.undo-requires
@@ -43,3 +43,6 @@ returns-clause-foreign c = λ no. absurd (no (c.is_known.ensures.of c.if-not-is_
 
 pub returns-then-not-is_known-clause-ids : goal.returns-then-not-is_known-clause-ids
 returns-then-not-is_known-clause-ids c = keeps_all c.args.t.now
+
+pub returns-then-not-is_known-clause-graph : goal.returns-then-not-is_known-clause-graph
+returns-then-not-is_known-clause-graph c = graph_itself c.args.g.now
