@@ -63,6 +63,12 @@ pub variable_never : (home : List ℕ) (items : List Item) (rows : TypeRows) →
 variable_never home items rows h made told =
     no_variable home (content_of made items) (λ j n e. h.never made j Content.nothing n e)
 
+first_content : (c d : Content) → Node.node 1 c ≡ Node.node 1 d → c ≡ d
+first_content c d e = cc
+
+pub variable_index : (i : ℕ) → IsNumber i → i ≢ most → i < most
+variable_index i n apart = let b = n.below in omega (arith, b, apart)
+
 -- no binder has so many variables
 pub variable_last : (home : List ℕ) (items rest : List Item) (rows : TypeRows) (i : ℕ)
     → ((made : List Node) → Begins IsNumber with_number made i items rest) → i ≡ most → Makes home 1 items rows None
@@ -82,9 +88,6 @@ variable_last home items rest rows i h last made told = record {
     below m (Tree.Made symbol.Arrow ts) n k e = cc
     below m (Tree.Made (symbol.Record ls) ts) n k e = cc
     below m (Tree.Made (symbol.Name name) ts) n k e = cc
-
-    first_content : (c d : Content) → Node.node 1 c ≡ Node.node 1 d → c ≡ d
-    first_content c d e = cc
 
 pub variable_longer : (home : List ℕ) (items rest : List Item) (rows : TypeRows) (i : ℕ)
     → ((made : List Node) → Begins IsNumber with_number made i items rest) → rest ≢ []

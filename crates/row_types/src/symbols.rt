@@ -14,7 +14,7 @@ use semantic_objects::{Symbol, TyName, TypeNode};
 use std::alloc::Global;
 
 /// A variable by its index. No binder has so many that one has the last number of four bytes.
-#[tactic(auto, using(crate::proofs::Found::variable_found, crate::proofs::Found::variable_never, crate::proofs::Found::variable_longer, crate::proofs::Found::variable_last))]
+#[tactic(auto, using(crate::proofs::Found::variable_never))]
 pub(crate) fn variable_of(items: &[Item]) -> Option<TypeNode>
     ensures { (home : List ℕ) (rows : TypeRows) → Makes home 1 items.now rows result }
 {
