@@ -1,6 +1,7 @@
 -- Types below a binder of so many variables.
 use Rattle.std.proofs.Common.{◌≡◌, ℕ, ◌+◌, ◌<◌, ◌≤◌, refl, sym, ap, ap₂, subst, ◌∙◌, arith, List, [], ◌∷◌, ◌++◌, length, Bool, true, false, ◌||◌, eqb}
 use Rattle.std.specs.List.{range_with_len, flat_map}
+use Rattle.std.specs.Prelude.{IsTrue}
 use Rattle.std.proofs.lemmas.Bool.{eq-eqb, eqb-true}
 use Rattle.unification.specs.Closing.{is_among, bound_in}
 use Rattle.unification.proofs.Walking.{or_left, or_right, or_either}
@@ -72,6 +73,10 @@ mutual
       let p = below_parts n (variables_in t) (variables_in_all ts) k in
       (type_below m n t h.0 p.0, types_below m n ts h.1 p.1)
 
+or_none : (b : Bool) → (b || false) ≡ b
+or_none true = refl
+or_none false = refl
+
 mutual
   binds_found : (i : ℕ) (t : Tree) → binds i t ≡ is_among i (variables_in t)
   binds_found i (Tree.Bound j) = sym (or_none (eqb i j))
@@ -84,18 +89,15 @@ mutual
       ∙ ap (λ b. is_among i (variables_in t) || b) (all_binds_found i ts)
       ∙ sym (listed_append eqb is_among tells_variables i (variables_in t) (variables_in_all ts))
 
-  or_none : (b : Bool) → (b || false) ≡ b
-  or_none true = refl
-  or_none false = refl
-
 pub among_binds : (n : ℕ) (t : Tree) → AreAmong t n → BindsBelow n t
 among_binds n t h i e = below_at n (variables_in t) i h (sym (binds_found i t) ∙ e)
 
 pub first_among : (n : ℕ) (t : Tree) → AreFirst t n → AreAmong t n
 first_among n t h = below_all n (variables_in t)
-    (λ v e. range_below 0 n v
+    (λ v e. (let k = range_below 0 n v
     (sym (ap (is_among v) h) ∙ sym (ap (is_among v) (variables_noted t []))
-    ∙ listed_noted eqb is_among tells_variables v [] (variables_in t) ∙ e))
+    ∙ listed_noted eqb is_among tells_variables v [] (variables_in t) ∙ e) in
+    omega (arith, k)))
 
 -- the largest count can be written
 pub most_number : IsNumber most
@@ -112,3 +114,46 @@ below_more m n (x ∷ xs) le h = (let lt = h.0 in omega (arith, le, lt), below_m
 pub type_most : (n : ℕ) (t : Tree) → IsNumber n → IsType n t → IsType most t
 type_most n t k h =
     type_below n most t h (below_more n most (variables_in t) (number_most n k) (type_among n t h))
+
+-- ---- nodes one after the other
+
+abbrev pub BelowSo : ℕ → (ℕ → List ℕ) → List ℕ → List ℕ → Type 0
+BelowSo k N all rest = (AreBelow k (flat_map N rest) → AreBelow k all) × (AreBelow k all → AreBelow k (flat_map N rest))
+
+pub below_next : (k : ℕ) (N : ℕ → List ℕ) (all : List ℕ) (p : ℕ) (rest others : List ℕ) (b : Bool) → rest ≡ p ∷ others
+    → (IsTrue b → AreBelow k (N p)) × (AreBelow k (N p) → IsTrue b) → b ≡ true → BelowSo k N all rest
+    → BelowSo k N all others
+below_next k N all p rest others true e h i s =
+    let at : AreBelow k (N p) = h.0 refl in (
+      λ x. s.0 (subst (λ (z : List ℕ). AreBelow k (flat_map N z)) (sym e) (below_both k (N p) (flat_map N others) at x)),
+      λ x. (below_parts k (N p) (flat_map N others)
+          (subst (λ (z : List ℕ). AreBelow k (flat_map N z)) e (s.1 x))).1,
+    )
+below_next k N all p rest others false e h i s = absurd (cc)
+
+pub below_not : (k : ℕ) (N : ℕ → List ℕ) (all : List ℕ) (p : ℕ) (rest others : List ℕ) (b : Bool) → rest ≡ p ∷ others
+    → (IsTrue b → AreBelow k (N p)) × (AreBelow k (N p) → IsTrue b) → b ≡ false → BelowSo k N all rest
+    → (IsTrue false → AreBelow k all) × (AreBelow k all → IsTrue false)
+below_not k N all p rest others true e h i s = absurd (cc)
+below_not k N all p rest others false e h i s = (
+  λ f. absurd (no_truth f),
+  λ x. h.1 (below_parts k (N p) (flat_map N others)
+      (subst (λ (z : List ℕ). AreBelow k (flat_map N z)) e (s.1 x))).0,
+)
+  where
+    no_truth : IsTrue false → ⊥
+    no_truth f = cc
+
+pub below_end : (k : ℕ) (N : ℕ → List ℕ) (all rest : List ℕ) → rest ≡ [] → BelowSo k N all rest
+    → (IsTrue true → AreBelow k all) × (AreBelow k all → IsTrue true)
+below_end k N all rest e s =
+    (λ t. s.0 (subst (λ (z : List ℕ). AreBelow k (flat_map N z)) (sym e) tt), λ x. refl)
+
+pub among_visited : (t : Tree) (k : ℕ) (b : Bool) (xs : List ℕ)
+    → noted_all is_among [] xs ≡ noted_all is_among [] (variables_in t)
+    → (IsTrue b → AreBelow k xs) × (AreBelow k xs → IsTrue b)
+    → (IsTrue b → AreAmong t k) × (AreAmong t k → IsTrue b)
+among_visited t k b xs e h = (
+  λ i. below_alike k xs (variables_in t) e (h.0 i),
+  λ x. h.1 (below_alike k (variables_in t) xs (sym e) x),
+)

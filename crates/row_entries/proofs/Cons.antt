@@ -233,3 +233,52 @@ structure_formed rows row slice form found t e h k home made told =
     subst (λ x. IsOrNone (IsStructureOf home x) found)
     (row_is made row 7 slice (with_type (type_at made form) Content.nothing) t e ((h made).is))
     (k home made told ((h made).fits.second))
+
+-- ---- answers of calls
+
+pub told_none : {A : Type 0} (told : List (Option A)) (p : ℕ) (found : Option A) → ToldAt told p found
+    → ((x : A) → found ≡ Some x → ⊥) → ToldAt told p None
+told_none told p (Some x) h never = absurd (never x refl)
+told_none told p None h never = h
+
+pub told_some : {A : Type 0} (told : List (Option A)) (p : ℕ) (found : Option A) (x y : A) → ToldAt told p found
+    → found ≡ Some x → y ≡ x → ToldAt told p (Some y)
+told_some told p found x y h e f = subst (λ z. ToldAt told p (Some z)) (sym f) (subst (ToldAt told p) e h)
+
+pub cons_none : (rows : EntryRows) (slice table : List NamedPlace) (found : Option (List ConEntry))
+    → FindsCons rows slice found → slice ≡ table → ((x : List ConEntry) → found ≡ Some x → ⊥)
+    → FindsCons rows table None
+cons_none rows slice table (Some cons) h e never = absurd (never cons refl)
+cons_none rows slice table None h e never = subst (λ (z : List NamedPlace). FindsCons rows z None) e h
+
+pub cons_some : (rows : EntryRows) (slice table : List NamedPlace) (found : Option (List ConEntry)) (cons : List ConEntry)
+    → FindsCons rows slice found → slice ≡ table → found ≡ Some cons → FindsCons rows table (Some cons)
+cons_some rows slice table found cons h e f =
+    subst (λ (z : List NamedPlace). FindsCons rows z (Some cons)) e (subst (FindsCons rows slice) f h)
+
+-- one constructor more
+pub con_more : (home : List ℕ) (made : List Node) (rows : EntryRows) (table : List NamedPlace) (i : ℕ)
+    (row d : NamedPlace) (cons all : List ConEntry) (con : ConEntry) → row ≡ get_or table i d → i < length table
+    → AreEntries home made rows → ToldAt rows.schemes row.place (Some con.scheme) → con.name ≡ row.name
+    → all ≡ cons ++ con ∷ [] → RowsAre (IsSchemeOf home) (rows_at made (take i table)) (con_rows cons)
+    → RowsAre (IsSchemeOf home) (rows_at made (take (i + 1) table)) (con_rows all)
+con_more home made rows table i row d cons all con e lt told k n a h =
+    rows_more (IsSchemeOf home) made table i row d (con_rows cons) (con_rows all) (con.name, con.scheme) e lt h
+    (record {
+      name = sym n;
+      is = is_at (IsSchemeOf home) made rows.schemes row.place (Some con.scheme) told.schemes k;
+    })
+    (ap con_rows a ∙ map-append (λ (x : ConEntry). (x.name, x.scheme)) cons (con ∷ []))
+
+pub con_lacks : (rows : EntryRows) (table : List NamedPlace) (i : ℕ) (row d : NamedPlace) → row ≡ get_or table i d
+    → i < length table → ToldAt rows.schemes row.place None → FindsCons rows table None
+con_lacks rows table i row d e lt k home made told cons h =
+    rows_lack (IsSchemeOf home) made table i row d (con_rows cons) e lt
+    (is_at (IsSchemeOf home) made rows.schemes row.place None told.schemes k) h
+
+pub cons_whole : (rows : EntryRows) (table front : List NamedPlace) (cons : List ConEntry) → front ≡ table
+    → ((home : List ℕ) (made : List Node) → AreEntries home made rows
+    → RowsAre (IsSchemeOf home) (rows_at made front) (con_rows cons))
+    → FindsCons rows table (Some cons)
+cons_whole rows table front cons e h home made told =
+    subst (λ (z : List NamedPlace). RowsAre (IsSchemeOf home) (rows_at made z) (con_rows cons)) e (h home made told)

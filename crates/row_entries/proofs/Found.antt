@@ -1,5 +1,5 @@
 -- Rows that are type functions and schemes, and rows that are none.
-use Rattle.std.proofs.Common.{◌≡◌, ◌≢◌, ℕ, refl, sym, ap, ap₂, subst, ◌∙◌, List, [], ◌∷◌, length, map, Bool, true, false, Option, Some, None}
+use Rattle.std.proofs.Common.{◌≡◌, ◌≢◌, ℕ, refl, sym, ap, ap₂, subst, ◌∙◌, arith, List, [], ◌∷◌, length, map, Bool, true, false, Option, Some, None}
 use Rattle.std.specs.Prelude.{IsTrue}
 use Rattle.std.proofs.lemmas.List.{length-map}
 use Rattle.node_bytes.specs.Nodes.{Node, Content}
@@ -17,8 +17,7 @@ use Rattle.interface_format.proofs.Told.{number_then_told, part_told, text_rest,
 use Rattle.interface_format.proofs.Types.{type_told}
 use Rattle.interface_nodes.specs.Fields.{node_at}
 use Rattle.row_types.specs.declared.rows.TypeRows.{TypeRows}
-use Rattle.row_types.specs.Told.{most, NoType, IsTypeOf, AreTold, Stands}
-use Rattle.row_types.proofs.Parts.{told_at}
+use Rattle.row_types.specs.Told.{most, Told, NoType, IsTypeOf, AreTold, Stands}
 use Rattle.row_forms.specs.declared.entries.CountedForm.{CountedForm}
 use Rattle.row_forms.specs.declared.entries.SchemeForm.{SchemeForm}
 use Rattle.row_forms.specs.Forms.{IsForm, NeverForm, with_counted, FitsCounted, counted_at, with_scheme, FitsScheme, scheme_at, AreMarks}
@@ -31,6 +30,13 @@ content_same s t c d e = cc
 
 tag_same : (s t : ℕ) (c d : Content) → Node.node s c ≡ Node.node t d → s ≡ t
 tag_same s t c d e = cc
+
+told_at : (home : List ℕ) (made : List Node) (types : TypeRows) (p : ℕ) (is : Bool) → AreTold home made types
+    → Stands types p is → Told home (node_at made p) (tree_at types.nodes p) is
+told_at home made types p is h s =
+    let size = h.told_counted in
+    let within = s.within in
+    subst (Told home (node_at made p) (tree_at types.nodes p)) s.told (h.each p (omega (arith, size, within)))
 
 -- the type that a node is
 same_type : (home : List ℕ) (x : Node) (t u : Tree) (n : ℕ) → IsTypeOf home x t → IsNumber n → IsType n u

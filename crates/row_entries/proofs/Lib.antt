@@ -2,4 +2,4 @@ pub mod Numbered
 pub mod Among
 pub mod Found
 pub mod Cons
-pub mod Rows
+pub mod Adding

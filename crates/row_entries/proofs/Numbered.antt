@@ -6,20 +6,26 @@ use Rattle.std.proofs.lemmas.List.FromFn.{length-range_with_len, get_or-range_wi
 use Rattle.std.proofs.lemmas.Bool.{eq-eqb, eqb-true}
 use Rattle.unification.specs.Closing.{is_among, bound_in}
 use Rattle.unification.proofs.Walking.{either_way, not_both, or_left, or_right, or_either}
+use Rattle.semantic_objects.specs.declared.node.TypeNode.{TypeNode}
 use Rattle.semantic_objects.specs.Trees.{Tree}
+use Rattle.semantic_objects.specs.Nodes.{root}
 use Rattle.name_walks.specs.Noting.{noted, noted_all}
-use Rattle.name_walks.specs.Visits.{variables_in}
+use Rattle.name_walks.specs.Visits.{variables_in, variables_at, IsVisited}
 use Rattle.name_walks.proofs.Notes.{noted_append}
 use Rattle.name_walks.proofs.Once.{variables_noted}
 use Rattle.row_entries.specs.Variables.{NumbersOn, AreFirst, CountsFirst}
 
 -- ---- numbers of a range
 
-pub range_end : (a n : ℕ) → range_with_len a n ++ (a + n) ∷ [] ≡ range_with_len a (n + 1)
-range_end a zero = let e : a + 0 ≡ a = omega arith in ap (λ z. z ∷ []) e
-range_end a (suc n) =
-    let e : a + suc n ≡ (a + 1) + n = omega arith in
-    ap (λ z. a ∷ (range_with_len (a + 1) n ++ z ∷ [])) e ∙ ap (λ z. a ∷ z) (range_end (a + 1) n)
+pub range_end : (a n j : ℕ) → a + n ≡ j → range_with_len a n ++ j ∷ [] ≡ range_with_len a (n + 1)
+range_end a zero j e =
+    let first : j ≡ a = omega (arith, e) in
+    let one : zero + 1 ≡ suc zero = omega arith in
+    ap (λ z. z ∷ []) first ∙ ap (range_with_len a) (sym one)
+range_end a (suc n) j e =
+    let more : suc n + 1 ≡ suc (n + 1) = omega arith in
+    let next : (a + 1) + n ≡ j = omega (arith, e) in
+    ap (λ z. a ∷ z) (range_end (a + 1) n j next) ∙ ap (range_with_len a) (sym more)
 
 low_more : (a v : ℕ) → a ≤ v → v ≢ a → a + 1 ≤ v
 low_more a v low apart = omega (arith, low, apart)
@@ -76,7 +82,7 @@ pub met_next : (count v : ℕ) → v ≡ count → NumbersOn count (v ∷ []) (S
 met_next count v e =
     let above : count ≤ v = omega (arith, e) in
     as_new count v above
-    ∙ ap (λ z. range_with_len 0 z ++ v ∷ []) (sym e) ∙ range_end 0 v
+    ∙ ap (λ z. range_with_len 0 z ++ v ∷ []) (sym e) ∙ range_end 0 v v (omega arith)
 
 at_length : (xs ys : List ℕ) (y d : ℕ) → get_or (xs ++ y ∷ ys) (length xs) d ≡ y
 at_length [] ys y d = refl
@@ -86,7 +92,7 @@ no_gap : (count v n : ℕ) (more : List ℕ) → count < v → range_with_len 0 
 no_gap count v n more lt e =
     let xs = range_with_len 0 count in
     let size : length xs ≡ count = length-range_with_len 0 count in
-    let all : length (xs ++ v ∷ more) ≡ length xs + (1 + length more) = length-append xs (v ∷ more) in
+    let all : length (xs ++ v ∷ more) ≡ length xs + suc (length more) = length-append xs (v ∷ more) in
     let both : length (xs ++ v ∷ more) ≡ n = ap length e ∙ length-range_with_len 0 n in
     let within : count < n = omega (arith, size, all, both) in
     let there : get_or (xs ++ v ∷ more) count 0 ≡ v =
@@ -96,9 +102,12 @@ no_gap count v n more lt e =
     let same : v ≡ 0 + count = sym there ∙ here in
     omega (arith, lt, same)
 
-pub met_late : (count v : ℕ) → count < v → NumbersOn count (v ∷ []) None
-met_late count v lt more n e =
-    let above : count ≤ v = omega (arith, lt) in
+strictly : (count v : ℕ) → count ≤ v → v ≢ count → count < v
+strictly count v le apart = omega (arith, le, apart)
+
+pub met_late : (count v : ℕ) → count ≤ v → v ≢ count → NumbersOn count (v ∷ []) None
+met_late count v above apart more n e =
+    let lt : count < v = strictly count v above apart in
     let rest = noted_behind (range_with_len 0 count ++ v ∷ []) more in
     no_gap count v n rest.more lt
     (sym (append_assoc (range_with_len 0 count) (v ∷ []) rest.more) ∙ sym rest.is
@@ -141,9 +150,18 @@ all_met N all count rest e k =
 pub counts : (t : Tree) (xs : List ℕ) (found : Option ℕ) → noted_all is_among [] xs ≡ noted_all is_among [] (variables_in t)
     → NumbersOn 0 xs found → CountsFirst t found
 counts t xs (Some n) e h = sym (variables_noted t []) ∙ sym e ∙ h
-counts t xs None e h n k =
+counts t xs None e h = λ n k.
     h [] n (ap (noted_all is_among []) (append-nil xs) ∙ e ∙ variables_noted t [] ∙ k)
 
 pub first_once : (t : Tree) (m n : ℕ) → AreFirst t m → AreFirst t n → m ≡ n
 first_once t m n h k =
     sym (length-range_with_len 0 m) ∙ ap length (sym h ∙ k) ∙ length-range_with_len 0 n
+
+-- ---- what the visits of a type tell
+
+pub visited : (nodes : List TypeNode) (t : Tree) (slice places : List ℕ) → IsVisited nodes places → root nodes ≡ t
+    → slice ≡ places
+    → noted_all is_among [] (flat_map (variables_at nodes) slice) ≡ noted_all is_among [] (variables_in t)
+visited nodes t slice places h e f =
+    ap (λ (z : List ℕ). noted_all is_among [] (flat_map (variables_at nodes) z)) f ∙ h.variables []
+    ∙ ap (λ z. noted_all is_among [] (variables_in z)) e

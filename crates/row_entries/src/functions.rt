@@ -13,9 +13,6 @@ use semantic_objects::TypeFn;
 use shared_types::type_at;
 use std::alloc::Global;
 
-/// The tag of type functions.
-const FUNCTION: u8 = 5;
-
 /// The type function of an arity and the type at a place, if its indexes are below the arity.
 fn function_over(
     alloc: Global,
@@ -47,11 +44,11 @@ pub(crate) fn function_row(
     requires { AreNodes types.now.nodes }
     ensures { IfOk result (TellsFunction types.now row.now) }
 {
-    if row.tag != FUNCTION {
-        return Ok(None);
-    }
-    match counted_form(row.items.as_slice()) {
-        Some(form) => function_over(alloc, types, form),
-        None => Ok(None),
+    match row.tag {
+        5 => match counted_form(row.items.as_slice()) {
+            Some(form) => function_over(alloc, types, form),
+            None => Ok(None),
+        },
+        _ => Ok(None),
     }
 }

@@ -1,7 +1,6 @@
 //! What the first rows of a table are.
 
 ghost use Rattle.std.specs.Prelude.{ℕ, List, [], IfOk, OnOk};
-ghost use Rattle.std.specs.Option.{option_copied};
 ghost use Rattle.semantic_objects.specs.Nodes.{AreNodes};
 ghost use Rattle.row_entries.specs.Told.{AreEntries, TellsEntry, ToldAt};
 
@@ -33,22 +32,22 @@ impl EntryRows {
         }
     }
 
-    /// The scheme that the row at a place is. A place past the end is refused as want of memory is.
-    pub fn scheme_at(&self, place: usize) -> Result<Option<&Scheme>, NoMemory>
-        ensures { IfOk result (λ found. ToldAt self.now.schemes place (option_copied found)) }
+    /// The scheme that the row at a place is, if it is one. A place past the end is refused as want of memory is.
+    pub fn scheme_at(&self, place: usize) -> Result<&Option<Scheme>, NoMemory>
+        ensures { IfOk result (λ told. ToldAt self.now.schemes place told.now) }
     {
         match self.schemes.get(place) {
-            Some(told) => Ok(told.as_ref()),
+            Some(told) => Ok(told),
             None => Err(NoMemory),
         }
     }
 
-    /// The type function that the row at a place is.
-    pub(crate) fn function_at(&self, place: usize) -> Result<Option<&TypeFn>, NoMemory>
-        ensures { IfOk result (λ found. ToldAt self.now.functions place (option_copied found)) }
+    /// The type function that the row at a place is, if it is one.
+    pub(crate) fn function_at(&self, place: usize) -> Result<&Option<TypeFn>, NoMemory>
+        ensures { IfOk result (λ told. ToldAt self.now.functions place told.now) }
     {
         match self.functions.get(place) {
-            Some(told) => Ok(told.as_ref()),
+            Some(told) => Ok(told),
             None => Err(NoMemory),
         }
     }
@@ -69,5 +68,6 @@ pub fn note_entry(
     let scheme = scheme_row(alloc, &rows.types, row)?;
     note_row(alloc, home, &mut rows.types, row)?;
     rows.functions.add(function)?;
-    rows.schemes.add(scheme)
+    rows.schemes.add(scheme)?;
+    Ok(())
 }

@@ -13,9 +13,6 @@ use semantic_objects::Scheme;
 use shared_types::type_at;
 use std::alloc::Global;
 
-/// The tag of schemes.
-const SCHEME: u8 = 6;
-
 /// The scheme of marks and the type at a place, if its variables are numbered by first occurrence and each mark is that
 /// of one.
 fn scheme_over(
@@ -46,11 +43,11 @@ pub(crate) fn scheme_row(
     requires { AreNodes types.now.nodes }
     ensures { IfOk result (TellsScheme types.now row.now) }
 {
-    if row.tag != SCHEME {
-        return Ok(None);
-    }
-    match scheme_form(alloc, row.items.as_slice())? {
-        Some(form) => scheme_over(alloc, types, form),
-        None => Ok(None),
+    match row.tag {
+        6 => match scheme_form(alloc, row.items.as_slice())? {
+            Some(form) => scheme_over(alloc, types, form),
+            None => Ok(None),
+        },
+        _ => Ok(None),
     }
 }

@@ -10,11 +10,9 @@ use interface_conditions::are_names;
 use interface_nodes::NamedPlace;
 use node_bytes::Row;
 use row_forms::{TypeForm, type_form};
-use semantic_objects::{ConEntry, Scheme, TypeFn, TypeStr};
+use semantic_objects::{ConEntry, Scheme, TypeStr};
+use sml_modules::copy_function;
 use std::alloc::Global;
-
-/// The tag of type structures.
-const STRUCTURE: u8 = 7;
 
 /// The same scheme.
 fn copy_scheme(alloc: Global, scheme: &Scheme) -> Result<Scheme, NoMemory>
@@ -22,16 +20,6 @@ fn copy_scheme(alloc: Global, scheme: &Scheme) -> Result<Scheme, NoMemory>
 {
     let parts = scheme.parts(alloc)?;
     Scheme::make(parts.marks, parts.body)
-}
-
-/// The same type function.
-fn copy_function(alloc: Global, function: &TypeFn) -> Result<TypeFn, NoMemory>
-    ensures { IfOk result (λ copy. copy ≡ function.now) }
-{
-    Ok(TypeFn {
-        arity: function.arity,
-        body: function.body.copy(alloc)?,
-    })
 }
 
 /// The names of rows.
@@ -56,10 +44,11 @@ fn cons_of(
     let mut cons = List::new(alloc);
     for row in table {
         match rows.scheme_at(row.place)? {
-            Some(scheme) => cons.add(ConEntry {
-                name: row.name.copy()?,
-                scheme: copy_scheme(alloc, scheme)?,
-            })?,
+            Some(scheme) => {
+                let name = row.name.copy()?;
+                let scheme = copy_scheme(alloc, scheme)?;
+                cons.add(ConEntry { name, scheme })?;
+            }
             None => return Ok(None),
         }
     }
@@ -84,8 +73,11 @@ fn structure_over(
     let Some(cons) = cons_of(alloc, rows, form.cons.as_slice())? else {
         return Ok(None);
     };
-    let function = copy_function(alloc, function)?;
-    Ok(Some(TypeStr { function, cons }))
+    let copied = copy_function(alloc, function)?;
+    Ok(Some(TypeStr {
+        function: copied,
+        cons,
+    }))
 }
 
 /// The type structure that a row is.
@@ -96,11 +88,11 @@ pub fn structure_row(
 ) -> Result<Option<TypeStr>, NoMemory>
     ensures { IfOk result (TellsStructure rows.now row.now) }
 {
-    if row.tag != STRUCTURE {
-        return Ok(None);
-    }
-    match type_form(alloc, row.items.as_slice())? {
-        Some(form) => structure_over(alloc, rows, &form),
-        None => Ok(None),
+    match row.tag {
+        7 => match type_form(alloc, row.items.as_slice())? {
+            Some(form) => structure_over(alloc, rows, &form),
+            None => Ok(None),
+        },
+        _ => Ok(None),
     }
 }

@@ -12,18 +12,17 @@ use semantic_objects::{TypeNode, TypeTree};
 use std::alloc::Global;
 
 /// How many variables were met, where the next one is met after the first ones, if it is one of them or the next one.
-#[tactic(auto, using(crate::proofs::Numbered::met_before, crate::proofs::Numbered::met_next, crate::proofs::Numbered::met_late))]
 fn next_after(variable: u32, count: usize) -> Option<usize>
     ensures { NumbersOn count (variable ∷ []) result }
 {
-    let variable = variable as usize;
-    if variable < count {
+    let place = variable as usize;
+    if place < count {
         return Some(count);
     }
-    if variable != count {
+    if place != count {
         return None;
     }
-    Some(variable + 1)
+    Some(place + 1)
 }
 
 /// .. where a node is visited after the first ones were met.

@@ -60,3 +60,12 @@ entry_added home old new row function scheme is f s t e g made told = record {
   schemes = all_push (IsSchemeOf home) made old.schemes new.schemes (row_node made row) scheme told.schemes
       (s home made told.types) g;
 }
+
+-- no row is told yet
+pub entries_none : (home : List ℕ) (rows : EntryRows) → Rattle.row_types.specs.Told.AreTold home [] rows.types
+    → rows.functions ≡ [] → rows.schemes ≡ [] → AreEntries home [] rows
+entries_none home rows t e f = record {
+  types = t;
+  functions = none_told (IsFunctionOf home) rows.functions e;
+  schemes = none_told (IsSchemeOf home) rows.schemes f;
+}
