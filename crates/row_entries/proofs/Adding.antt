@@ -7,7 +7,6 @@ use Rattle.node_bytes.specs.declared.table.Row.{Row}
 use Rattle.semantic_objects.specs.declared.entry.TypeFn.{TypeFn}
 use Rattle.semantic_objects.specs.Trees.{TypeScheme}
 use Rattle.interface_nodes.specs.Fields.{node_at}
-use Rattle.row_types.specs.declared.rows.TypeRows.{TypeRows}
 use Rattle.row_types.specs.Told.{TellsRow}
 use Rattle.row_types.proofs.Added.{last_item, split_below}
 use Rattle.row_entries.specs.declared.rows.EntryRows.{EntryRows}

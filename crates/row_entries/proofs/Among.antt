@@ -1,9 +1,9 @@
 -- Types below a binder of so many variables.
-use Rattle.std.proofs.Common.{◌≡◌, ℕ, ◌+◌, ◌<◌, ◌≤◌, refl, sym, ap, ap₂, subst, ◌∙◌, arith, List, [], ◌∷◌, ◌++◌, length, Bool, true, false, ◌||◌, eqb}
-use Rattle.std.specs.List.{range_with_len, flat_map}
+use Rattle.std.proofs.Common.{◌≡◌, ℕ, ◌<◌, ◌≤◌, refl, sym, ap, subst, ◌∙◌, arith, List, [], ◌∷◌, ◌++◌, Bool, true, false, ◌||◌, eqb}
+use Rattle.std.specs.List.{flat_map}
 use Rattle.std.specs.Prelude.{IsTrue}
 use Rattle.std.proofs.lemmas.Bool.{eq-eqb, eqb-true}
-use Rattle.unification.specs.Closing.{is_among, bound_in}
+use Rattle.unification.specs.Closing.{is_among}
 use Rattle.unification.proofs.Walking.{or_left, or_right, or_either}
 use Rattle.semantic_objects.specs.Trees.{Tree, Trees, binds, binds_any, BindsBelow}
 use Rattle.semantic_objects.specs.Nodes.{AreBelow}

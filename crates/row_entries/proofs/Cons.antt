@@ -1,12 +1,12 @@
 -- Tables whose rows are told one by one, and type structures over them.
-use Rattle.std.proofs.Common.{◌≡◌, ◌≢◌, ℕ, zero, suc, ◌+◌, ◌<◌, refl, sym, ap, ap₂, subst, ◌∙◌, arith, List, [], ◌∷◌, ◌++◌, length, map, take, get_or, Option, Some, None, Bool, true, false}
+use Rattle.std.proofs.Common.{◌≡◌, ◌≢◌, ℕ, zero, suc, ◌+◌, ◌<◌, refl, sym, ap, ap₂, subst, ◌∙◌, arith, List, [], ◌∷◌, ◌++◌, length, map, take, get_or, Option, Some, None}
 use Rattle.std.specs.Prelude.{All}
 use Rattle.std.specs.List.{AllByRecursion}
 use Rattle.std.proofs.lemmas.List.{map-append, take_more}
 use Rattle.std.proofs.lemmas.List.Elements.{All-nil, All-cons, All-head, All-tail}
 use Rattle.node_bytes.specs.Nodes.{Node, Content}
 use Rattle.node_bytes.specs.Shapes.{with_list}
-use Rattle.node_bytes.specs.Tables.{content_of, row_node}
+use Rattle.node_bytes.specs.Tables.{content_of}
 use Rattle.node_bytes.specs.declared.table.Item.{Item}
 use Rattle.node_bytes.specs.declared.table.Row.{Row}
 use Rattle.semantic_objects.specs.declared.entry.ConEntry.{ConEntry}
@@ -15,7 +15,7 @@ use Rattle.semantic_objects.specs.declared.entry.TypeStr.{TypeStr}
 use Rattle.semantic_objects.specs.Tables.{Table}
 use Rattle.semantic_objects.specs.Trees.{TypeScheme}
 use Rattle.interface_format.specs.Tags.{with_named, type_structure_node}
-use Rattle.interface_format.specs.Trees.{node_of_function, node_of_scheme, node_of_type, row_of_con}
+use Rattle.interface_format.specs.Trees.{node_of_function, row_of_con}
 use Rattle.interface_format.specs.Rules.{IsNumber, IsName, IsClosed, IsTypeStructure, AreNames}
 use Rattle.interface_format.proofs.Told.{part_told, list_told, named_told}
 use Rattle.interface_format.proofs.Entries.{rows_counted}

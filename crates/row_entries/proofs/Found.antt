@@ -1,26 +1,25 @@
 -- Rows that are type functions and schemes, and rows that are none.
-use Rattle.std.proofs.Common.{◌≡◌, ◌≢◌, ℕ, refl, sym, ap, ap₂, subst, ◌∙◌, arith, List, [], ◌∷◌, length, map, Bool, true, false, Option, Some, None}
+use Rattle.std.proofs.Common.{◌≡◌, ◌≢◌, ℕ, refl, sym, ap, ap₂, subst, ◌∙◌, arith, List, length, map, Bool, true, false, Option, Some, None}
 use Rattle.std.specs.Prelude.{IsTrue}
-use Rattle.std.proofs.lemmas.List.{length-map}
 use Rattle.node_bytes.specs.Nodes.{Node, Content}
 use Rattle.node_bytes.specs.Shapes.{with_number, with_text}
 use Rattle.node_bytes.specs.Tables.{content_of, row_node}
 use Rattle.node_bytes.specs.declared.table.Item.{Item}
 use Rattle.node_bytes.specs.declared.table.Row.{Row}
 use Rattle.semantic_objects.specs.declared.entry.TypeFn.{TypeFn}
-use Rattle.semantic_objects.specs.Trees.{Tree, TypeScheme, BindsBelow}
+use Rattle.semantic_objects.specs.Trees.{Tree, TypeScheme}
 use Rattle.semantic_objects.specs.Nodes.{tree_at}
 use Rattle.interface_format.specs.Tags.{bool_byte, function_node, scheme_node}
-use Rattle.interface_format.specs.Trees.{type_node, node_of_function, node_of_scheme}
-use Rattle.interface_format.specs.Rules.{IsNumber, IsType, IsFunction, IsClosed}
+use Rattle.interface_format.specs.Trees.{type_node}
+use Rattle.interface_format.specs.Rules.{IsNumber, IsType}
 use Rattle.interface_format.proofs.Told.{number_then_told, part_told, text_rest, marks_told}
 use Rattle.interface_format.proofs.Types.{type_told}
 use Rattle.interface_nodes.specs.Fields.{node_at}
 use Rattle.row_types.specs.declared.rows.TypeRows.{TypeRows}
-use Rattle.row_types.specs.Told.{most, Told, NoType, IsTypeOf, AreTold, Stands}
+use Rattle.row_types.specs.Told.{most, Told, IsTypeOf, AreTold, Stands}
 use Rattle.row_forms.specs.declared.entries.CountedForm.{CountedForm}
 use Rattle.row_forms.specs.declared.entries.SchemeForm.{SchemeForm}
-use Rattle.row_forms.specs.Forms.{IsForm, NeverForm, with_counted, FitsCounted, counted_at, with_scheme, FitsScheme, scheme_at, AreMarks}
+use Rattle.row_forms.specs.Forms.{IsForm, NeverForm, with_counted, FitsCounted, counted_at, with_scheme, FitsScheme, scheme_at}
 use Rattle.row_entries.specs.Variables.{AreFirst, AreAmong}
 use Rattle.row_entries.specs.Told.{IsFunctionOf, IsSchemeOf, FindsFunction, FindsScheme, TellsFunction, TellsScheme}
 use Rattle.row_entries.proofs.Among.{type_among, type_below, first_among, most_number}
