@@ -1,0 +1,4 @@
+pub mod Tabled
+pub mod Valued
+pub mod Placing
+pub mod Enving
