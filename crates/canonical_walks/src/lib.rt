@@ -5,4 +5,4 @@
 mod binders;
 mod tops;
 
-pub use tops::{canon, names_of_top};
+pub use tops::canon;

@@ -6,7 +6,7 @@ ghost use Rattle.sml_modules.specs.Items.{Item, at};
 ghost use Rattle.sml_modules.specs.Graphs.{top_at, HasTop, GivesTop};
 ghost use Rattle.sml_modules.specs.Nodes.{AreTopTables, top_of_tables};
 ghost use Rattle.sml_modules.specs.Adding.{Extends};
-ghost use Rattle.realisation.specs.Names.{names_in_top, once};
+ghost use Rattle.realisation.specs.Names.{names_in_top};
 ghost use Rattle.realisation.specs.Canonical.{met, is_own, canonical};
 ghost use Rattle.name_walks.specs.Places.{HasAll, names_in_all};
 ghost use Rattle.canonical_types.specs.Orders.{by_order};
@@ -18,7 +18,6 @@ use cm_base::{List, NoMemory};
 use env_parts::{Rows, TopTables};
 use environment_walks::{Images, change_env};
 use name_walks::names_of_all;
-use semantic_objects::TyName;
 use sml_modules::{EnvGraph, EnvId, Node, TopId};
 
 /// Adds the environments of the signature or the functor at a place.
@@ -60,17 +59,6 @@ fn envs_of(graph: &EnvGraph, tables: &TopTables) -> Result<List<EnvId>, NoMemory
     add_rows(graph, &tables.functors, &mut envs)?;
     add_rows(graph, &tables.funsigs, &mut envs)?;
     Ok(envs)
-}
-
-/// The type names that occur in a top, each once, in the order of the walk: those of its environment, then those of its
-/// signatures, functors and signatures of functors, each by the byte order of their names.
-pub fn names_of_top(graph: &EnvGraph, top: TopId) -> Result<List<TyName>, NoMemory>
-    requires { HasTop graph.now top }
-    ensures { IfOk result (λ names. names ≡ once (names_in_top (top_at graph.now top))) }
-{
-    let tables = graph.top_tables(top)?;
-    let envs = envs_of(graph, tables)?;
-    names_of_all(graph, &envs)
 }
 
 /// The names of the unit that occur in a top, by first occurrence.
