@@ -3,7 +3,6 @@ use Rattle.std.proofs.Common.{◌≡◌, ℕ, refl, sym, ap, ap₂, subst, ◌�
 use Rattle.std.specs.Prelude.{eqb, cond}
 use Rattle.std.specs.List.{list_all}
 use Rattle.std.proofs.lemmas.Bool.{and_parts, and_from, eqb-true, eq-eqb}
-use Rattle.std.proofs.lemmas.List.{append-assoc}
 use Rattle.unification.proofs.Walking.{either_way, or_left, or_right, or_either}
 use Rattle.semantic_objects.specs.declared.name.Owner.{Owner}
 use Rattle.semantic_objects.specs.declared.name.Owner.TheVariants as owner
@@ -14,11 +13,12 @@ use Rattle.realisation.specs.Canonical.{is_bound_name}
 use Rattle.realisation.proofs.Listing.{name_is, name_same, listed_left, listed_right}
 use Rattle.canonical_laws.proofs.Names.{filter_listed, filter_passes, filter_keeps}
 use Rattle.interface_format.specs.Rules.{Agree, is_not_bound}
-use Rattle.initial_basis.specs.Basis.{basis_type_names}
+use Rattle.initial_basis.specs.Table.{type_lines}
+use Rattle.initial_basis.specs.Basis.{basis_names, basis_type_names}
 use Rattle.interface_tops.specs.Conditions.{agrees_with, agree}
 use Rattle.interface_tops.proofs.Conditions.{owner_is, owner_itself, same_facts, all_where, at_listed, agreeing}
 use Rattle.imported_interfaces.specs.declared.known.Standing.{Standing}
-use Rattle.imported_interfaces.specs.declared.known.Standing.TheVariants as standing
+use Rattle.imported_interfaces.specs.declared.known.Standing.TheVariants as stands
 use Rattle.imported_interfaces.specs.Usable.{is_of_basis, is_in_basis, is_as_in_basis, writes_the_basis, is_of_another, writes_no_name_of, agrees_with_all, agree_with, names_fit}
 use Rattle.imported_interfaces.specs.Known.{key_of, standing, may_stand, fits, with_new, noted, noted_all, Knows}
 use Rattle.imported_interfaces.proofs.Standing.{OfOne, IsOther, when_new, when_same, when_other}
@@ -85,11 +85,11 @@ agree_at m n h l r one = h.agree m n l r one.owner one.number
 -- ---- the basis
 
 all_of_basis : list_all (λ (n : TyName). is_of_basis n.owner) basis_type_names ≡ true
-unfolding Rattle.initial_basis.specs.Basis.basis_names
+unfolding basis_names type_lines
 all_of_basis = refl
 
 pub basis_agrees : Agree basis_type_names
-unfolding Rattle.initial_basis.specs.Basis.basis_names
+unfolding basis_names type_lines
 basis_agrees = (agreeing basis_type_names).yes refl
 
 -- a name of the basis is one of its names, where names are as the basis has them
@@ -99,9 +99,6 @@ basis_listed names n h l b =
     sym (ap (λ z. not z || is_in_basis n) b) ∙ at_listed is_as_in_basis names n h l
 
 -- ---- names that fit
-
-abbrev has_all : List TyName → List TyName → Type 0
-has_all known earlier = Knows known earlier
 
 -- a known name of the same owner and number is the name itself, where the conditions hold
 known_is : (known earlier names : List TyName) → Knows known earlier → writes_the_basis names ≡ true
@@ -125,18 +122,18 @@ one_fits known earlier names unit k h n l =
     let parts = and_parts (writes_the_basis names) (writes_no_name_of unit names && agree_with earlier names) h in
     let more = and_parts (writes_no_name_of unit names) (agree_with earlier names) parts.1 in
     and_from (is_of_another unit n) (may_stand (standing n known) n.owner)
-    (at_listed (is_of_another unit) names n more.0 l) (stands (standing n known) refl parts.0 more.1)
+    (at_listed (is_of_another unit) names n more.0 l) (may (standing n known) refl parts.0 more.1)
   where
-    stands : (is : Standing) → standing n known ≡ is → writes_the_basis names ≡ true → agree_with earlier names ≡ true
+    may : (is : Standing) → standing n known ≡ is → writes_the_basis names ≡ true → agree_with earlier names ≡ true
         → may_stand (standing n known) n.owner ≡ true
-    stands standing.Same e basis agree = ap (λ z. may_stand z n.owner) e
-    stands standing.New e basis agree = ap (λ z. may_stand z n.owner) e
+    may stands.Same e basis agree = ap (λ z. may_stand z n.owner) e
+    may stands.New e basis agree = ap (λ z. may_stand z n.owner) e
         ∙ either_way (is_of_basis n.owner)
         (λ b. absurd (when_new n known e n
         (k.covers n (listed_left n basis_type_names earlier (basis_listed names n basis l b)))
         (record { owner = refl; number = refl })))
         (λ b. ap not b)
-    stands standing.Other e basis agree =
+    may stands.Other e basis agree =
         let other = when_other n known e in
         absurd (let same = known_is known earlier names k basis agree other.known n other.listed l other.of_one in
           let t : true ≡ false = sym (name_same n) ∙ ap (λ z. same_name z n) (sym same) ∙ other.apart in cc)
@@ -163,14 +160,14 @@ fits_told known earlier unit n k h =
 
     told : (is : Standing) → standing n known ≡ is → may_stand (standing n known) n.owner ≡ true
         → (is_as_in_basis n ≡ true) × (agrees_with_all earlier n ≡ true)
-    told standing.Same e m = same (when_same n known e)
-    told standing.New e m = (
+    told stands.Same e m = same (when_same n known e)
+    told stands.New e m = (
       or_left (not (is_of_basis n.owner)) (is_in_basis n) (sym (ap (λ z. may_stand z n.owner) e) ∙ m),
       all_where (λ m. agrees_with m n) earlier
           (λ m l. agrees m n (λ one. absurd (when_new n known e m
           (k.covers m (listed_right m basis_type_names earlier l)) one))),
     )
-    told standing.Other e m = absurd (let t : false ≡ true = sym (ap (λ z. may_stand z n.owner) e) ∙ m in cc)
+    told stands.Other e m = absurd (let t : false ≡ true = sym (ap (λ z. may_stand z n.owner) e) ∙ m in cc)
 
 same_answer : (a b : Bool) → (a ≡ true → b ≡ true) → (b ≡ true → a ≡ true) → a ≡ b
 same_answer true true f g = refl
@@ -222,9 +219,9 @@ kept_one known n m l = either_way (is_bound_name n)
     (sym (ap (λ z. cond z known (with_new (standing n known) known n)) b)) (stays (standing n known)))
   where
     stays : (is : Standing) → is_listed m (with_new is known n) ≡ true
-    stays standing.New = listed_left m known (n ∷ []) l
-    stays standing.Same = l
-    stays standing.Other = l
+    stays stands.New = listed_left m known (n ∷ []) l
+    stays stands.Same = l
+    stays stands.Other = l
 
 kept_all : (known names : List TyName) (m : TyName) → is_listed m known ≡ true
     → is_listed m (noted_all known names) ≡ true
@@ -232,10 +229,6 @@ kept_all known [] m l = l
 kept_all known (n ∷ ns) m l = kept_all (noted known n) ns m (kept_one known n m l)
 
 -- what is noted was known, or is one of the names
-abbrev Came : List TyName → List TyName → TyName → Type 0
-Came known names m =
-    {P : Type 0} → (is_listed m known ≡ true → P) → (is_listed m names ≡ true → is_bound_name m ≡ false → P) → P
-
 came_one : {P : Type 0} (known : List TyName) (n m : TyName) → is_listed m (noted known n) ≡ true
     → (is_listed m known ≡ true → P) → (m ≡ n → is_bound_name n ≡ false → P) → P
 came_one {P} known n m l f g = either_way (is_bound_name n)
@@ -244,10 +237,10 @@ came_one {P} known n m l f g = either_way (is_bound_name n)
     (subst (λ z. is_listed m z ≡ true) (ap (λ z. cond z known (with_new (standing n known) known n)) b) l) b)
   where
     came : (is : Standing) → is_listed m (with_new is known n) ≡ true → is_bound_name n ≡ false → P
-    came standing.New h b = either_listed m known (n ∷ []) h f
+    came stands.New h b = either_listed m known (n ∷ []) h f
         (λ r. or_either (same_name m n) false r (λ e. g (name_is m n e) b) (λ e. absurd (cc)))
-    came standing.Same h b = f h
-    came standing.Other h b = f h
+    came stands.Same h b = f h
+    came stands.Other h b = f h
 
 came_all : {P : Type 0} (known names : List TyName) (m : TyName) → is_listed m (noted_all known names) ≡ true
     → (is_listed m known ≡ true → P) → (is_listed m names ≡ true → is_bound_name m ≡ false → P) → P
@@ -266,10 +259,10 @@ comes_one known n b one =
     (comes (standing n known) refl)
   where
     comes : (is : Standing) → standing n known ≡ is → is_listed n (with_new (standing n known) known n) ≡ true
-    comes standing.New e = subst (λ z. is_listed n (with_new z known n) ≡ true) (sym e)
+    comes stands.New e = subst (λ z. is_listed n (with_new z known n) ≡ true) (sym e)
         (listed_right n known (n ∷ []) (or_left (same_name n n) false (name_same n)))
-    comes standing.Same e = subst (λ z. is_listed n (with_new z known n) ≡ true) (sym e) (when_same n known e)
-    comes standing.Other e =
+    comes stands.Same e = subst (λ z. is_listed n (with_new z known n) ≡ true) (sym e) (when_same n known e)
+    comes stands.Other e =
         let other = when_other n known e in
         absurd (let same = one other.known other.listed other.of_one in
           let t : true ≡ false = sym (name_same n) ∙ ap (λ z. same_name z n) (sym same) ∙ other.apart in cc)

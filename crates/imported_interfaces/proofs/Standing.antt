@@ -11,7 +11,7 @@ use Rattle.type_walks.specs.Tables.{place_among}
 use Rattle.interface_tops.proofs.Conditions.{owner_is, owner_itself, same_facts}
 use Rattle.interface_tops.proofs.Deciding.{Tells, equal}
 use Rattle.imported_interfaces.specs.declared.known.Standing.{Standing}
-use Rattle.imported_interfaces.specs.declared.known.Standing.TheVariants as standing
+use Rattle.imported_interfaces.specs.declared.known.Standing.TheVariants as stands
 use Rattle.imported_interfaces.specs.Known.{key_of, standing_by, standing}
 
 -- ---- keys
@@ -49,29 +49,29 @@ later_listed n m ms h = or_right (same_name n m) (is_listed n ms) h
 first_listed : (n : TyName) (ms : List TyName) → is_listed n (n ∷ ms) ≡ true
 first_listed n ms = or_left (same_name n n) (is_listed n ms) (name_same n)
 
-new_apart : (b : Bool) → standing_by b ≡ standing.New → ⊥
+new_apart : (b : Bool) → standing_by b ≡ stands.New → ⊥
 new_apart true e = cc
 new_apart false e = cc
 
 -- no known name has the key of a new one
-pub when_new : (name : TyName) (names : List TyName) → standing name names ≡ standing.New → (m : TyName)
+pub when_new : (name : TyName) (names : List TyName) → standing name names ≡ stands.New → (m : TyName)
     → is_listed m names ≡ true → OfOne m name → ⊥
 when_new name [] e m l h = absurd (cc)
 when_new name (k ∷ ks) e m l h =
     either_way (same_name (key_of name) (key_of k))
     (λ c. new_apart (same_name k name)
     (sym (ap (λ b. cond b (standing_by (same_name k name)) (standing name ks)) c) ∙ e))
-    (λ c. (let rest : standing name ks ≡ standing.New =
+    (λ c. (let rest : standing name ks ≡ stands.New =
       sym (ap (λ b. cond b (standing_by (same_name k name)) (standing name ks)) c) ∙ e in
     or_either (same_name m k) (is_listed m ks) l
     (λ s. (let t : true ≡ false = sym (one_key k name (subst (λ z. OfOne z name) (name_is m k s) h)) ∙ c in cc))
     (λ r. when_new name ks rest m r h)))
 
-by_same : (k name : TyName) (b : Bool) → same_name k name ≡ b → standing_by b ≡ standing.Same → k ≡ name
+by_same : (k name : TyName) (b : Bool) → same_name k name ≡ b → standing_by b ≡ stands.Same → k ≡ name
 by_same k name true e h = name_is k name e
 by_same k name false e h = absurd (cc)
 
-pub when_same : (name : TyName) (names : List TyName) → standing name names ≡ standing.Same
+pub when_same : (name : TyName) (names : List TyName) → standing name names ≡ stands.Same
     → is_listed name names ≡ true
 when_same name [] e = absurd (cc)
 when_same name (k ∷ ks) e =
@@ -82,12 +82,12 @@ when_same name (k ∷ ks) e =
     (λ c. later_listed name k ks (when_same name ks
     (sym (ap (λ b. cond b (standing_by (same_name k name)) (standing name ks)) c) ∙ e)))
 
-by_other : (k name : TyName) (b : Bool) → same_name k name ≡ b → standing_by b ≡ standing.Other
+by_other : (k name : TyName) (b : Bool) → same_name k name ≡ b → standing_by b ≡ stands.Other
     → same_name k name ≡ false
 by_other k name true e h = absurd (cc)
 by_other k name false e h = e
 
-pub when_other : (name : TyName) (names : List TyName) → standing name names ≡ standing.Other → IsOther name names
+pub when_other : (name : TyName) (names : List TyName) → standing name names ≡ stands.Other → IsOther name names
 when_other name [] e = absurd (cc)
 when_other name (k ∷ ks) e =
     either_way (same_name (key_of name) (key_of k))
@@ -110,7 +110,7 @@ when_other name (k ∷ ks) e =
 -- ---- by the places of keys
 
 pub none_is_new : (name : TyName) (names : List TyName)
-    → place_among (key_of name) (map key_of names) ≡ None → standing name names ≡ standing.New
+    → place_among (key_of name) (map key_of names) ≡ None → standing name names ≡ stands.New
 none_is_new name [] e = refl
 none_is_new name (k ∷ ks) e =
     either_way (is_listed (key_of name) (map key_of (k ∷ ks)))
@@ -119,7 +119,7 @@ none_is_new name (k ∷ ks) e =
     (λ l. not_listed name (k ∷ ks) l)
   where
     not_listed : (n : TyName) (ms : List TyName) → is_listed (key_of n) (map key_of ms) ≡ false
-        → standing n ms ≡ standing.New
+        → standing n ms ≡ stands.New
     not_listed n [] l = refl
     not_listed n (m ∷ ms) l =
         either_way (same_name (key_of n) (key_of m))

@@ -67,14 +67,14 @@ imported_or unit given (Some top) made = Ok (with_import given top made)
 abbrev pub imported_one : List ℕ → Given → Imports → Result Imports Diag
 imported_one unit given made = imported_or unit given (usable_top unit made.names given) made
 
-abbrev mutual
-  pub imported_after : List ℕ → List Given → Imports → Result Imports Diag
-  imported_after unit [] made = Ok made
-  imported_after unit (given ∷ later) made = imported_on unit later (imported_one unit given made)
+-- .. and then more
+abbrev pub then : Result Imports Diag → (Imports → Result Imports Diag) → Result Imports Diag
+then (Err diag) more = Err diag
+then (Ok made) more = more made
 
-  pub imported_on : List ℕ → List Given → Result Imports Diag → Result Imports Diag
-  imported_on unit later (Err diag) = Err diag
-  imported_on unit later (Ok made) = imported_after unit later made
+abbrev pub imported_after : List ℕ → List Given → Imports → Result Imports Diag
+imported_after unit [] made = Ok made
+imported_after unit (given ∷ later) made = then (imported_one unit given made) (λ next. imported_after unit later next)
 
 abbrev pub no_imports : Imports
 no_imports = record { top = empty_top; names = [] }

@@ -10,7 +10,7 @@ use Rattle.type_walks.specs.Tables.{AreTold}
 use Rattle.interface_format.specs.Rules.{Agree}
 use Rattle.initial_basis.specs.Basis.{basis_type_names}
 use Rattle.imported_interfaces.specs.declared.known.Standing.{Standing}
-use Rattle.imported_interfaces.specs.declared.known.Standing.TheVariants as standing
+use Rattle.imported_interfaces.specs.declared.known.Standing.TheVariants as stands
 use Rattle.imported_interfaces.specs.declared.known.KnownNames.{KnownNames}
 use Rattle.imported_interfaces.specs.Usable.{is_of_basis, is_of_another, writes_the_basis}
 
@@ -25,27 +25,27 @@ pub record AreKept (known : KnownNames) : Type 0 where
 
 -- what is known of a name: the first one of its owner with its number counts
 abbrev pub standing_by : Bool → Standing
-standing_by same = cond same standing.Same standing.Other
+standing_by same = cond same stands.Same stands.Other
 
 abbrev pub standing : TyName → List TyName → Standing
-standing name [] = standing.New
+standing name [] = stands.New
 standing name (m ∷ ms) =
     cond (same_name (key_of name) (key_of m)) (standing_by (same_name m name)) (standing name ms)
 
 -- a new name isn't of the basis
 abbrev pub may_stand : Standing → Owner → Bool
-may_stand standing.New owner = not (is_of_basis owner)
-may_stand standing.Same owner = true
-may_stand standing.Other owner = false
+may_stand stands.New owner = not (is_of_basis owner)
+may_stand stands.Same owner = true
+may_stand stands.Other owner = false
 
 abbrev pub fits : List TyName → List ℕ → TyName → Bool
 fits known unit name = is_bound_name name || (is_of_another unit name && may_stand (standing name known) name.owner)
 
 -- names and one more, where it isn't bound and none is known in its place
 abbrev pub with_new : Standing → List TyName → TyName → List TyName
-with_new standing.New known name = known ++ name ∷ []
-with_new standing.Same known name = known
-with_new standing.Other known name = known
+with_new stands.New known name = known ++ name ∷ []
+with_new stands.Same known name = known
+with_new stands.Other known name = known
 
 abbrev pub noted : List TyName → TyName → List TyName
 noted known name = cond (is_bound_name name) known (with_new (standing name known) known name)

@@ -69,7 +69,7 @@ fn fits(known: &KnownNames, unit: &Text, name: &TyName) -> Result<bool, NoMemory
 }
 
 /// Whether all of some names fit.
-pub(crate) fn all_fit(
+pub fn all_fit(
     known: &KnownNames,
     unit: &Text,
     names: &List<TyName>,
@@ -101,7 +101,7 @@ fn note(known: &mut KnownNames, name: &TyName) -> Result<(), NoMemory>
 }
 
 /// Notes all of some names.
-pub(crate) fn note_all(known: &mut KnownNames, names: &List<TyName>) -> Result<(), NoMemory>
+pub fn note_all(known: &mut KnownNames, names: &List<TyName>) -> Result<(), NoMemory>
     requires { AreKept known.old }
     ensures names { OnOk result (known.new.names ≡ noted_all known.old.names names.now) }
     ensures kept { OnOk result (AreKept known.new) }
@@ -112,15 +112,25 @@ pub(crate) fn note_all(known: &mut KnownNames, names: &List<TyName>) -> Result<(
     Ok(())
 }
 
+/// Adds some names.
+fn add_all(known: &mut KnownNames, names: &List<TyName>) -> Result<(), NoMemory>
+    requires { AreKept known.old }
+    ensures names { OnOk result (known.new.names ≡ known.old.names ++ names.now) }
+    ensures kept { OnOk result (AreKept known.new) }
+{
+    for name in names.as_slice() {
+        known.add(name)?;
+    }
+    Ok(())
+}
+
 /// The type names of the initial basis as those that are known.
-pub(crate) fn known_at_first(alloc: Global) -> Result<KnownNames, NoMemory>
+pub fn known_at_first(alloc: Global) -> Result<KnownNames, NoMemory>
     ensures names { IfOk result (λ known. known.names ≡ basis_type_names) }
     ensures kept { IfOk result AreKept }
 {
     let names = basis_type_names(alloc)?;
     let mut known = KnownNames::new(alloc);
-    for name in names.as_slice() {
-        known.add(name)?;
-    }
+    add_all(&mut known, &names)?;
     Ok(known)
 }

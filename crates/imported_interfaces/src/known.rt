@@ -10,7 +10,7 @@ use type_walks::NameTable;
 
 /// What is known of a type name: no name of its owner has its number, or it is known itself, or another one is.
 #[derive(Clone, Copy, Debug, PartialEq, Eq)]
-pub(crate) enum Standing {
+pub enum Standing {
     New,
     Same,
     Other,
@@ -28,14 +28,14 @@ fn key_of(name: &TyName) -> Result<TyName, NoMemory>
 
 /// Type names in a list, with the first place of each owner and number.
 #[derive(Drop)]
-pub(crate) struct KnownNames {
+pub struct KnownNames {
     pub(crate) names: List<TyName>,
     pub(crate) keys: NameTable,
 }
 
 impl KnownNames {
     /// No name.
-    pub(crate) fn new(alloc: Global) -> KnownNames
+    pub fn new(alloc: Global) -> KnownNames
         ensures names { result.names ≡ [] }
         ensures kept { AreKept result }
     {
@@ -46,7 +46,7 @@ impl KnownNames {
     }
 
     /// What is known of a name.
-    pub(crate) fn standing(&self, name: &TyName) -> Result<Standing, NoMemory>
+    pub fn standing(&self, name: &TyName) -> Result<Standing, NoMemory>
         requires { AreKept self.now }
         ensures { IfOk result (λ is. is ≡ standing name.now self.now.names) }
     {
@@ -62,7 +62,7 @@ impl KnownNames {
     }
 
     /// Adds a name at the end. After want of memory the names are of no use.
-    pub(crate) fn add(&mut self, name: &TyName) -> Result<(), NoMemory>
+    pub fn add(&mut self, name: &TyName) -> Result<(), NoMemory>
         requires { AreKept self.old }
         ensures names { OnOk result (self.new.names ≡ self.old.names ++ name.now ∷ []) }
         ensures kept { OnOk result (AreKept self.new) }

@@ -3,3 +3,6 @@
 
 mod fitting;
 mod known;
+
+pub use fitting::{all_fit, known_at_first, note_all};
+pub use known::KnownNames;
