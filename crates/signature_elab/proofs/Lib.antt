@@ -1,0 +1,3 @@
+pub mod Forms
+pub mod Chaining
+pub mod Ending

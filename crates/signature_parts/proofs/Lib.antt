@@ -1,0 +1,5 @@
+pub mod Binding
+pub mod Again
+pub mod Adding
+pub mod Finishing
+pub mod Elaborated
