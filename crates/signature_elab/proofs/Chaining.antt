@@ -13,7 +13,7 @@ use Rattle.semantic_objects.specs.Environments.{Env, Signature, Top, modified_by
 use Rattle.sml_modules.specs.declared.id.TopId.{TopId}
 use Rattle.sml_modules.specs.declared.parts.SigParts.{SigParts}
 use Rattle.sml_modules.specs.Items.{map_rows}
-use Rattle.sml_modules.specs.Graphs.{Graph, signature_of, HasSigParts, HasTop}
+use Rattle.sml_modules.specs.Graphs.{Graph, signature_of, top_at, HasSigParts, HasTop}
 use Rattle.type_nodes.specs.Tables.{Table, type_of}
 use Rattle.unification.specs.Types.{Ty}
 use Rattle.bare_phrases.specs.Phrases.{TyPhrase}
@@ -35,7 +35,12 @@ use Rattle.signature_parts.specs.Ending.{structure_specified}
 use Rattle.signature_parts.specs.Growing.{Grows, IsUnder, IsBound, IsOpenSig, IsSpecified, IsListed}
 use Rattle.signature_parts.proofs.Again.{specified_again, with_nothing}
 use Rattle.signature_parts.proofs.Elaborated.{grows_self, grows_then, grows_nodes, envs_kept, so_far_kept, scope_kept, names_same}
-use Rattle.signature_elab.specs.Phrases.{infer_added, infer_structure, signatures_at, IsReady, IsOwn, IsReadyIn}
+use Rattle.pattern_elab.specs.declared.own.OwnVariable.{OwnVariable}
+use Rattle.module_scopes.specs.declared.defined.Defined.{Defined}
+use Rattle.module_scopes.specs.declared.top.TopScope.{TopScope}
+use Rattle.module_scopes.specs.Tops.{signatures_over, IsDefinedIn, IsTopScope}
+use Rattle.module_scopes.proofs.Tops.{tops_stay}
+use Rattle.signature_elab.specs.Phrases.{infer_added, infer_structure, signatures_seen, IsOwn, IsReadyIn, KeepsNames}
 
 -- ---- steps of inference
 
@@ -445,30 +450,67 @@ specs_end {V} {sigs} {g} {h} {t} {u} {past} {made} {old} {new} {specs} {left} s 
 
 -- ---- what is asked of a scope, later
 
-pub ready_later : {V : Type 0} {g h : Graph} {sc now : Bindings V} {top : TopId} → Grows g h → now ≡ sc
-    → IsReady g top sc → IsReady h top now
-ready_later {V} {g} {h} {sc} {now} {top} k e r = record {
-  top = k.keeps.has_top top r.top;
-  there = subst (IsScopeOf h) (sym e) (scope_there g h k.keeps sc r.there);
-}
+pub names_self : (top : TopScope) → KeepsNames top top
+names_self top = record { given = refl; defined = refl }
 
-pub signatures_kept : {g h : Graph} {top : TopId} → Grows g h → HasTop g top → signatures_at h top ≡ signatures_at g top
-signatures_kept {g} {h} {top} k there = ap (λ (t : Top). t.signatures) (k.keeps.top top there)
+pub names_then : {a b c : TopScope} → KeepsNames a b → KeepsNames b c → KeepsNames a c
+names_then h k = record { given = k.given ∙ h.given; defined = k.defined ∙ h.defined }
 
-pub specs_ready : {V : Type 0} {sigs : Named Signature} {g h : Graph} {t u : Table} {past made : Specified}
-    {old new : Bindings V} {specs left : SpecPhrases} {top : TopId}
-    → SpecsSoFar sigs g h t u past made old new specs left → IsReadyIn g top past old → IsReadyIn h top made new
-specs_ready {V} {sigs} {g} {h} {t} {u} {past} {made} {old} {new} {specs} {left} {top} s r = record {
-  ready = record { top = s.graph.keeps.has_top top r.ready.top; there = s.bound.there };
-  envs = s.bound.envs;
-  own = specs_own s r.own;
+-- only what phrases of the core see is another
+pub names_core : (top : TopScope) (core : Bindings OwnVariable) → KeepsNames top (record top { core = core })
+names_core top core = record { given = refl; defined = refl }
+
+module _ {g h : Graph} {old new : TopScope} (k : Grows g h) (r : IsTopScope g old) (n : KeepsNames old new) where
+  pub signatures_kept : signatures_seen h new ≡ signatures_seen g old
+  signatures_kept =
+      ap₂ (λ (defined : Defined) (given : TopId). signatures_over h defined.signatures (top_at h given).signatures)
+      n.defined n.given
+      ∙ ap (λ (top : Top). top.signatures) (tops_stay.seen g h old k.keeps r)
+
+  pub top_later : IsScopeOf h new.core → written_of new.core ≡ written_of old.core → IsTopScope h new
+  top_later there e = record {
+    core = there;
+    written = e ∙ r.written;
+    given = subst (HasTop h) (sym n.given) (k.keeps.has_top old.given r.given);
+    defined = subst (IsDefinedIn h) (sym n.defined) (tops_stay.of g h old.defined k.keeps r.defined);
+  }
+
+  pub top_same : new.core ≡ old.core → IsTopScope h new
+  top_same e =
+      top_later (subst (IsScopeOf h) (sym e) (scope_there g h k.keeps old.core r.core))
+      (ap (λ (core : Bindings OwnVariable). written_of core) e)
+
+-- what was specified so far, and the structures that are left, with the names that are in scope
+pub record StructuresIn (sigs : Named Signature) (g h : Graph) (t u : Table) (past made : Specified) (old new : TopScope)
+    (binds left : SigBinds) : Type 0 where
+  pub listed : StructuresSoFar sigs g h t u past made old.core new.core binds left
+  pub names : KeepsNames old new
+
+-- .. and the specifications that are left
+pub record SpecsIn (sigs : Named Signature) (g h : Graph) (t u : Table) (past made : Specified) (old new : TopScope)
+    (specs left : SpecPhrases) : Type 0 where
+  pub listed : SpecsSoFar sigs g h t u past made old.core new.core specs left
+  pub names : KeepsNames old new
+
+pub structures_ready : {sigs : Named Signature} {g h : Graph} {t u : Table} {past made : Specified} {old new : TopScope}
+    {binds left : SigBinds} → StructuresIn sigs g h t u past made old new binds left → IsTopScope g old
+    → IsTopScope h new
+structures_ready s r = top_same s.listed.graph r s.names s.listed.scope
+
+pub specs_ready : {sigs : Named Signature} {g h : Graph} {t u : Table} {past made : Specified} {old new : TopScope}
+    {specs left : SpecPhrases} → SpecsIn sigs g h t u past made old new specs left → IsReadyIn g past old
+    → IsReadyIn h made new
+specs_ready s r = record {
+  ready = top_later s.listed.graph r.ready s.names s.listed.bound.there s.listed.bound.written;
+  envs = s.listed.bound.envs;
+  own = specs_own s.listed r.own;
 }
 
 -- before the first specification
-pub first_ready : {V : Type 0} {g : Graph} {top : TopId} {sc : Bindings V} (made : Specified)
-    → signature_so_far g made ≡ empty_signature → made.structures ≡ [] → IsReady g top sc → IsReadyIn g top made sc
-first_ready {V} {g} {top} {sc} made e none r = record {
+pub first_ready : {g : Graph} {top : TopScope} (made : Specified) → signature_so_far g made ≡ empty_signature
+    → made.structures ≡ [] → IsTopScope g top → IsReadyIn g made top
+first_ready {g} {top} made e none r = record {
   ready = r;
   envs = subst (AreEnvs g) (sym none) tt;
-  own = nothing_specified g made sc e;
+  own = nothing_specified g made top.core e;
 }

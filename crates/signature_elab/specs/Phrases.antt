@@ -6,12 +6,13 @@ use Rattle.sml_trees.specs.declared.sig_exp.SigExp.TheFolds.{fold-SigBind}
 use Rattle.semantic_objects.specs.declared.entry.ValueEntry.{ValueEntry}
 use Rattle.semantic_objects.specs.Tables.{Table as Named}
 use Rattle.semantic_objects.specs.Environments.{Signature, modified_by}
-use Rattle.sml_modules.specs.declared.id.TopId.{TopId}
-use Rattle.sml_modules.specs.Graphs.{Graph, top_at, HasTop}
+use Rattle.sml_modules.specs.Graphs.{Graph}
 use Rattle.static_semantics.specs.Inferring.{Progress, Scope, Answer, ◌>>=◌, gives}
-use Rattle.core_scopes.specs.Scopes.{Bindings, seen, AreEnvs, IsScopeOf}
+use Rattle.core_scopes.specs.Scopes.{Bindings, seen, AreEnvs}
 use Rattle.module_semantics.specs.SigPhrases.{SigPhrase, SpecPhrase, sig_level, spec_level, sig_bind_level}
 use Rattle.module_semantics.specs.SignatureInference.{infer_sig}
+use Rattle.module_scopes.specs.declared.top.TopScope.{TopScope}
+use Rattle.module_scopes.specs.Tops.{top_seen, IsTopScope}
 use Rattle.signature_specs.specs.declared.specified.Specified.{Specified}
 use Rattle.signature_specs.specs.Specs.{env_so_far}
 use Rattle.signature_parts.specs.Ending.{structure_specified, included}
@@ -20,9 +21,14 @@ use Rattle.signature_parts.specs.Ending.{structure_specified, included}
 unfoldable pub bind_phrase : SigBind → Name × SigPhrase
 bind_phrase = fold-SigBind SigPhrase SpecPhrase (Name × SigPhrase) sig_level spec_level sig_bind_level
 
--- the signatures of a top
-abbrev pub signatures_at : Graph → TopId → Named Signature
-signatures_at g top = (top_at g top).signatures
+-- the signatures in scope by their names
+abbrev pub signatures_seen : Graph → TopScope → Named Signature
+signatures_seen g top = (top_seen g top).signatures
+
+-- all in scope but what phrases of the core see is as it was
+pub record KeepsNames (old new : TopScope) : Type 0 where
+  pub given : new.given ≡ old.given
+  pub defined : new.defined ≡ old.defined
 
 -- a signature expression, whose signature is then added to what is specified
 abbrev pub infer_added : Named Signature → (Scope → Signature → Signature → Answer Signature) → Scope → SigPhrase
@@ -36,17 +42,12 @@ abbrev pub infer_structure : Named Signature → Name × SigPhrase → Scope →
 infer_structure sigs bind sc made st =
     infer_added sigs (λ inner sig so. structure_specified inner bind.0 sig so) sc bind.1 made st
 
--- a scope and a top of the graph
-pub record IsReady {V : Type 0} (g : Graph) (top : TopId) (sc : Bindings V) : Type 0 where
-  pub top : HasTop g top
-  pub there : IsScopeOf g sc
-
 -- what is specified so far is in scope: the environment in scope modified by it is itself
 abbrev pub IsOwn : {V : Type 0} → Graph → Specified → Bindings V → Type 0
 IsOwn {V} g made sc = (read : V → ValueEntry) → modified_by (seen g read sc) (env_so_far g made) ≡ seen g read sc
 
--- .. and so are the structures of the graph
-pub record IsReadyIn {V : Type 0} (g : Graph) (top : TopId) (made : Specified) (sc : Bindings V) : Type 0 where
-  pub ready : IsReady g top sc
+-- .. and all that is in scope, and the structures that are specified, are of the graph
+pub record IsReadyIn (g : Graph) (made : Specified) (top : TopScope) : Type 0 where
+  pub ready : IsTopScope g top
   pub envs : AreEnvs g made.structures
-  pub own : IsOwn g made sc
+  pub own : IsOwn g made top.core

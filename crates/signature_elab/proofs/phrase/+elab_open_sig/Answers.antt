@@ -7,133 +7,167 @@ use Rattle.type_phrases.proofs.PartsRead.{drop_item, drop_end}
 use Rattle.module_semantics.specs.SigPhrases.{SigPhrase, SpecPhrase, sig_binds, sig_phrase, spec_phrase, spec_phrases, val_phrase, type_desc_phrase}
 use Rattle.signature_parts.specs.Ending.{structure_specified, included}
 use Rattle.signature_parts.proofs.Elaborated.{grows_nodes, spec_passed, spec_memory, list_passed, sig_passed, sig_memory, listed_bound, listed_fails}
-use Rattle.signature_elab.specs.Phrases.{bind_phrase, signatures_at}
+use Rattle.signature_elab.specs.Phrases.{bind_phrase, signatures_seen}
 use Rattle.signature_elab.proofs.Forms.{sig_phrase-Sig, sig_phrase-Named, sig_phrase-Where, spec_phrase-Vals, spec_phrase-Types, spec_phrase-Eqtypes, spec_phrase-Datatypes, spec_phrase-Replication, spec_phrase-Exceptions, spec_phrase-Structures, spec_phrase-Include, spec_phrase-Sequence, bind_phrase-kept}
-use Rattle.signature_elab.proofs.Chaining.{as_sig, as_spec, as_structure, sig_fails, sig_ends, sig_used, where_fails, where_goes, added_fails, added, structures_begin, structures_next, structures_fail, structures_end, specs_begin, specs_next, specs_fail, specs_end, specs_ready, ready_later, signatures_kept, first_ready}
+use Rattle.signature_elab.proofs.Chaining.{as_sig, as_spec, as_structure, sig_fails, sig_ends, sig_used, where_fails, where_goes, added_fails, added, structures_begin, structures_next, structures_fail, structures_end, structures_ready, specs_begin, specs_next, specs_fail, specs_end, specs_ready, signatures_kept, first_ready, names_self, names_then}
 use Rattle.signature_elab.proofs.phrase.+elab_open_sig.Goals as goal
 
 -- ---- structures
 
 pub elab_structures-loop-bind-init : goal.elab_structures-loop-bind-init
-elab_structures-loop-bind-init g t c =
-    structures_begin (signatures_at c.args.g.now c.args.top) c.args.g.now c.args.t.now c.args.made.now c.args.scope.now
-    (sig_binds (map bind_phrase c.args.binds.now)) c.requires.envs
+elab_structures-loop-bind-init t c = record {
+  listed = structures_begin (signatures_seen c.args.g.now c.args.top.now) c.args.g.now c.args.t.now c.args.made.now
+      c.args.top.now.core (sig_binds (map bind_phrase c.args.binds.now)) c.requires.envs;
+  names = names_self c.args.top.now;
+}
 
 pub elab_structures-loop-bind-preserved : goal.elab_structures-loop-bind-preserved
-elab_structures-loop-bind-preserved g t c =
-    structures_next c.loop-bind.invariant
-    (ap (λ (binds : List SigBind). sig_binds (map bind_phrase binds))
-    (drop_item c.args.binds.now c.loop-bind.bind-index c.bind-item.result c.loop-bind-test.true c.bind-item.is))
-    (signatures_kept c.loop-bind.invariant.graph c.requires.ready.top) c.requires.ready.there
-    c.in_ok-elab_structure.ensures
+elab_structures-loop-bind-preserved t c = record {
+  listed = structures_next c.loop-bind.invariant.listed
+      (ap (λ (binds : List SigBind). sig_binds (map bind_phrase binds))
+      (drop_item c.args.binds.now c.loop-bind.bind-index c.bind-item.result c.loop-bind-test.true c.bind-item.is))
+      (signatures_kept c.loop-bind.invariant.listed.graph c.requires.ready c.loop-bind.invariant.names)
+      c.requires.ready.core c.in_ok-elab_structure.ensures.phrase;
+  names = names_then c.loop-bind.invariant.names c.in_ok-elab_structure.ensures.names;
+}
 
-pub elab_structures-returns-in_err-elab_structure : goal.elab_structures-returns-in_err-elab_structure
-elab_structures-returns-in_err-elab_structure g t c =
+pub elab_structures-returns-in_err-elab_structure-clause-phrase :
+    goal.elab_structures-returns-in_err-elab_structure-clause-phrase
+elab_structures-returns-in_err-elab_structure-clause-phrase t c =
     list_passed c.from_residual.result c.in_err-elab_structure.field-0.0 c.from_residual.ensures.1
-    (structures_fail c.loop-bind.invariant
+    (structures_fail c.loop-bind.invariant.listed
     (ap (λ (binds : List SigBind). sig_binds (map bind_phrase binds))
     (drop_item c.args.binds.now c.loop-bind.bind-index c.bind-item.result c.loop-bind-test.true c.bind-item.is))
-    (signatures_kept c.loop-bind.invariant.graph c.requires.ready.top) c.requires.ready.there
-    c.in_err-elab_structure.ensures)
+    (signatures_kept c.loop-bind.invariant.listed.graph c.requires.ready c.loop-bind.invariant.names)
+    c.requires.ready.core c.in_err-elab_structure.ensures.phrase)
 
-pub elab_structures-returns : goal.elab_structures-returns
-elab_structures-returns g t c =
-    structures_end c.loop-bind.invariant
+pub elab_structures-returns-in_err-elab_structure-clause-names :
+    goal.elab_structures-returns-in_err-elab_structure-clause-names
+elab_structures-returns-in_err-elab_structure-clause-names t c =
+    names_then c.loop-bind.invariant.names c.in_err-elab_structure.ensures.names
+
+pub elab_structures-returns-clause-phrase : goal.elab_structures-returns-clause-phrase
+elab_structures-returns-clause-phrase t c =
+    structures_end c.loop-bind.invariant.listed
     (ap (λ (binds : List SigBind). sig_binds (map bind_phrase binds))
     (drop_end c.args.binds.now c.loop-bind.bind-index c.loop-bind-test.false))
+
+pub elab_structures-returns-clause-names : goal.elab_structures-returns-clause-names
+elab_structures-returns-clause-names t c = c.loop-bind.invariant.names
 
 -- ---- specifications
 
 pub elab_specs-loop-spec-init : goal.elab_specs-loop-spec-init
-elab_specs-loop-spec-init g t c =
-    specs_begin (signatures_at c.args.g.now c.args.top) c.args.g.now c.args.t.now c.args.made.now c.args.scope.now
-    (spec_phrases (map spec_phrase c.args.specs.now)) c.requires.envs c.requires.ready.there c.mark.ensures.front
+elab_specs-loop-spec-init t c = record {
+  listed = specs_begin (signatures_seen c.args.g.now c.args.top.now) c.args.g.now c.args.t.now c.args.made.now
+      c.args.top.now.core (spec_phrases (map spec_phrase c.args.specs.now)) c.requires.envs c.requires.ready.core
+      c.mark.ensures.front;
+  names = names_self c.args.top.now;
+}
 
 pub elab_specs-loop-spec-preserved : goal.elab_specs-loop-spec-preserved
-elab_specs-loop-spec-preserved g t c =
-    specs_next c.loop-spec.invariant c.requires.own
-    (ap (λ (specs : List Spec). spec_phrases (map spec_phrase specs))
-    (drop_item c.args.specs.now c.loop-spec.spec-index c.spec-item.result c.loop-spec-test.true c.spec-item.is))
-    (signatures_kept c.loop-spec.invariant.graph c.requires.ready.top) c.in_ok-elab_spec.ensures
+elab_specs-loop-spec-preserved t c = record {
+  listed = specs_next c.loop-spec.invariant.listed c.requires.own
+      (ap (λ (specs : List Spec). spec_phrases (map spec_phrase specs))
+      (drop_item c.args.specs.now c.loop-spec.spec-index c.spec-item.result c.loop-spec-test.true c.spec-item.is))
+      (signatures_kept c.loop-spec.invariant.listed.graph c.requires.ready c.loop-spec.invariant.names)
+      c.in_ok-elab_spec.ensures.phrase;
+  names = names_then c.loop-spec.invariant.names c.in_ok-elab_spec.ensures.names;
+}
 
-pub elab_specs-returns-in_err-elab_spec : goal.elab_specs-returns-in_err-elab_spec
-elab_specs-returns-in_err-elab_spec g t c =
+pub elab_specs-returns-in_err-elab_spec-clause-phrase : goal.elab_specs-returns-in_err-elab_spec-clause-phrase
+elab_specs-returns-in_err-elab_spec-clause-phrase t c =
     spec_passed c.from_residual.result c.in_err-elab_spec.field-0.0 c.from_residual.ensures.1
-    (specs_fail c.loop-spec.invariant c.requires.own
+    (specs_fail c.loop-spec.invariant.listed c.requires.own
     (ap (λ (specs : List Spec). spec_phrases (map spec_phrase specs))
     (drop_item c.args.specs.now c.loop-spec.spec-index c.spec-item.result c.loop-spec-test.true c.spec-item.is))
-    (signatures_kept c.loop-spec.invariant.graph c.requires.ready.top) c.in_err-elab_spec.ensures)
+    (signatures_kept c.loop-spec.invariant.listed.graph c.requires.ready c.loop-spec.invariant.names)
+    c.in_err-elab_spec.ensures.phrase)
 
-pub elab_specs-returns : goal.elab_specs-returns
-elab_specs-returns g t c =
-    specs_end c.loop-spec.invariant
+pub elab_specs-returns-in_err-elab_spec-clause-names : goal.elab_specs-returns-in_err-elab_spec-clause-names
+elab_specs-returns-in_err-elab_spec-clause-names t c =
+    names_then c.loop-spec.invariant.names c.in_err-elab_spec.ensures.names
+
+pub elab_specs-returns-clause-phrase : goal.elab_specs-returns-clause-phrase
+elab_specs-returns-clause-phrase t c =
+    specs_end c.loop-spec.invariant.listed
     (ap (λ (specs : List Spec). spec_phrases (map spec_phrase specs))
     (drop_end c.args.specs.now c.loop-spec.spec-index c.loop-spec-test.false))
 
+pub elab_specs-returns-clause-names : goal.elab_specs-returns-clause-names
+elab_specs-returns-clause-names t c = c.loop-spec.invariant.names
+
 -- ---- signatures that are added
 
-pub elab_structure-returns-in_err-open : goal.elab_structure-returns-in_err-open
-elab_structure-returns-in_err-open g t c =
+pub elab_structure-returns-in_err-open-clause-phrase : goal.elab_structure-returns-in_err-open-clause-phrase
+elab_structure-returns-in_err-open-clause-phrase t c =
     list_passed c.from_residual.result c.in_err-open.field-0.0 c.from_residual.ensures.1
     (as_structure (bind_phrase-kept c.args.bind.now)
-    (added_fails (λ inner sig so. structure_specified inner (out-SigBind c.args.bind.now).name sig so) c.in_err-open.ensures))
+    (added_fails (λ inner sig so. structure_specified inner (out-SigBind c.args.bind.now).name sig so)
+    c.in_err-open.ensures.phrase))
 
-pub elab_structure-returns-in_ok-open : goal.elab_structure-returns-in_ok-open
-elab_structure-returns-in_ok-open g t c =
+pub elab_structure-returns-in_ok-open-clause-phrase : goal.elab_structure-returns-in_ok-open-clause-phrase
+elab_structure-returns-in_ok-open-clause-phrase t c =
     as_structure (bind_phrase-kept c.args.bind.now)
-    (added (λ inner sig so. structure_specified inner (out-SigBind c.args.bind.now).name sig so) c.requires.ready.there
-    c.requires.envs c.in_ok-open.ensures c.specify_structure.ensures.infers c.specify_structure.ensures.front
+    (added (λ inner sig so. structure_specified inner (out-SigBind c.args.bind.now).name sig so) c.requires.ready.core
+    c.requires.envs c.in_ok-open.ensures.phrase c.specify_structure.ensures.infers c.specify_structure.ensures.front
     c.specify_structure.ensures.envs)
 
-pub elab_included-returns-in_err-open : goal.elab_included-returns-in_err-open
-elab_included-returns-in_err-open g t c =
+pub elab_included-returns-in_err-open-clause-phrase : goal.elab_included-returns-in_err-open-clause-phrase
+elab_included-returns-in_err-open-clause-phrase t c =
     list_passed c.from_residual.result c.in_err-open.field-0.0 c.from_residual.ensures.1
-    (added_fails (λ inner sig so. included inner c.args.at sig so) c.in_err-open.ensures)
+    (added_fails (λ inner sig so. included inner c.args.at sig so) c.in_err-open.ensures.phrase)
 
-pub elab_included-returns-in_ok-open : goal.elab_included-returns-in_ok-open
-elab_included-returns-in_ok-open g t c =
-    added (λ inner sig so. included inner c.args.at sig so) c.requires.ready.there c.requires.envs c.in_ok-open.ensures
-    c.include.ensures.infers c.include.ensures.front c.include.ensures.envs
+pub elab_included-returns-in_ok-open-clause-phrase : goal.elab_included-returns-in_ok-open-clause-phrase
+elab_included-returns-in_ok-open-clause-phrase t c =
+    added (λ inner sig so. included inner c.args.at sig so) c.requires.ready.core c.requires.envs
+    c.in_ok-open.ensures.phrase c.include.ensures.infers c.include.ensures.front c.include.ensures.envs
 
 -- ---- signature expressions
 
-pub elab_open_sig-returns-in_err-elab_spec-in-Sig : goal.elab_open_sig-returns-in_err-elab_spec-in-Sig
-elab_open_sig-returns-in_err-elab_spec-in-Sig g t c =
+pub elab_open_sig-returns-in_err-elab_spec-in-Sig-clause-phrase :
+    goal.elab_open_sig-returns-in_err-elab_spec-in-Sig-clause-phrase
+elab_open_sig-returns-in_err-elab_spec-in-Sig-clause-phrase t c =
     sig_passed c.from_residual.result c.in_err-elab_spec-in-Sig.field-0.0 c.from_residual.ensures.1
     (as_sig (ap sig_phrase c.in-Sig.is ∙ sig_phrase-Sig c.in-Sig.spec c.in-Sig.field-1
     ∙ ap (λ s. SigPhrase.Sig (spec_phrase s) c.in-Sig.field-1) (sym c.get.ensures))
-    (sig_fails c.in-Sig.field-1 (c.new-made.ensures.empty c.args.g.now) c.in_err-elab_spec-in-Sig.ensures))
+    (sig_fails c.in-Sig.field-1 (c.new-made.ensures.empty c.args.g.now) c.in_err-elab_spec-in-Sig.ensures.phrase))
 
-pub elab_open_sig-returns-in_ok-end_signature-in-Sig : goal.elab_open_sig-returns-in_ok-end_signature-in-Sig
-elab_open_sig-returns-in_ok-end_signature-in-Sig g t c =
+pub elab_open_sig-returns-in_ok-end_signature-in-Sig-clause-phrase :
+    goal.elab_open_sig-returns-in_ok-end_signature-in-Sig-clause-phrase
+elab_open_sig-returns-in_ok-end_signature-in-Sig-clause-phrase t c =
     as_sig (ap sig_phrase c.in-Sig.is ∙ sig_phrase-Sig c.in-Sig.spec c.in-Sig.field-1
     ∙ ap (λ s. SigPhrase.Sig (spec_phrase s) c.in-Sig.field-1) (sym c.get.ensures))
-    (sig_ends c.in-Sig.field-1 (c.new-made.ensures.empty c.args.g.now) c.in_ok-elab_spec-in-Sig.ensures
+    (sig_ends c.in-Sig.field-1 (c.new-made.ensures.empty c.args.g.now) c.in_ok-elab_spec-in-Sig.ensures.phrase
     c.in_ok-end_signature-in-Sig.ensures.ok
-    (c.leave.ensures c.args.scope.now c.mark-before.ensures.is c.in_ok-elab_spec-in-Sig.ensures.bound.behind))
+    (c.leave.ensures c.args.top.now.core c.mark-before.ensures.is
+    c.in_ok-elab_spec-in-Sig.ensures.phrase.bound.behind))
 
-pub elab_open_sig-returns-in-Named : goal.elab_open_sig-returns-in-Named
-elab_open_sig-returns-in-Named g t c =
+pub elab_open_sig-returns-in-Named-clause-phrase : goal.elab_open_sig-returns-in-Named-clause-phrase
+elab_open_sig-returns-in-Named-clause-phrase t c =
     as_sig (ap sig_phrase c.in-Named.is ∙ sig_phrase-Named c.in-Named.name c.in-Named.field-1)
     (sig_used c.in-Named.name c.in-Named.field-1 c.use_signature.result c.use_signature.ensures.infers
     c.use_signature.ensures.there c.use_signature.ensures.grows)
 
-pub elab_open_sig-returns-in_err-open-in-Where : goal.elab_open_sig-returns-in_err-open-in-Where
-elab_open_sig-returns-in_err-open-in-Where g t c =
+pub elab_open_sig-returns-in_err-open-in-Where-clause-phrase :
+    goal.elab_open_sig-returns-in_err-open-in-Where-clause-phrase
+elab_open_sig-returns-in_err-open-in-Where-clause-phrase t c =
     sig_passed c.from_residual-in_err-open-in-Where.result c.in_err-open-in-Where.field-0.0
     c.from_residual-in_err-open-in-Where.ensures.1
     (as_sig (ap sig_phrase c.in-Where.is
     ∙ sig_phrase-Where c.in-Where.sig c.in-Where.tyvars c.in-Where.long c.in-Where.ty c.in-Where.at
     ∙ ap (λ s. SigPhrase.Where (sig_phrase s) c.in-Where.tyvars c.in-Where.long (ty_phrase c.in-Where.ty) c.in-Where.at)
     (sym c.get-in-Where.ensures))
-    (where_fails c.in-Where.tyvars c.in-Where.long (ty_phrase c.in-Where.ty) c.in-Where.at c.in_err-open-in-Where.ensures))
+    (where_fails c.in-Where.tyvars c.in-Where.long (ty_phrase c.in-Where.ty) c.in-Where.at
+    c.in_err-open-in-Where.ensures.phrase))
 
-pub elab_open_sig-returns-in_ok-open-in-Where : goal.elab_open_sig-returns-in_ok-open-in-Where
-elab_open_sig-returns-in_ok-open-in-Where g t c =
+pub elab_open_sig-returns-in_ok-open-in-Where-clause-phrase :
+    goal.elab_open_sig-returns-in_ok-open-in-Where-clause-phrase
+elab_open_sig-returns-in_ok-open-in-Where-clause-phrase t c =
     as_sig (ap sig_phrase c.in-Where.is
     ∙ sig_phrase-Where c.in-Where.sig c.in-Where.tyvars c.in-Where.long c.in-Where.ty c.in-Where.at
     ∙ ap₂ (λ s vs. SigPhrase.Where (sig_phrase s) vs c.in-Where.long (ty_phrase c.in-Where.ty) c.in-Where.at)
     (sym c.get-in-Where.ensures) (sym c.as_slice.ensures))
-    (where_goes c.as_slice.result.now c.in-Where.long (ty_phrase c.in-Where.ty) c.in-Where.at c.requires.there
-    c.in_ok-open-in-Where.ensures c.elab_where.ensures.infers c.elab_where.ensures.there c.elab_where.ensures.keeps
-    (grows_nodes c.elab_where.ensures.graph) c.elab_where.ensures.scope)
+    (where_goes c.as_slice.result.now c.in-Where.long (ty_phrase c.in-Where.ty) c.in-Where.at c.requires.core
+    c.in_ok-open-in-Where.ensures.phrase c.elab_where.ensures.infers c.elab_where.ensures.there
+    c.elab_where.ensures.keeps (grows_nodes c.elab_where.ensures.graph) c.elab_where.ensures.scope)
