@@ -14,7 +14,7 @@ use Rattle.sml_modules.specs.declared.id.TopId.{TopId}
 use Rattle.sml_modules.specs.declared.parts.SigParts.{SigParts}
 use Rattle.sml_modules.specs.Items.{map_rows}
 use Rattle.sml_modules.specs.Graphs.{Graph, signature_of, top_at, HasSigParts, HasTop}
-use Rattle.type_nodes.specs.Tables.{Table, type_of}
+use Rattle.type_nodes.specs.Tables.{Table, state, type_of}
 use Rattle.unification.specs.Types.{Ty}
 use Rattle.bare_phrases.specs.Phrases.{TyPhrase}
 use Rattle.static_semantics.specs.Inferring.{Progress, Scope, under, Answer, ◌>>=◌, gives}
@@ -49,10 +49,19 @@ answers_go : {A B Q : Type 0} (want : Answer A) (x : A) (k : A → Answer B) (to
 answers_go want x k told r h l = subst (λ m. Answers (m >>= k) told r) (sym h) l
 
 -- with what is known then
-answers_with : {P : Type 0} (m : Answer Signature) (st : Progress) (read : P → Signature) (r : Result P Fault)
+pub answers_with : {P : Type 0} (m : Answer Signature) (st : Progress) (read : P → Signature) (r : Result P Fault)
     → Answers m read r → Answers (m >>= λ with. gives (with, st)) (λ done. (read done, st)) r
 answers_with m st read (Ok done) h = ap (λ (n : Answer Signature). n >>= λ with. gives (with, st)) h
 answers_with m st read (Err e) h = failed m (λ with. gives (with, st)) read (λ done. (read done, st)) e h
+
+-- .. where the table has more types, and knows what it knew
+pub answers_making : {P : Type 0} (g : Graph) (t u : Table) → state u ≡ state t → (m : Answer Signature)
+    (read : P → Signature) (r : Result P Fault) → Answers m read r
+    → Answers (m >>= λ with. gives (with, progress t g)) (λ done. (read done, progress u g)) r
+answers_making {P} g t u e m read r h =
+    subst (λ (st : Progress). Answers (m >>= λ with. gives (with, progress t g)) (λ (done : P). (read done, st)) r)
+    (sym (ap (λ s. (let st : Progress = record { types = s; names = length g.made } in st)) e))
+    (answers_with m (progress t g) read r h)
 
 on_ok : {R : Type 0} {P : Type 0} (r : Result R Fault) → P → OnOk r P
 on_ok (Ok x) h = h

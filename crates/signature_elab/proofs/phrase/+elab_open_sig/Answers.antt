@@ -171,3 +171,87 @@ elab_open_sig-returns-in_ok-open-in-Where-clause-phrase t c =
     (where_goes c.as_slice.result.now c.in-Where.long (ty_phrase c.in-Where.ty) c.in-Where.at c.requires.core
     c.in_ok-open-in-Where.ensures.phrase c.elab_where.ensures.infers c.elab_where.ensures.there
     c.elab_where.ensures.keeps (grows_nodes c.elab_where.ensures.graph) c.elab_where.ensures.scope)
+
+-- ---- specifications by their forms
+
+pub elab_spec-returns-in-Vals-clause-phrase : goal.elab_spec-returns-in-Vals-clause-phrase
+elab_spec-returns-in-Vals-clause-phrase t c =
+    as_spec (ap spec_phrase c.in-Vals.is ∙ spec_phrase-Vals c.in-Vals.descs c.in-Vals.field-1
+    ∙ ap (λ x. SpecPhrase.Vals (map val_phrase x) c.in-Vals.field-1) (sym c.as_slice.ensures)) c.vals.ensures
+
+pub elab_spec-returns-in-Types-clause-phrase : goal.elab_spec-returns-in-Types-clause-phrase
+elab_spec-returns-in-Types-clause-phrase t c =
+    as_spec (ap spec_phrase c.in-Types.is ∙ spec_phrase-Types c.in-Types.descs c.in-Types.field-1
+    ∙ ap (λ x. SpecPhrase.Types (map type_desc_phrase x) c.in-Types.field-1) (sym c.as_slice-in-Types.ensures)) c.types.ensures
+
+pub elab_spec-returns-in-Eqtypes-clause-phrase : goal.elab_spec-returns-in-Eqtypes-clause-phrase
+elab_spec-returns-in-Eqtypes-clause-phrase t c =
+    as_spec (ap spec_phrase c.in-Eqtypes.is ∙ spec_phrase-Eqtypes c.in-Eqtypes.descs c.in-Eqtypes.field-1
+    ∙ ap (λ x. SpecPhrase.Eqtypes (map type_desc_phrase x) c.in-Eqtypes.field-1) (sym c.as_slice-in-Eqtypes.ensures)) c.types-in-Eqtypes.ensures
+
+pub elab_spec-returns-in-Datatypes-clause-phrase : goal.elab_spec-returns-in-Datatypes-clause-phrase
+elab_spec-returns-in-Datatypes-clause-phrase t c =
+    as_spec (ap spec_phrase c.in-Datatypes.is ∙ spec_phrase-Datatypes c.in-Datatypes.binds c.in-Datatypes.field-1
+    ∙ ap (λ x. SpecPhrase.Datatypes (map dat_phrase x) c.in-Datatypes.field-1) (sym c.as_slice-in-Datatypes.ensures)) c.datatypes.ensures
+
+pub elab_spec-returns-in-Exceptions-clause-phrase : goal.elab_spec-returns-in-Exceptions-clause-phrase
+elab_spec-returns-in-Exceptions-clause-phrase t c =
+    as_spec (ap spec_phrase c.in-Exceptions.is ∙ spec_phrase-Exceptions c.in-Exceptions.cons c.in-Exceptions.field-1
+    ∙ ap (λ x. SpecPhrase.Exceptions (map con_phrase x) c.in-Exceptions.field-1) (sym c.as_slice-in-Exceptions.ensures)) c.exceptions.ensures
+
+pub elab_spec-returns-in-Replication-clause-phrase : goal.elab_spec-returns-in-Replication-clause-phrase
+elab_spec-returns-in-Replication-clause-phrase t c =
+    as_spec (ap spec_phrase c.in-Replication.is
+    ∙ spec_phrase-Replication c.in-Replication.name c.in-Replication.long c.in-Replication.field-2) c.replication.ensures
+
+pub elab_spec-returns-in-Sequence-clause-phrase : goal.elab_spec-returns-in-Sequence-clause-phrase
+elab_spec-returns-in-Sequence-clause-phrase t c =
+    as_spec (ap spec_phrase c.in-Sequence.is ∙ spec_phrase-Sequence c.in-Sequence.specs c.in-Sequence.field-1
+    ∙ ap (λ x. SpecPhrase.Sequence (spec_phrases (map spec_phrase x)) c.in-Sequence.field-1)
+    (sym c.as_slice-in-Sequence.ensures)) c.elab_specs.ensures.phrase
+
+pub elab_spec-returns-in_err-elab_structures-in-Structures-clause-phrase :
+    goal.elab_spec-returns-in_err-elab_structures-in-Structures-clause-phrase
+elab_spec-returns-in_err-elab_structures-in-Structures-clause-phrase t c =
+    spec_passed c.from_residual.result c.in_err-elab_structures-in-Structures.field-0.0 c.from_residual.ensures.1
+    (as_spec (ap spec_phrase c.in-Structures.is ∙ spec_phrase-Structures c.in-Structures.binds c.in-Structures.field-1
+    ∙ ap (λ x. SpecPhrase.Structures (sig_binds (map bind_phrase x)) c.in-Structures.field-1)
+    (sym c.as_slice-in-Structures.ensures))
+    (listed_fails c.in_err-elab_structures-in-Structures.field-0.0 c.in_err-elab_structures-in-Structures.ensures.phrase))
+
+pub elab_spec-returns-in_err-bind_since-in-Structures-clause-phrase :
+    goal.elab_spec-returns-in_err-bind_since-in-Structures-clause-phrase
+elab_spec-returns-in_err-bind_since-in-Structures-clause-phrase t c =
+    spec_passed c.from_residual-in_err-bind_since-in-Structures.result fault.NoMemory c.from_residual-in_err-bind_since-in-Structures.ensures.1
+    (spec_memory c.in_ok-elab_structures-in-Structures.ensures.phrase.keeps c.in_ok-elab_structures-in-Structures.ensures.phrase.graph)
+
+pub elab_spec-returns-in_ok-bind_since-in-Structures-clause-phrase :
+    goal.elab_spec-returns-in_ok-bind_since-in-Structures-clause-phrase
+elab_spec-returns-in_ok-bind_since-in-Structures-clause-phrase t c =
+    as_spec (ap spec_phrase c.in-Structures.is ∙ spec_phrase-Structures c.in-Structures.binds c.in-Structures.field-1
+    ∙ ap (λ x. SpecPhrase.Structures (sig_binds (map bind_phrase x)) c.in-Structures.field-1)
+    (sym c.as_slice-in-Structures.ensures))
+    (listed_bound c.requires.envs c.requires.ready.core c.in_ok-elab_structures-in-Structures.ensures.phrase
+    (λ graph first e. c.in_ok-bind_since-in-Structures.ensures.ok graph first (c.mark-before.ensures ∙ e)))
+
+pub elab_spec-returns-in_err-elab_included-in-Include-clause-phrase :
+    goal.elab_spec-returns-in_err-elab_included-in-Include-clause-phrase
+elab_spec-returns-in_err-elab_included-in-Include-clause-phrase t c =
+    spec_passed c.from_residual-in_err-elab_included-in-Include.result c.in_err-elab_included-in-Include.field-0.0 c.from_residual-in_err-elab_included-in-Include.ensures.1
+    (as_spec (ap spec_phrase c.in-Include.is ∙ spec_phrase-Include c.in-Include.sig c.in-Include.at
+    ∙ ap (λ x. SpecPhrase.Include (sig_phrase x) c.in-Include.at) (sym c.get.ensures))
+    (listed_fails c.in_err-elab_included-in-Include.field-0.0 c.in_err-elab_included-in-Include.ensures.phrase))
+
+pub elab_spec-returns-in_err-bind_since-in-Include-clause-phrase :
+    goal.elab_spec-returns-in_err-bind_since-in-Include-clause-phrase
+elab_spec-returns-in_err-bind_since-in-Include-clause-phrase t c =
+    spec_passed c.from_residual-in_err-bind_since-in-Include.result fault.NoMemory c.from_residual-in_err-bind_since-in-Include.ensures.1
+    (spec_memory c.in_ok-elab_included-in-Include.ensures.phrase.keeps c.in_ok-elab_included-in-Include.ensures.phrase.graph)
+
+pub elab_spec-returns-in_ok-bind_since-in-Include-clause-phrase :
+    goal.elab_spec-returns-in_ok-bind_since-in-Include-clause-phrase
+elab_spec-returns-in_ok-bind_since-in-Include-clause-phrase t c =
+    as_spec (ap spec_phrase c.in-Include.is ∙ spec_phrase-Include c.in-Include.sig c.in-Include.at
+    ∙ ap (λ x. SpecPhrase.Include (sig_phrase x) c.in-Include.at) (sym c.get.ensures))
+    (listed_bound c.requires.envs c.requires.ready.core c.in_ok-elab_included-in-Include.ensures.phrase
+    (λ graph first e. c.in_ok-bind_since-in-Include.ensures.ok graph first (c.mark-before-in-Include.ensures ∙ e)))
