@@ -3,3 +3,4 @@ pub mod Again
 pub mod Adding
 pub mod Finishing
 pub mod Elaborated
+pub mod Opening

@@ -20,6 +20,7 @@ use type_phrases::unknown_name;
 /// A signature in scope by its name, with new type names of the unit for those that it binds, in their order: 30 at a
 /// name that stands for no signature. Each use makes names of its own. After want of memory names may have been made.
 /// The Definition of Standard ML (Revised), rule 63.
+#[tactic(auto, using(crate::proofs::Elaborated::grows_self, crate::proofs::Opening::grows_may, crate::proofs::Opening::grows_opened))]
 pub fn use_signature(
     alloc: Global,
     g: &mut EnvGraph,
