@@ -1,5 +1,6 @@
 -- Signatures that end, and that are finished.
 use Rattle.std.proofs.Common.{◌≡◌, ℕ, ◌+◌, refl, sym, ap, ap₂, ◌∙◌, subst, List, [], ◌∷◌, ◌++◌, length, suc, arith, append_assoc, length-append}
+use Rattle.semantic_objects.specs.declared.name.Owner.TheVariants as owner
 use Rattle.semantic_objects.specs.declared.name.TyName.{TyName}
 use Rattle.semantic_objects.specs.declared.entry.TypeFn.{TypeFn}
 use Rattle.semantic_objects.specs.declared.entry.TypeStr.{TypeStr}
@@ -19,6 +20,7 @@ use Rattle.sml_modules.specs.Graphs.{Graph, env_at, signature_at, signature_of, 
 use Rattle.sml_modules.proofs.Keeping.{keeps, extends_self}
 use Rattle.core_scopes.specs.Scopes.{AreEnvs}
 use Rattle.core_scopes.specs.Listed.{env_rows}
+use Rattle.static_semantics.specs.DatatypeInference.{own_type}
 use Rattle.module_semantics.specs.SignatureNames.{bound_names, closed, rows_between}
 use Rattle.signature_specs.specs.declared.specified.Specified.{Specified}
 use Rattle.signature_specs.specs.Specs.{env_so_far, signature_so_far}
@@ -85,6 +87,38 @@ parts_ended g h made parts ss ts vs e f d gives same = record {
 pub record Renumbered (olds rest names : List TyName) (list : List Replace) : Type 0 where
   pub are : names ++ bound_names (length names) rest ≡ bound_names 0 olds
   pub rows : rows_of list ++ rows_between rest (bound_names (length names) rest) ≡ rows_between olds (bound_names 0 olds)
+
+next_name : (n m : ℕ) (name : TyName) (more : List TyName) → m ≡ n + 1
+    → bound_names n (name ∷ more)
+    ≡ (let new : TyName = record { owner = owner.Bound; number = n; arity = name.arity; eq = name.eq } in new)
+    ∷ bound_names m more
+next_name n m name more e =
+    ap (λ (k : ℕ). (let new : TyName = record { owner = owner.Bound; number = n; arity = name.arity; eq = name.eq } in new)
+    ∷ bound_names k more) (let k : suc n ≡ m = omega (arith, e) in k)
+
+count_more : {A : Type 0} (xs : List A) (x : A) (ys : List A) → ys ≡ xs ++ x ∷ [] → length ys ≡ length xs + 1
+count_more xs x ys e = ap length e ∙ length-append xs (x ∷ [])
+
+pub renumbered_next : (olds rest more names after : List TyName) (list longer : List Replace) (old new : TyName)
+    → rest ≡ old ∷ more → Renumbered olds rest names list
+    → new ≡ (let n : TyName = record { owner = owner.Bound; number = length names; arity = old.arity; eq = old.eq } in n)
+    → after ≡ names ++ new ∷ [] → rows_of longer ≡ rows_of list ++ (old, (own_type new).function) ∷ []
+    → Renumbered olds more after longer
+renumbered_next olds rest more names after list longer old new is h made e f =
+    let front : bound_names (length names) rest ≡ new ∷ bound_names (length after) more =
+    ap (bound_names (length names)) is ∙ next_name (length names) (length after) old more (count_more names new after e)
+    ∙ ap (λ (n : TyName). n ∷ bound_names (length after) more) (sym made) in
+    record {
+      are = ap (λ (xs : List TyName). xs ++ bound_names (length after) more) e
+          ∙ append_assoc names (new ∷ []) (bound_names (length after) more)
+          ∙ ap (λ (xs : List TyName). names ++ xs) (sym front) ∙ h.are;
+      rows = ap (λ (rows : List (TyName × TypeFn)). rows ++ rows_between more (bound_names (length after) more)) f
+          ∙ append_assoc (rows_of list) ((old, (own_type new).function) ∷ [])
+          (rows_between more (bound_names (length after) more))
+          ∙ ap (λ (rows : List (TyName × TypeFn)). rows_of list ++ rows)
+          (sym (ap₂ (λ (a b : List TyName). rows_between a b) is front))
+          ∙ h.rows;
+    }
 
 pub sig_finished : (g h k : Graph) (sig : SigParts) (news olds : List TyName) (list : List Replace) (parts : SigParts)
     (id : SigId) → olds ≡ sig.bound → news ≡ bound_names 0 olds → rows_of list ≡ rows_between olds (bound_names 0 olds)
