@@ -1,6 +1,6 @@
 -- What is specified so far in scope, and more of it.
-use Rattle.std.proofs.Common.{◌≡◌, ℕ, refl, sym, ap, ap₂, ◌∙◌, subst, List, [], ◌∷◌, ◌++◌, length, take, drop, zero, suc}
-use Rattle.std.proofs.lemmas.List.{take-append-drop}
+use Rattle.std.proofs.Common.{◌≡◌, ℕ, ◌+◌, ◌<◌, refl, sym, ap, ap₂, ◌∙◌, subst, List, [], ◌∷◌, ◌++◌, length, take, drop, get_or, zero, suc, arith}
+use Rattle.std.proofs.lemmas.List.{take-append-drop, map-append}
 use Rattle.semantic_objects.specs.declared.entry.TypeStr.{TypeStr}
 use Rattle.semantic_objects.specs.declared.entry.ValueEntry.{ValueEntry}
 use Rattle.semantic_objects.specs.Tables.{Table, with_all}
@@ -11,7 +11,8 @@ use Rattle.sml_modules.specs.Items.{map_rows}
 use Rattle.sml_modules.specs.Graphs.{Graph, env_at, HasEnvs, structure_rows, type_rows}
 use Rattle.name_trails.specs.Trails.{Rows}
 use Rattle.core_scopes.specs.declared.made.Made.{Made}
-use Rattle.core_scopes.specs.Scopes.{Bindings, seen, written_of, AreEnvs, IsScopeOf}
+use Rattle.core_scopes.specs.declared.made.NamedInScope.{NamedInScope}
+use Rattle.core_scopes.specs.Scopes.{Bindings, entry_of, seen, written_of, AreEnvs, IsScopeOf}
 use Rattle.core_scopes.specs.Listed.{env_rows}
 use Rattle.core_scopes.specs.Marks.{value_rows, env_of_made, Becomes}
 use Rattle.core_scopes.specs.Marks as marks
@@ -110,3 +111,25 @@ module _ {V : Type 0} (g : Graph) (past made : Specified) (part : Made V) (more 
     behind = becomes.front;
     whole = whole;
   }
+
+-- ---- values in scope, one after another
+
+next_taken : {A : Type 0} (xs : List A) (i : ℕ) (x : A) → i < length xs → x ≡ get_or xs i x
+    → take (i + 1) xs ≡ take i xs ++ x ∷ []
+next_taken [] i x h e = absurd (omega (arith, h))
+next_taken (y ∷ ys) zero x h e = ap (λ z. z ∷ []) (sym e)
+next_taken (y ∷ ys) (suc i) x h e = ap (λ zs. y ∷ zs) (next_taken ys i x (omega (arith, h)) e)
+
+row_is : (n m : List ℕ) (v w : ValueEntry) → n ≡ m → v ≡ w → (n, v) ≡ (m, w)
+row_is n m v w e f = cc
+
+pub values_more : {V : Type 0} (read : V → ValueEntry) (list longer : List (NamedInScope V)) (one : NamedInScope V)
+    (rows : List (List ℕ × ValueEntry)) (i : ℕ) (row : List ℕ × ValueEntry) → longer ≡ list ++ one ∷ []
+    → value_rows read list ≡ take i rows → i < length rows → row ≡ get_or rows i row → one.name ≡ row.0
+    → entry_of read one.entry ≡ row.1 → value_rows read longer ≡ take (i + 1) rows
+values_more {V} read list longer one rows i row e h lt is n v =
+    ap (value_rows read) e
+    ∙ map-append (λ (x : NamedInScope V). (x.name, entry_of read x.entry)) list (one ∷ [])
+    ∙ ap₂ (λ (a : Table ValueEntry) (b : List ℕ × ValueEntry). a ++ b ∷ []) h
+    (row_is one.name row.0 (entry_of read one.entry) row.1 n v)
+    ∙ sym (next_taken rows i row lt is)

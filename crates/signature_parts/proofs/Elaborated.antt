@@ -130,17 +130,19 @@ abbrev pub Binds : {V : Type 0} → Specified → Specified → Bindings V → B
 Binds past made mid new = (g : Graph) (first : Specified) → mark_of past ≡ mark_of first → IsFrontOf first made
     → AreEnvs g made.structures → IsScopeOf g mid → IsBound g g first made mid new
 
+under_later : {V : Type 0} {g h : Graph} (past : Specified) (old : Bindings V) → Grows g h
+    → AreEnvs g past.structures → IsScopeOf g old → (read : V → ValueEntry) (env : Env) → IsUnder g read past old env
+    → IsUnder h read past old env
+under_later {V} {g} {h} past old grows envs there read env k =
+    ap (modified_by env) (env_kept past grows envs) ∙ k ∙ sym (scope_seen g h grows.keeps read old there)
+
 module _ {V : Type 0} {g h : Graph} {past made : Specified} {old new : Bindings V} (grows : Grows g h)
     (envs : AreEnvs g past.structures) (there : IsScopeOf g old) where
-  under_later : (read : V → ValueEntry) (env : Env) → IsUnder g read past old env → IsUnder h read past old env
-  under_later read env k =
-      ap (modified_by env) (env_kept past grows envs) ∙ k ∙ sym (scope_seen g h grows.keeps read old there)
-
   bound_later : IsBound h h past made old new → IsBound g h past made old new
   bound_later k = record {
     front = k.front;
     envs = k.envs;
-    under = λ read env i. k.under read env (under_later read env i);
+    under = λ read env i. k.under read env (under_later past old grows envs there read env i);
     written = k.written;
     there = k.there;
     behind = k.behind;

@@ -9,7 +9,7 @@ use Rattle.core_scopes.specs.Scopes.{Bindings, seen}
 use Rattle.core_scopes.specs.Listed.{env_rows}
 use Rattle.core_scopes.specs.Marks.{value_rows, env_of_made}
 use Rattle.signature_specs.specs.declared.specified.Specified.{Specified}
-use Rattle.signature_parts.specs.declared.mark.SpecifiedMark.{SpecifiedMark}
+use Rattle.signature_parts.specs.declared.marks.SpecifiedMark.{SpecifiedMark}
 
 -- the mark that remembers what is specified
 abbrev pub mark_of : Specified → SpecifiedMark

@@ -5,13 +5,13 @@
 mod closing;
 mod ending;
 mod including;
-mod mark;
+mod marks;
 mod named;
 mod scoping;
 
 pub use closing::close_signature;
 pub use ending::end_signature;
 pub use including::{include, specify_structure};
-pub use mark::{SpecifiedMark, mark};
+pub use marks::{SpecifiedMark, mark};
 pub use named::use_signature;
 pub use scoping::bind_since;

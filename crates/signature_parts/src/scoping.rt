@@ -11,7 +11,7 @@ ghost use Rattle.signature_specs.specs.Specs.{IsFrontOf};
 ghost use Rattle.signature_parts.specs.Steps.{mark_of, IsMadeSince};
 ghost use Rattle.signature_parts.specs.Growing.{IsBound};
 
-use crate::mark::SpecifiedMark;
+use crate::marks::SpecifiedMark;
 use cm_base::{List, NoMemory, Text};
 use core_scopes::{Made, NamedInScope, Scope, ValueInScope};
 use env_parts::{copy_type, copy_value};

@@ -16,8 +16,8 @@ open_signature-requires c =
     c.in-Some.is c.in_ok-sig.ensures in
     there.0
 
-pub returns-in-Some-clause-infers : goal.returns-in-Some-clause-infers
-returns-in-Some-clause-infers c = λ inner t home.
+pub returns-in_ok-open_signature-in-Some-clause-infers : goal.returns-in_ok-open_signature-in-Some-clause-infers
+returns-in_ok-open_signature-in-Some-clause-infers c = λ inner t home.
     let there : FindsSignature c.args.g.now
     (entry c.args.name.now.text (top_seen c.args.g.now c.args.top.now).signatures) (Some c.in-Some.sig) =
     subst (FindsSignature c.args.g.now (entry c.args.name.now.text (top_seen c.args.g.now c.args.top.now).signatures))
