@@ -278,8 +278,8 @@ first_structure sigs sc bind rest made st =
     in_steps (infer_sig sigs sc bind.1 st) (λ sig. structure_specified sc bind.0 sig made)
     (λ with after. infer_structure_specs sigs sc rest with after)
 
-module _ {V : Type 0} {sigs here : Named Signature} {g h i : Graph} {t u v : Table} {past made more : Specified}
-    {old new next : Bindings V} {binds left rest : SigBinds} {bind : Name × SigPhrase}
+module _ {V : Type 0} {sigs here : Named Signature} {g h : Graph} {t u : Table} {past made : Specified}
+    {old new : Bindings V} {binds left rest : SigBinds} {bind : Name × SigPhrase}
     (s : StructuresSoFar sigs g h t u past made old new binds left) (is : left ≡ SigBinds.Bind bind.0 bind.1 rest)
     (same : here ≡ sigs) (there : IsScopeOf g old) where
   structures_at : (w : Table) (read : V → ValueEntry)
@@ -295,11 +295,15 @@ module _ {V : Type 0} {sigs here : Named Signature} {g h i : Graph} {t u v : Tab
       >>= λ q. infer_structure_specs sigs (scope_in g w read old) rest q.0 q.1) (sym same)
       (sym (ap (scope_in h w read) s.scope ∙ scope_kept old w read s.graph there))
 
+module _ {V : Type 0} {sigs here : Named Signature} {g h i : Graph} {t u v : Table} {past made more : Specified}
+    {old new next : Bindings V} {binds left rest : SigBinds} {bind : Name × SigPhrase}
+    (s : StructuresSoFar sigs g h t u past made old new binds left) (is : left ≡ SigBinds.Bind bind.0 bind.1 rest)
+    (same : here ≡ sigs) (there : IsScopeOf g old) where
   pub structures_next : IsListed h i u v made more new next (λ sc so st. infer_structure here bind sc so st) (Ok tt)
       → StructuresSoFar sigs g i t v past more old next binds rest
   structures_next k = record {
     left_is = λ w read.
-        structures_at w read
+        structures_at s is same there w read
         ∙ ap (λ (m : Answer (Signature × Progress)).
         m >>= λ q. infer_structure_specs sigs (scope_in g w read old) rest q.0 q.1) (k.infers w read);
     keeps = keeps_later t u v s.keeps k.keeps;
@@ -315,7 +319,7 @@ module _ {V : Type 0} {sigs here : Named Signature} {g h i : Graph} {t u v : Tab
   structures_fail {e} k = record {
     infers = λ w read.
         subst (λ (m : Answer (Signature × Progress)). Answers m
-        (λ (done : Unit {0}). (signature_so_far i more, progress v i)) (Err e)) (sym (structures_at w read))
+        (λ (done : Unit {0}). (signature_so_far i more, progress v i)) (Err e)) (sym (structures_at s is same there w read))
         (failed (infer_structure here bind (scope_in h w read new) (signature_so_far h made) (progress u h))
         (λ q. infer_structure_specs sigs (scope_in g w read old) rest q.0 q.1)
         (λ (done : Unit {0}). (signature_so_far i more, progress v i))
@@ -404,8 +408,8 @@ module _ {V : Type 0} {sigs : Named Signature} {g h : Graph} {t u : Table} {past
       ∙ ap (λ rows. (let sc : Scope = record { env = seen h read new; written = map_rows (type_of w) rows; home = h.home } in sc))
       (sym s.bound.written)
 
-  module _ {here : Named Signature} {i : Graph} {v : Table} {more : Specified} {next : Bindings V} {rest : SpecPhrases}
-      {spec : SpecPhrase} (is : left ≡ SpecPhrases.Next spec rest) (same : here ≡ sigs) where
+  module _ {here : Named Signature} {rest : SpecPhrases} {spec : SpecPhrase} (is : left ≡ SpecPhrases.Next spec rest)
+      (same : here ≡ sigs) where
     specs_at : (w : Table) (read : V → ValueEntry)
         → infer_specs sigs (scope_in g w read old) specs (signature_so_far g past) (progress t g)
         ≡ (infer_spec here (scope_in h w read new) spec (signature_so_far h made) (progress u h)
@@ -416,11 +420,13 @@ module _ {V : Type 0} {sigs : Named Signature} {g h : Graph} {t u : Table} {past
         ∙ ap₂ (λ (z : Named Signature) (sc : Scope). infer_spec z sc spec (signature_so_far h made) (progress u h)
         >>= λ r. infer_specs sigs (scope_in g w read old) rest r.0 r.1) (sym same) (specs_scope w read)
 
+  module _ {here : Named Signature} {i : Graph} {v : Table} {more : Specified} {next : Bindings V} {rest : SpecPhrases}
+      {spec : SpecPhrase} (is : left ≡ SpecPhrases.Next spec rest) (same : here ≡ sigs) where
     pub specs_next : IsSpecified h i u v made more new next (λ sc so st. infer_spec here sc spec so st) (Ok tt)
         → SpecsSoFar sigs g i t v past more old next specs rest
     specs_next k = record {
       left_is = λ w read.
-          specs_at w read
+          specs_at is same w read
           ∙ ap (λ (m : Answer (Signature × Progress)).
           m >>= λ r. infer_specs sigs (scope_in g w read old) rest r.0 r.1) (k.infers w read);
       keeps = keeps_later t u v s.keeps k.keeps;
@@ -434,7 +440,7 @@ module _ {V : Type 0} {sigs : Named Signature} {g h : Graph} {t u : Table} {past
     specs_fail {e} k = record {
       infers = λ w read.
           subst (λ (m : Answer (Signature × Progress)). Answers m
-          (λ (done : Unit {0}). (signature_so_far i more, progress v i)) (Err e)) (sym (specs_at w read))
+          (λ (done : Unit {0}). (signature_so_far i more, progress v i)) (Err e)) (sym (specs_at is same w read))
           (failed (infer_spec here (scope_in h w read new) spec (signature_so_far h made) (progress u h))
           (λ r. infer_specs sigs (scope_in g w read old) rest r.0 r.1)
           (λ (done : Unit {0}). (signature_so_far i more, progress v i))

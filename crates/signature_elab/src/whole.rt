@@ -54,10 +54,12 @@ fn scope_of_top(alloc: Global, g: &EnvGraph, top: TopId) -> Result<TopScope, NoM
     ensures there { IfOk result (IsTopScope g.now) }
 {
     let env = g.env_of(top)?;
+    let core = Scope::new(alloc, env);
+    let defined = Defined::new(alloc);
     Ok(TopScope {
-        core: Scope::new(alloc, env),
+        core,
         given: top,
-        defined: Defined::new(alloc),
+        defined,
     })
 }
 

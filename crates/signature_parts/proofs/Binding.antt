@@ -118,7 +118,9 @@ next_taken : {A : Type 0} (xs : List A) (i : ℕ) (x : A) → i < length xs → 
     → take (i + 1) xs ≡ take i xs ++ x ∷ []
 next_taken [] i x h e = absurd (omega (arith, h))
 next_taken (y ∷ ys) zero x h e = ap (λ z. z ∷ []) (sym e)
-next_taken (y ∷ ys) (suc i) x h e = ap (λ zs. y ∷ zs) (next_taken ys i x (omega (arith, h)) e)
+next_taken (y ∷ ys) (suc i) x h e =
+    let k : suc i + 1 ≡ suc (i + 1) = omega arith in
+    ap (λ n. take n (y ∷ ys)) k ∙ ap (λ zs. y ∷ zs) (next_taken ys i x (omega (arith, h)) e)
 
 row_is : (n m : List ℕ) (v w : ValueEntry) → n ≡ m → v ≡ w → (n, v) ≡ (m, w)
 row_is n m v w e f = cc

@@ -106,8 +106,8 @@ elab_structure-returns-in_err-open-clause-phrase t c =
     (added_fails (λ inner sig so. structure_specified inner (out-SigBind c.args.bind.now).name sig so)
     c.in_err-open.ensures.phrase))
 
-pub elab_structure-returns-in_ok-open-clause-phrase : goal.elab_structure-returns-in_ok-open-clause-phrase
-elab_structure-returns-in_ok-open-clause-phrase t c =
+pub elab_structure-returns-clause-phrase : goal.elab_structure-returns-clause-phrase
+elab_structure-returns-clause-phrase t c =
     as_structure (bind_phrase-kept c.args.bind.now)
     (added (λ inner sig so. structure_specified inner (out-SigBind c.args.bind.now).name sig so) c.requires.ready.core
     c.requires.envs c.in_ok-open.ensures.phrase c.specify_structure.ensures.infers c.specify_structure.ensures.front
@@ -118,8 +118,8 @@ elab_included-returns-in_err-open-clause-phrase t c =
     list_passed c.from_residual.result c.in_err-open.field-0.0 c.from_residual.ensures.1
     (added_fails (λ inner sig so. included inner c.args.at sig so) c.in_err-open.ensures.phrase)
 
-pub elab_included-returns-in_ok-open-clause-phrase : goal.elab_included-returns-in_ok-open-clause-phrase
-elab_included-returns-in_ok-open-clause-phrase t c =
+pub elab_included-returns-clause-phrase : goal.elab_included-returns-clause-phrase
+elab_included-returns-clause-phrase t c =
     added (λ inner sig so. included inner c.args.at sig so) c.requires.ready.core c.requires.envs
     c.in_ok-open.ensures.phrase c.include.ensures.infers c.include.ensures.front c.include.ensures.envs
 
