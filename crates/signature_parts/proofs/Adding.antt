@@ -1,5 +1,5 @@
 -- Structures and whole signatures that are specified after others.
-use Rattle.std.proofs.Common.{◌≡◌, ℕ, refl, sym, ap, ap₂, ◌∙◌, subst, List, [], ◌∷◌, ◌++◌, Option, Some, None, Bool, true, false, ◌||◌}
+use Rattle.std.proofs.Common.{◌≡◌, ℕ, refl, sym, ap, ap₂, ◌∙◌, subst, List, [], ◌∷◌, ◌++◌, Option, Some, None, Bool, ◌||◌}
 use Rattle.std.specs.Prelude.{Result, Ok, Err, IsErrAnd}
 use Rattle.std.specs.Option.{is_some}
 use Rattle.cm_base.specs.declared.fault.Fault.{Fault}
@@ -10,7 +10,7 @@ use Rattle.semantic_objects.specs.declared.name.TyName.{TyName}
 use Rattle.semantic_objects.specs.declared.entry.TypeStr.{TypeStr}
 use Rattle.semantic_objects.specs.declared.entry.ValueEntry.{ValueEntry}
 use Rattle.semantic_objects.specs.Tables.{Table as Named, entry, with_entry, with_all}
-use Rattle.semantic_objects.specs.Environments.{Env, Signature, env_of, structures, types, values, table_of, structures_of, empty_env, modified_by, with_structure}
+use Rattle.semantic_objects.specs.Environments.{Env, Signature, env_of, structures, types, values, empty_env, modified_by, with_structure}
 use Rattle.semantic_objects.proofs.Promised.{sets_entries, keeps_structures}
 use Rattle.sml_modules.specs.declared.id.EnvId.{EnvId}
 use Rattle.sml_modules.specs.declared.parts.SigParts.{SigParts}
@@ -21,9 +21,8 @@ use Rattle.static_semantics.specs.CoreInference.{infer_open}
 use Rattle.module_semantics.specs.SignatureNames.{also_bound}
 use Rattle.module_semantics.specs.SignatureInference.{shares, have_common, specified}
 use Rattle.core_scopes.specs.declared.made.Made.{Made}
-use Rattle.core_scopes.specs.Scopes.{Bindings, seen, AreEnvs}
+use Rattle.core_scopes.specs.Scopes.{AreEnvs}
 use Rattle.core_scopes.specs.Listed.{env_rows}
-use Rattle.core_scopes.specs.Marks.{env_of_made}
 use Rattle.core_scopes.proofs.Tables.{all_at_once}
 use Rattle.core_scopes.proofs.Scoping.{envs_append}
 use Rattle.sml_modules.specs.declared.parts.NamedEnv.{NamedEnv}

@@ -11,7 +11,7 @@ use Rattle.semantic_objects.specs.Environments.{Env, env_of, structures, types, 
 use Rattle.semantic_objects.proofs.Promised.{sets_entries, keeps_structures}
 use Rattle.sml_modules.specs.Items.{map_rows}
 use Rattle.sml_modules.specs.Graphs.{Graph, env_at}
-use Rattle.name_trails.specs.Trails.{Rows, last_entry}
+use Rattle.name_trails.specs.Trails.{last_entry}
 use Rattle.core_scopes.proofs.Tables.{or_held, entry_under, all_at_once}
 use Rattle.signature_specs.specs.declared.specified.Specified.{Specified}
 use Rattle.signature_specs.specs.Specs.{env_so_far}

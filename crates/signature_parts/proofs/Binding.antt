@@ -122,8 +122,11 @@ next_taken (y ∷ ys) (suc i) x h e =
     let k : suc i + 1 ≡ suc (i + 1) = omega arith in
     ap (λ n. take n (y ∷ ys)) k ∙ ap (λ zs. y ∷ zs) (next_taken ys i x (omega (arith, h)) e)
 
-row_is : (n m : List ℕ) (v w : ValueEntry) → n ≡ m → v ≡ w → (n, v) ≡ (m, w)
-row_is n m v w e f = cc
+abbrev row_of : List ℕ → ValueEntry → List ℕ × ValueEntry
+row_of n v = (n, v)
+
+row_is : (n m : List ℕ) (v w : ValueEntry) → n ≡ m → v ≡ w → row_of n v ≡ row_of m w
+row_is n m v w e f = ap₂ row_of e f
 
 pub values_more : {V : Type 0} (read : V → ValueEntry) (list longer : List (NamedInScope V)) (one : NamedInScope V)
     (rows : List (List ℕ × ValueEntry)) (i : ℕ) (row : List ℕ × ValueEntry) → longer ≡ list ++ one ∷ []

@@ -1,6 +1,6 @@
 -- Parts of signatures that were elaborated, in graphs that grow.
 use Rattle.std.proofs.Common.{◌≡◌, ℕ, refl, sym, ap, ap₂, ◌∙◌, subst, List, [], ◌∷◌, length}
-use Rattle.std.specs.Prelude.{Result, Ok, Err, IsErrAnd, OnOk}
+use Rattle.std.specs.Prelude.{Result, Ok, Err, IsErrAnd}
 use Rattle.cm_base.specs.declared.fault.Fault.{Fault}
 use Rattle.cm_base.specs.declared.fault.Fault.TheVariants as fault
 use Rattle.semantic_objects.specs.declared.name.TyName.{TyName}
@@ -10,17 +10,14 @@ use Rattle.semantic_objects.specs.Environments.{Env, Signature, env_of, modified
 use Rattle.sml_modules.specs.declared.id.EnvId.{EnvId}
 use Rattle.sml_modules.specs.declared.parts.SigParts.{SigParts}
 use Rattle.sml_modules.specs.Items.{map_rows}
-use Rattle.sml_modules.specs.Graphs.{Graph, env_at, signature_of, HasSigParts, Keeps}
+use Rattle.sml_modules.specs.Graphs.{Graph, env_at, Keeps}
 use Rattle.sml_modules.proofs.Keeping.{keeps, extends_self}
 use Rattle.name_trails.specs.Trails.{Rows}
 use Rattle.type_nodes.specs.Tables.{Table, state, type_of}
-use Rattle.static_semantics.specs.Inferring.{Progress, Scope, Answer, ◌>>=◌, gives}
-use Rattle.core_scopes.specs.Scopes.{Bindings, seen, written_of, AreEnvs, IsScopeOf}
-use Rattle.core_scopes.specs.Marks as marks
+use Rattle.static_semantics.specs.Inferring.{Progress, Scope, Answer, gives}
+use Rattle.core_scopes.specs.Scopes.{Bindings, written_of, AreEnvs, IsScopeOf}
 use Rattle.core_scopes.proofs.Scoping.{scope_there, scope_seen}
 use Rattle.type_phrases.specs.Inferred.{Answers, KeepsTypes, progress, scope_in}
-use Rattle.type_phrases.proofs.Keeping.{keeps_all, keeps_later}
-use Rattle.type_phrases.proofs.Steps.{failed, still_refused}
 use Rattle.type_phrases.proofs.PartsRead.{passed_on}
 use Rattle.signature_specs.specs.declared.specified.Specified.{Specified}
 use Rattle.signature_specs.specs.Specs.{env_so_far, signature_so_far, IsFrontOf}

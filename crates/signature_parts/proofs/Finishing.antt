@@ -23,7 +23,7 @@ use Rattle.core_scopes.specs.Listed.{env_rows}
 use Rattle.static_semantics.specs.DatatypeInference.{own_type}
 use Rattle.module_semantics.specs.SignatureNames.{bound_names, closed, rows_between}
 use Rattle.signature_specs.specs.declared.specified.Specified.{Specified}
-use Rattle.signature_specs.specs.Specs.{env_so_far, signature_so_far}
+use Rattle.signature_specs.specs.Specs.{signature_so_far}
 use Rattle.where_types.specs.Where.{GrowsByNodes, GivesParts}
 use Rattle.signature_parts.proofs.Binding.{rows_of_structures, envs_listed}
 

@@ -1,16 +1,16 @@
 -- All entries of an environment, as those of a structure without a name; and signatures by their names.
-use Rattle.std.proofs.Common.{◌≡◌, ℕ, refl, sym, ap, ap₂, ◌∙◌, subst, List, [], ◌∷◌, ◌++◌, length, Some, None, Option}
+use Rattle.std.proofs.Common.{◌≡◌, ℕ, refl, sym, ap, ap₂, ◌∙◌, subst, List, [], ◌∷◌, length, Some, None, Option}
 use Rattle.std.specs.Prelude.{Result, Ok, Err, IfOk}
 use Rattle.cm_base.specs.declared.fault.Fault.{Fault}
 use Rattle.sml_trees.specs.declared.name.Name.{Name}
 use Rattle.sml_trees.specs.declared.name.LongName.{LongName}
 use Rattle.semantic_objects.specs.declared.entry.ValueEntry.{ValueEntry}
 use Rattle.semantic_objects.specs.Tables.{Table as Named, entry}
-use Rattle.semantic_objects.specs.Environments.{Env, Signature, structures, empty_env, modified_by, with_structure}
+use Rattle.semantic_objects.specs.Environments.{Env, Signature, empty_env, modified_by, with_structure}
 use Rattle.sml_modules.specs.declared.parts.SigParts.{SigParts}
 use Rattle.sml_modules.specs.Graphs.{Graph, signature_of}
 use Rattle.type_nodes.specs.Tables.{Table, state}
-use Rattle.static_semantics.specs.Inferring.{Progress, Scope, Answer, ◌>>=◌, gives, name_at, known, found_at}
+use Rattle.static_semantics.specs.Inferring.{Progress, Scope, ◌>>=◌, gives, name_at, known}
 use Rattle.static_semantics.specs.CoreInference.{infer_open}
 use Rattle.module_semantics.specs.SignatureNames.{opened}
 use Rattle.module_semantics.specs.SignatureInference.{single}

@@ -1,6 +1,5 @@
 -- Signatures that are used in others, and signatures that end. The Definition of Standard ML (Revised), rules 62, 63, 65,
 -- 75 and 84.
-use Rattle.std.specs.Prelude.{◌≡◌, ℕ}
 use Rattle.sml_trees.specs.declared.name.At.{At}
 use Rattle.sml_trees.specs.declared.name.Name.{Name}
 use Rattle.semantic_objects.specs.Tables.{Table as Named, entry}

@@ -1,4 +1,3 @@
-use Rattle.std.proofs.Common.{ap, sym}
 use Rattle.semantic_objects.specs.declared.entry.ValueEntry.{ValueEntry}
 use Rattle.sml_modules.specs.Items.{Item, as_value}
 use Rattle.sml_modules.specs.Graphs.{signature_of}

@@ -1,4 +1,3 @@
-use Rattle.std.proofs.Common.{◌∙◌, ap}
 use Rattle.signature_parts.proofs.Adding.{structure_refused, structure_added, structure_front, structure_envs}
 use Rattle.signature_parts.proofs.including.specify_structure.Goals as goal
 

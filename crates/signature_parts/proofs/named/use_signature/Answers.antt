@@ -1,6 +1,5 @@
-use Rattle.std.proofs.Common.{◌≡◌, subst, Option, Some, None}
+use Rattle.std.proofs.Common.{◌≡◌, subst, Some, None}
 use Rattle.semantic_objects.specs.Tables.{entry}
-use Rattle.semantic_objects.specs.Environments.{Signature}
 use Rattle.sml_modules.specs.Graphs.{signature_at, signature_of, FindsSignature}
 use Rattle.sml_modules.specs.declared.parts.SigParts.{SigParts}
 use Rattle.type_phrases.specs.Inferred.{progress}
@@ -23,8 +22,8 @@ returns-in_ok-open_signature-in-Some-clause-infers c = λ inner t home.
     subst (FindsSignature c.args.g.now (entry c.args.name.now.text (top_seen c.args.g.now c.args.top.now).signatures))
     c.in-Some.is c.in_ok-sig.ensures in
     used_gives c.args.g.now c.open_signature.new.g t (top_seen c.args.g.now c.args.top.now).signatures inner
-    c.args.name.now (signature_at c.args.g.now c.in-Some.sig) c.in_ok-open_signature.field-0 home there.1
-    c.in_ok-open_signature.ensures.ok
+    c.args.name.now (signature_at c.args.g.now c.in-Some.sig) c.in_ok-open_signature-in-Some.field-0 home there.1
+    c.in_ok-open_signature-in-Some.ensures.ok
 
 pub returns-in-None-clause-infers : goal.returns-in-None-clause-infers
 returns-in-None-clause-infers c = λ inner t home.
