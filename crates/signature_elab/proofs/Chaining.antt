@@ -44,22 +44,29 @@ use Rattle.signature_elab.specs.Phrases.{infer_added, infer_structure, signature
 
 -- ---- steps of inference
 
+abbrev told : Signature → Progress → Signature × Progress
+told sig st = (sig, st)
+
+abbrev known_with : Answer Signature → Progress → Answer (Signature × Progress)
+known_with m st = m >>= λ with. gives (told with st)
+
 answers_go : {A B Q : Type 0} (want : Answer A) (x : A) (k : A → Answer B) (told : Q → B) (r : Result Q Fault)
     → want ≡ gives x → Answers (k x) told r → Answers (want >>= k) told r
 answers_go want x k told r h l = subst (λ m. Answers (m >>= k) told r) (sym h) l
 
 -- with what is known then
 pub answers_with : {P : Type 0} (m : Answer Signature) (st : Progress) (read : P → Signature) (r : Result P Fault)
-    → Answers m read r → Answers (m >>= λ with. gives (with, st)) (λ done. (read done, st)) r
-answers_with m st read (Ok done) h = ap (λ (n : Answer Signature). n >>= λ with. gives (with, st)) h
-answers_with m st read (Err e) h = failed m (λ with. gives (with, st)) read (λ done. (read done, st)) e h
+    → Answers m read r → Answers (known_with m st) (λ (done : P). told (read done) st) r
+answers_with m st read (Ok done) h = ap (λ (n : Answer Signature). known_with n st) h
+answers_with m st read (Err e) h =
+    failed m (λ with. gives (told with st)) read (λ done. told (read done) st) e h
 
 -- .. where the table has more types, and knows what it knew
 pub answers_making : {P : Type 0} (g : Graph) (t u : Table) → state u ≡ state t → (m : Answer Signature)
     (read : P → Signature) (r : Result P Fault) → Answers m read r
-    → Answers (m >>= λ with. gives (with, progress t g)) (λ done. (read done, progress u g)) r
+    → Answers (known_with m (progress t g)) (λ (done : P). told (read done) (progress u g)) r
 answers_making {P} g t u e m read r h =
-    subst (λ (st : Progress). Answers (m >>= λ with. gives (with, progress t g)) (λ (done : P). (read done, st)) r)
+    subst (λ (st : Progress). Answers (known_with m (progress t g)) (λ (done : P). told (read done) st) r)
     (sym (ap (λ s. (let st : Progress = record { types = s; names = length g.made } in st)) e))
     (answers_with m (progress t g) read r h)
 
@@ -71,16 +78,16 @@ on_ok (Err e) h = tt
 
 module _ {V : Type 0} {g h : Graph} {t u : Table} {old new : Bindings V} where
   -- the same phrase
-  pub as_sig : {sigs : Named Signature} {p q : SigPhrase} {r : Result SigParts Fault} → p ≡ q
+  pub as_sig : (sigs : Named Signature) {p q : SigPhrase} {r : Result SigParts Fault} → p ≡ q
       → IsOpenSig g h t u old new (λ sc st. infer_sig sigs sc q st) r
       → IsOpenSig g h t u old new (λ sc st. infer_sig sigs sc p st) r
-  as_sig {sigs} {p} {q} {r} e k =
+  as_sig sigs {p} {q} {r} e k =
       subst (λ z. IsOpenSig g h t u old new (λ sc st. infer_sig sigs sc z st) r) (sym e) k
 
-  pub as_spec : {sigs : Named Signature} {past made : Specified} {p q : SpecPhrase} {r : Result (Unit {0}) Fault} → p ≡ q
+  pub as_spec : (sigs : Named Signature) {past made : Specified} {p q : SpecPhrase} {r : Result (Unit {0}) Fault} → p ≡ q
       → IsSpecified g h t u past made old new (λ sc so st. infer_spec sigs sc q so st) r
       → IsSpecified g h t u past made old new (λ sc so st. infer_spec sigs sc p so st) r
-  as_spec {sigs} {past} {made} {p} {q} {r} e k =
+  as_spec sigs {past} {made} {p} {q} {r} e k =
       subst (λ z. IsSpecified g h t u past made old new (λ sc so st. infer_spec sigs sc z so st) r) (sym e) k
 
 -- nothing is specified yet
@@ -89,8 +96,8 @@ pub nothing_specified : {V : Type 0} (g : Graph) (made : Specified) (sc : Bindin
 nothing_specified g made sc e = λ read.
     ap (λ (sig : Signature). modified_by (seen g read sc) sig.env) e ∙ with_nothing (seen g read sc)
 
-module _ {V : Type 0} {g h : Graph} {t u : Table} {past made : Specified} {old mid : Bindings V} {sigs : Named Signature}
-    {spec : SpecPhrase} (at : At) (nothing : signature_so_far g past ≡ empty_signature) where
+module _ {V : Type 0} {g h : Graph} {t u : Table} {past made : Specified} {old mid : Bindings V} (sigs : Named Signature)
+    (spec : SpecPhrase) (at : At) (nothing : signature_so_far g past ≡ empty_signature) where
   -- `sig .. end`
   pub sig_fails : {new : Bindings V} {e : Fault}
       → IsSpecified g h t u past made old mid (λ sc so st. infer_spec sigs sc spec so st) (Err e)
@@ -125,14 +132,14 @@ module _ {V : Type 0} {g h : Graph} {t u : Table} {past made : Specified} {old m
   }
 
 -- a name
-pub sig_used : {V : Type 0} {g h : Graph} {t : Table} {old : Bindings V} {sigs : Named Signature} (name : Name) (at : At)
+pub sig_used : {V : Type 0} {g h : Graph} {t : Table} {old : Bindings V} (sigs : Named Signature) (name : Name) (at : At)
     (r : Result SigParts Fault)
     → ((inner : Scope) (w : Table) → inner.home ≡ g.home
     → Answers (infer_sig sigs inner (SigPhrase.Named name at) (progress w g))
     (λ parts. (signature_of h parts, progress w h)) r)
     → IfOk r (HasSigParts h) → Grows g h
     → IsOpenSig g h t t old old (λ sc st. infer_sig sigs sc (SigPhrase.Named name at) st) r
-sig_used {V} {g} {h} {t} {old} {sigs} name at r infers there grows = record {
+sig_used {V} {g} {h} {t} {old} sigs name at r infers there grows = record {
   infers = λ w read. infers (scope_in g w read old) t refl;
   there = there;
   keeps = keeps_all t;
@@ -141,7 +148,7 @@ sig_used {V} {g} {h} {t} {old} {sigs} name at r infers there grows = record {
 }
 
 -- `where type`
-module _ {V : Type 0} {g h : Graph} {t u : Table} {old mid : Bindings V} {sigs : Named Signature} {sig : SigPhrase}
+module _ {V : Type 0} {g h : Graph} {t u : Table} {old mid : Bindings V} (sigs : Named Signature) (sig : SigPhrase)
     (tyvars : List Name) (long : LongName) (ty : TyPhrase) (at : At) where
   pub where_fails : {new : Bindings V} {e : Fault} → IsOpenSig g h t u old mid (λ sc st. infer_sig sigs sc sig st) (Err e)
       → IsOpenSig g h t u old new (λ sc st. infer_sig sigs sc (SigPhrase.Where sig tyvars long ty at) st) (Err e)
@@ -181,8 +188,8 @@ module _ {V : Type 0} {g h : Graph} {t u : Table} {old mid : Bindings V} {sigs :
 
 -- ---- a signature whose entries are added
 
-module _ {V : Type 0} {g h : Graph} {t u : Table} {past : Specified} {old mid : Bindings V} {sigs : Named Signature}
-    {sig : SigPhrase} (add : Scope → Signature → Signature → Answer Signature) where
+module _ {V : Type 0} {g h : Graph} {t u : Table} {past : Specified} {old mid : Bindings V} (sigs : Named Signature)
+    (sig : SigPhrase) (add : Scope → Signature → Signature → Answer Signature) where
   pub added_fails : {new : Bindings V} {e : Fault} → IsOpenSig g h t u old mid (λ sc st. infer_sig sigs sc sig st) (Err e)
       → IsListed g h t u past past old new (λ sc so st. infer_added sigs add sc sig so st) (Err e)
   added_fails {new} {e} k = record {
@@ -224,10 +231,10 @@ module _ {V : Type 0} {g h : Graph} {t u : Table} {past : Specified} {old mid : 
 
 -- the same binding
 pub as_structure : {V : Type 0} {g h : Graph} {t u : Table} {past made : Specified} {old new : Bindings V}
-    {sigs : Named Signature} {p q : Name × SigPhrase} {r : Result (Unit {0}) Fault} → p ≡ q
+    (sigs : Named Signature) {p q : Name × SigPhrase} {r : Result (Unit {0}) Fault} → p ≡ q
     → IsListed g h t u past made old new (λ sc so st. infer_structure sigs q sc so st) r
     → IsListed g h t u past made old new (λ sc so st. infer_structure sigs p sc so st) r
-as_structure {V} {g} {h} {t} {u} {past} {made} {old} {new} {sigs} {p} {q} {r} e k =
+as_structure {V} {g} {h} {t} {u} {past} {made} {old} {new} sigs {p} {q} {r} e k =
     subst (λ z. IsListed g h t u past made old new (λ sc so st. infer_structure sigs z sc so st) r) (sym e) k
 
 -- ---- structures, one after another
@@ -256,16 +263,21 @@ structures_begin sigs g t past old binds envs = record {
   envs = envs;
 }
 
+-- two steps and a third, and the first two as one
+abbrev two_steps : Answer (Signature × Progress) → (Signature → Answer Signature) → Answer (Signature × Progress)
+two_steps m f = m >>= λ r. known_with (f r.0) r.1
+
+abbrev all_steps : {C : Type 0} → Answer (Signature × Progress) → (Signature → Answer Signature)
+    → (Signature → Progress → Answer C) → Answer C
+all_steps m f k = m >>= λ r. f r.0 >>= λ with. k with r.1
+
 in_steps : {C : Type 0} (m : Answer (Signature × Progress)) (f : Signature → Answer Signature)
-    (k : Signature → Progress → Answer C)
-    → (m >>= λ r. f r.0 >>= λ with. k with r.1)
-    ≡ ((m >>= λ r. f r.0 >>= λ with. gives (with, r.1)) >>= λ q. k q.0 q.1)
+    (k : Signature → Progress → Answer C) → all_steps m f k ≡ (two_steps m f >>= λ q. k q.0 q.1)
 in_steps None f k = refl
 in_steps (Some (Err d)) f k = refl
 in_steps {C} (Some (Ok r)) f k = inner (f r.0)
   where
-    inner : (n : Answer Signature)
-        → (n >>= λ with. k with r.1) ≡ ((n >>= λ with. gives (with, r.1)) >>= λ q. k q.0 q.1)
+    inner : (n : Answer Signature) → (n >>= λ with. k with r.1) ≡ (known_with n r.1 >>= λ q. k q.0 q.1)
     inner None = refl
     inner (Some (Err d)) = refl
     inner (Some (Ok x)) = refl

@@ -47,7 +47,7 @@ top_is a b i j d e p q r = cc
 pub same_top : (old new : TopScope) → new.core ≡ old.core → KeepsNames old new → new ≡ old
 same_top old new e n = top_is new.core old.core new.given old.given new.defined old.defined e n.given n.defined
 
-module _ {g h : Graph} {t u : Table} {old : TopScope} {new : Bindings OwnVariable} {phrase : SigPhrase}
+module _ {g h : Graph} {t u : Table} {old : TopScope} {new : Bindings OwnVariable} (phrase : SigPhrase)
     (ready : IsTopScope g old) where
   pub whole_fails : {e : Fault} (r : Result SigId Fault) → IsErrAnd r (λ f. f ≡ e) → (s : SigId → Signature × Progress)
       → IsOpenSig g h t u old.core new (λ sc st. infer_sig (signatures_seen g old) sc phrase st) (Err e)

@@ -1,6 +1,7 @@
 -- How calls that elaborate signature expressions tell of inference. Only private functions cite this file.
-use Rattle.std.specs.Prelude.{◌≡◌, ◌∷◌}
+use Rattle.std.specs.Prelude.{◌≡◌, List}
 use Rattle.sml_trees.specs.declared.name.Name.{Name}
+use Rattle.sml_trees.specs.declared.name.LongName.{LongName}
 use Rattle.sml_trees.specs.declared.sig_exp.SigBind.{SigBind}
 use Rattle.sml_trees.specs.declared.sig_exp.SigExp.TheFolds.{fold-SigBind}
 use Rattle.semantic_objects.specs.declared.entry.ValueEntry.{ValueEntry}
@@ -10,7 +11,9 @@ use Rattle.sml_modules.specs.Graphs.{Graph}
 use Rattle.static_semantics.specs.Inferring.{Progress, Scope, Answer, ◌>>=◌, gives}
 use Rattle.core_scopes.specs.Scopes.{Bindings, seen, AreEnvs}
 use Rattle.module_semantics.specs.SigPhrases.{SigPhrase, SpecPhrase, sig_level, spec_level, sig_bind_level}
-use Rattle.module_semantics.specs.SignatureInference.{infer_sig}
+use Rattle.bare_phrases.specs.Phrases.{ConPhrase}
+use Rattle.module_semantics.specs.SignatureInference.{infer_sig, infer_exception_specs}
+use Rattle.datatype_specs.specs.Replicas.{infer_replication_spec}
 use Rattle.module_scopes.specs.declared.top.TopScope.{TopScope}
 use Rattle.module_scopes.specs.Tops.{top_seen, IsTopScope}
 use Rattle.signature_specs.specs.declared.specified.Specified.{Specified}
@@ -35,6 +38,14 @@ abbrev pub infer_added : Named Signature → (Scope → Signature → Signature 
     → Signature → Progress → Answer (Signature × Progress)
 infer_added sigs add sc sig made st =
     infer_sig sigs sc sig st >>= λ r. add sc r.0 made >>= λ with. gives (with, r.1)
+
+-- a replication, and exceptions: nothing is passed on but what was
+abbrev pub infer_replicated : Scope → Name → LongName → Signature → Progress → Answer (Signature × Progress)
+infer_replicated sc name long made st =
+    infer_replication_spec sc name long made >>= λ with. gives (with, st)
+
+abbrev pub infer_exceptions : Scope → List ConPhrase → Signature → Progress → Answer (Signature × Progress)
+infer_exceptions sc cons made st = infer_exception_specs sc cons made >>= λ with. gives (with, st)
 
 -- one structure of a specification
 abbrev pub infer_structure : Named Signature → Name × SigPhrase → Scope → Signature → Progress

@@ -3,11 +3,10 @@
 ghost use Rattle.std.specs.Prelude.{map};
 ghost use Rattle.bare_phrases.specs.PhraseOf.{con_phrase, dat_phrase};
 ghost use Rattle.core_scopes.specs.Scopes.{AreEnvs, IsScopeOf};
-ghost use Rattle.static_semantics.specs.Inferring.{◌>>=◌, gives};
 ghost use Rattle.module_semantics.specs.SigPhrases.{type_desc_phrase, val_phrase};
-ghost use Rattle.module_semantics.specs.SignatureInference.{infer_datatype_specs, infer_exception_specs, infer_type_descs, infer_vals};
-ghost use Rattle.datatype_specs.specs.Replicas.{infer_replication_spec};
+ghost use Rattle.module_semantics.specs.SignatureInference.{infer_datatype_specs, infer_type_descs, infer_vals};
 ghost use Rattle.signature_parts.specs.Growing.{IsSpecified};
+ghost use Rattle.signature_elab.specs.Phrases.{infer_exceptions, infer_replicated};
 
 use cm_base::Fault;
 use core_scopes::Scope;
@@ -90,7 +89,7 @@ pub(crate) fn replication<V: Copy + Drop>(
     requires scope { IsScopeOf g.old scope.old }
     requires envs { AreEnvs g.old made.old.structures }
     ensures { IsSpecified g.old g.new t.old t.new made.old made.new scope.old scope.new
-        (λ sc sig st. infer_replication_spec sc name.now long.now sig >>= λ with. gives (with, st)) result }
+        (λ sc sig st. infer_replicated sc name.now long.now sig st) result }
 {
     let before = mark(made);
     elab_replication_spec(alloc, g, scope, name, long, made)?;
@@ -109,7 +108,7 @@ pub(crate) fn exceptions<V: Copy + Drop>(
     requires scope { IsScopeOf g.old scope.old }
     requires envs { AreEnvs g.old made.old.structures }
     ensures { IsSpecified g.old g.new t.old t.new made.old made.new scope.old scope.new
-        (λ sc sig st. infer_exception_specs sc (map con_phrase cons.now) sig >>= λ with. gives (with, st)) result }
+        (λ sc sig st. infer_exceptions sc (map con_phrase cons.now) sig st) result }
 {
     let before = mark(made);
     elab_exception_specs(alloc, g, t, scope, cons, made)?;

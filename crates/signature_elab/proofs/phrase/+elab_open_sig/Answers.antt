@@ -102,25 +102,25 @@ elab_specs-returns-clause-names t c = c.loop-spec.invariant.names
 pub elab_structure-returns-in_err-open-clause-phrase : goal.elab_structure-returns-in_err-open-clause-phrase
 elab_structure-returns-in_err-open-clause-phrase t c =
     list_passed c.from_residual.result c.in_err-open.field-0.0 c.from_residual.ensures.1
-    (as_structure (bind_phrase-kept c.args.bind.now)
-    (added_fails (λ inner sig so. structure_specified inner (out-SigBind c.args.bind.now).name sig so)
+    (as_structure (signatures_seen c.args.g.now c.args.top.now) (bind_phrase-kept c.args.bind.now)
+    (added_fails (signatures_seen c.args.g.now c.args.top.now) (sig_phrase (out-SigBind c.args.bind.now).sig) (λ inner sig so. structure_specified inner (out-SigBind c.args.bind.now).name sig so)
     c.in_err-open.ensures.phrase))
 
 pub elab_structure-returns-clause-phrase : goal.elab_structure-returns-clause-phrase
 elab_structure-returns-clause-phrase t c =
-    as_structure (bind_phrase-kept c.args.bind.now)
-    (added (λ inner sig so. structure_specified inner (out-SigBind c.args.bind.now).name sig so) c.requires.ready.core
+    as_structure (signatures_seen c.args.g.now c.args.top.now) (bind_phrase-kept c.args.bind.now)
+    (added (signatures_seen c.args.g.now c.args.top.now) (sig_phrase (out-SigBind c.args.bind.now).sig) (λ inner sig so. structure_specified inner (out-SigBind c.args.bind.now).name sig so) c.requires.ready.core
     c.requires.envs c.in_ok-open.ensures.phrase c.specify_structure.ensures.infers c.specify_structure.ensures.front
     c.specify_structure.ensures.envs)
 
 pub elab_included-returns-in_err-open-clause-phrase : goal.elab_included-returns-in_err-open-clause-phrase
 elab_included-returns-in_err-open-clause-phrase t c =
     list_passed c.from_residual.result c.in_err-open.field-0.0 c.from_residual.ensures.1
-    (added_fails (λ inner sig so. included inner c.args.at sig so) c.in_err-open.ensures.phrase)
+    (added_fails (signatures_seen c.args.g.now c.args.top.now) (sig_phrase c.args.sig.now) (λ inner sig so. included inner c.args.at sig so) c.in_err-open.ensures.phrase)
 
 pub elab_included-returns-clause-phrase : goal.elab_included-returns-clause-phrase
 elab_included-returns-clause-phrase t c =
-    added (λ inner sig so. included inner c.args.at sig so) c.requires.ready.core c.requires.envs
+    added (signatures_seen c.args.g.now c.args.top.now) (sig_phrase c.args.sig.now) (λ inner sig so. included inner c.args.at sig so) c.requires.ready.core c.requires.envs
     c.in_ok-open.ensures.phrase c.include.ensures.infers c.include.ensures.front c.include.ensures.envs
 
 -- ---- signature expressions
@@ -129,24 +129,24 @@ pub elab_open_sig-returns-in_err-elab_spec-in-Sig-clause-phrase :
     goal.elab_open_sig-returns-in_err-elab_spec-in-Sig-clause-phrase
 elab_open_sig-returns-in_err-elab_spec-in-Sig-clause-phrase t c =
     sig_passed c.from_residual.result c.in_err-elab_spec-in-Sig.field-0.0 c.from_residual.ensures.1
-    (as_sig (ap sig_phrase c.in-Sig.is ∙ sig_phrase-Sig c.in-Sig.spec c.in-Sig.field-1
+    (as_sig (signatures_seen c.args.g.now c.args.top.now) (ap sig_phrase c.in-Sig.is ∙ sig_phrase-Sig c.in-Sig.spec c.in-Sig.field-1
     ∙ ap (λ s. SigPhrase.Sig (spec_phrase s) c.in-Sig.field-1) (sym c.get.ensures))
-    (sig_fails c.in-Sig.field-1 (c.new-made.ensures.empty c.args.g.now) c.in_err-elab_spec-in-Sig.ensures.phrase))
+    (sig_fails (signatures_seen c.args.g.now c.args.top.now) (spec_phrase c.get.result.now) c.in-Sig.field-1 (c.new-made.ensures.empty c.args.g.now) c.in_err-elab_spec-in-Sig.ensures.phrase))
 
 pub elab_open_sig-returns-in_ok-end_signature-in-Sig-clause-phrase :
     goal.elab_open_sig-returns-in_ok-end_signature-in-Sig-clause-phrase
 elab_open_sig-returns-in_ok-end_signature-in-Sig-clause-phrase t c =
-    as_sig (ap sig_phrase c.in-Sig.is ∙ sig_phrase-Sig c.in-Sig.spec c.in-Sig.field-1
+    as_sig (signatures_seen c.args.g.now c.args.top.now) (ap sig_phrase c.in-Sig.is ∙ sig_phrase-Sig c.in-Sig.spec c.in-Sig.field-1
     ∙ ap (λ s. SigPhrase.Sig (spec_phrase s) c.in-Sig.field-1) (sym c.get.ensures))
-    (sig_ends c.in-Sig.field-1 (c.new-made.ensures.empty c.args.g.now) c.in_ok-elab_spec-in-Sig.ensures.phrase
+    (sig_ends (signatures_seen c.args.g.now c.args.top.now) (spec_phrase c.get.result.now) c.in-Sig.field-1 (c.new-made.ensures.empty c.args.g.now) c.in_ok-elab_spec-in-Sig.ensures.phrase
     c.in_ok-end_signature-in-Sig.ensures.ok
     (c.leave.ensures c.args.top.now.core c.mark-before.ensures.is
     c.in_ok-elab_spec-in-Sig.ensures.phrase.bound.behind))
 
 pub elab_open_sig-returns-in-Named-clause-phrase : goal.elab_open_sig-returns-in-Named-clause-phrase
 elab_open_sig-returns-in-Named-clause-phrase t c =
-    as_sig (ap sig_phrase c.in-Named.is ∙ sig_phrase-Named c.in-Named.name c.in-Named.field-1)
-    (sig_used c.in-Named.name c.in-Named.field-1 c.use_signature.result c.use_signature.ensures.infers
+    as_sig (signatures_seen c.args.g.now c.args.top.now) (ap sig_phrase c.in-Named.is ∙ sig_phrase-Named c.in-Named.name c.in-Named.field-1)
+    (sig_used (signatures_seen c.args.g.now c.args.top.now) c.in-Named.name c.in-Named.field-1 c.use_signature.result c.use_signature.ensures.infers
     c.use_signature.ensures.there c.use_signature.ensures.grows)
 
 pub elab_open_sig-returns-in_err-open-in-Where-clause-phrase :
@@ -154,21 +154,21 @@ pub elab_open_sig-returns-in_err-open-in-Where-clause-phrase :
 elab_open_sig-returns-in_err-open-in-Where-clause-phrase t c =
     sig_passed c.from_residual-in_err-open-in-Where.result c.in_err-open-in-Where.field-0.0
     c.from_residual-in_err-open-in-Where.ensures.1
-    (as_sig (ap sig_phrase c.in-Where.is
+    (as_sig (signatures_seen c.args.g.now c.args.top.now) (ap sig_phrase c.in-Where.is
     ∙ sig_phrase-Where c.in-Where.sig c.in-Where.tyvars c.in-Where.long c.in-Where.ty c.in-Where.at
     ∙ ap (λ s. SigPhrase.Where (sig_phrase s) c.in-Where.tyvars c.in-Where.long (ty_phrase c.in-Where.ty) c.in-Where.at)
     (sym c.get-in-Where.ensures))
-    (where_fails c.in-Where.tyvars c.in-Where.long (ty_phrase c.in-Where.ty) c.in-Where.at
+    (where_fails (signatures_seen c.args.g.now c.args.top.now) (sig_phrase c.get-in-Where.result.now) c.in-Where.tyvars c.in-Where.long (ty_phrase c.in-Where.ty) c.in-Where.at
     c.in_err-open-in-Where.ensures.phrase))
 
 pub elab_open_sig-returns-in_ok-open-in-Where-clause-phrase :
     goal.elab_open_sig-returns-in_ok-open-in-Where-clause-phrase
 elab_open_sig-returns-in_ok-open-in-Where-clause-phrase t c =
-    as_sig (ap sig_phrase c.in-Where.is
+    as_sig (signatures_seen c.args.g.now c.args.top.now) (ap sig_phrase c.in-Where.is
     ∙ sig_phrase-Where c.in-Where.sig c.in-Where.tyvars c.in-Where.long c.in-Where.ty c.in-Where.at
     ∙ ap₂ (λ s vs. SigPhrase.Where (sig_phrase s) vs c.in-Where.long (ty_phrase c.in-Where.ty) c.in-Where.at)
     (sym c.get-in-Where.ensures) (sym c.as_slice.ensures))
-    (where_goes c.as_slice.result.now c.in-Where.long (ty_phrase c.in-Where.ty) c.in-Where.at c.requires.core
+    (where_goes (signatures_seen c.args.g.now c.args.top.now) (sig_phrase c.get-in-Where.result.now) c.as_slice.result.now c.in-Where.long (ty_phrase c.in-Where.ty) c.in-Where.at c.requires.core
     c.in_ok-open-in-Where.ensures.phrase c.elab_where.ensures.infers c.elab_where.ensures.there
     c.elab_where.ensures.keeps (grows_nodes c.elab_where.ensures.graph) c.elab_where.ensures.scope)
 
@@ -176,37 +176,37 @@ elab_open_sig-returns-in_ok-open-in-Where-clause-phrase t c =
 
 pub elab_spec-returns-in-Vals-clause-phrase : goal.elab_spec-returns-in-Vals-clause-phrase
 elab_spec-returns-in-Vals-clause-phrase t c =
-    as_spec (ap spec_phrase c.in-Vals.is ∙ spec_phrase-Vals c.in-Vals.descs c.in-Vals.field-1
+    as_spec (signatures_seen c.args.g.now c.args.top.now) (ap spec_phrase c.in-Vals.is ∙ spec_phrase-Vals c.in-Vals.descs c.in-Vals.field-1
     ∙ ap (λ x. SpecPhrase.Vals (map val_phrase x) c.in-Vals.field-1) (sym c.as_slice.ensures)) c.vals.ensures
 
 pub elab_spec-returns-in-Types-clause-phrase : goal.elab_spec-returns-in-Types-clause-phrase
 elab_spec-returns-in-Types-clause-phrase t c =
-    as_spec (ap spec_phrase c.in-Types.is ∙ spec_phrase-Types c.in-Types.descs c.in-Types.field-1
+    as_spec (signatures_seen c.args.g.now c.args.top.now) (ap spec_phrase c.in-Types.is ∙ spec_phrase-Types c.in-Types.descs c.in-Types.field-1
     ∙ ap (λ x. SpecPhrase.Types (map type_desc_phrase x) c.in-Types.field-1) (sym c.as_slice-in-Types.ensures)) c.types.ensures
 
 pub elab_spec-returns-in-Eqtypes-clause-phrase : goal.elab_spec-returns-in-Eqtypes-clause-phrase
 elab_spec-returns-in-Eqtypes-clause-phrase t c =
-    as_spec (ap spec_phrase c.in-Eqtypes.is ∙ spec_phrase-Eqtypes c.in-Eqtypes.descs c.in-Eqtypes.field-1
+    as_spec (signatures_seen c.args.g.now c.args.top.now) (ap spec_phrase c.in-Eqtypes.is ∙ spec_phrase-Eqtypes c.in-Eqtypes.descs c.in-Eqtypes.field-1
     ∙ ap (λ x. SpecPhrase.Eqtypes (map type_desc_phrase x) c.in-Eqtypes.field-1) (sym c.as_slice-in-Eqtypes.ensures)) c.types-in-Eqtypes.ensures
 
 pub elab_spec-returns-in-Datatypes-clause-phrase : goal.elab_spec-returns-in-Datatypes-clause-phrase
 elab_spec-returns-in-Datatypes-clause-phrase t c =
-    as_spec (ap spec_phrase c.in-Datatypes.is ∙ spec_phrase-Datatypes c.in-Datatypes.binds c.in-Datatypes.field-1
+    as_spec (signatures_seen c.args.g.now c.args.top.now) (ap spec_phrase c.in-Datatypes.is ∙ spec_phrase-Datatypes c.in-Datatypes.binds c.in-Datatypes.field-1
     ∙ ap (λ x. SpecPhrase.Datatypes (map dat_phrase x) c.in-Datatypes.field-1) (sym c.as_slice-in-Datatypes.ensures)) c.datatypes.ensures
 
 pub elab_spec-returns-in-Exceptions-clause-phrase : goal.elab_spec-returns-in-Exceptions-clause-phrase
 elab_spec-returns-in-Exceptions-clause-phrase t c =
-    as_spec (ap spec_phrase c.in-Exceptions.is ∙ spec_phrase-Exceptions c.in-Exceptions.cons c.in-Exceptions.field-1
+    as_spec (signatures_seen c.args.g.now c.args.top.now) (ap spec_phrase c.in-Exceptions.is ∙ spec_phrase-Exceptions c.in-Exceptions.cons c.in-Exceptions.field-1
     ∙ ap (λ x. SpecPhrase.Exceptions (map con_phrase x) c.in-Exceptions.field-1) (sym c.as_slice-in-Exceptions.ensures)) c.exceptions.ensures
 
 pub elab_spec-returns-in-Replication-clause-phrase : goal.elab_spec-returns-in-Replication-clause-phrase
 elab_spec-returns-in-Replication-clause-phrase t c =
-    as_spec (ap spec_phrase c.in-Replication.is
+    as_spec (signatures_seen c.args.g.now c.args.top.now) (ap spec_phrase c.in-Replication.is
     ∙ spec_phrase-Replication c.in-Replication.name c.in-Replication.long c.in-Replication.field-2) c.replication.ensures
 
 pub elab_spec-returns-in-Sequence-clause-phrase : goal.elab_spec-returns-in-Sequence-clause-phrase
 elab_spec-returns-in-Sequence-clause-phrase t c =
-    as_spec (ap spec_phrase c.in-Sequence.is ∙ spec_phrase-Sequence c.in-Sequence.specs c.in-Sequence.field-1
+    as_spec (signatures_seen c.args.g.now c.args.top.now) (ap spec_phrase c.in-Sequence.is ∙ spec_phrase-Sequence c.in-Sequence.specs c.in-Sequence.field-1
     ∙ ap (λ x. SpecPhrase.Sequence (spec_phrases (map spec_phrase x)) c.in-Sequence.field-1)
     (sym c.as_slice-in-Sequence.ensures)) c.elab_specs.ensures.phrase
 
@@ -214,7 +214,7 @@ pub elab_spec-returns-in_err-elab_structures-in-Structures-clause-phrase :
     goal.elab_spec-returns-in_err-elab_structures-in-Structures-clause-phrase
 elab_spec-returns-in_err-elab_structures-in-Structures-clause-phrase t c =
     spec_passed c.from_residual.result c.in_err-elab_structures-in-Structures.field-0.0 c.from_residual.ensures.1
-    (as_spec (ap spec_phrase c.in-Structures.is ∙ spec_phrase-Structures c.in-Structures.binds c.in-Structures.field-1
+    (as_spec (signatures_seen c.args.g.now c.args.top.now) (ap spec_phrase c.in-Structures.is ∙ spec_phrase-Structures c.in-Structures.binds c.in-Structures.field-1
     ∙ ap (λ x. SpecPhrase.Structures (sig_binds (map bind_phrase x)) c.in-Structures.field-1)
     (sym c.as_slice-in-Structures.ensures))
     (listed_fails c.in_err-elab_structures-in-Structures.field-0.0 c.in_err-elab_structures-in-Structures.ensures.phrase))
@@ -228,7 +228,7 @@ elab_spec-returns-in_err-bind_since-in-Structures-clause-phrase t c =
 pub elab_spec-returns-in_ok-bind_since-in-Structures-clause-phrase :
     goal.elab_spec-returns-in_ok-bind_since-in-Structures-clause-phrase
 elab_spec-returns-in_ok-bind_since-in-Structures-clause-phrase t c =
-    as_spec (ap spec_phrase c.in-Structures.is ∙ spec_phrase-Structures c.in-Structures.binds c.in-Structures.field-1
+    as_spec (signatures_seen c.args.g.now c.args.top.now) (ap spec_phrase c.in-Structures.is ∙ spec_phrase-Structures c.in-Structures.binds c.in-Structures.field-1
     ∙ ap (λ x. SpecPhrase.Structures (sig_binds (map bind_phrase x)) c.in-Structures.field-1)
     (sym c.as_slice-in-Structures.ensures))
     (listed_bound c.requires.envs c.requires.ready.core c.in_ok-elab_structures-in-Structures.ensures.phrase
@@ -238,7 +238,7 @@ pub elab_spec-returns-in_err-elab_included-in-Include-clause-phrase :
     goal.elab_spec-returns-in_err-elab_included-in-Include-clause-phrase
 elab_spec-returns-in_err-elab_included-in-Include-clause-phrase t c =
     spec_passed c.from_residual-in_err-elab_included-in-Include.result c.in_err-elab_included-in-Include.field-0.0 c.from_residual-in_err-elab_included-in-Include.ensures.1
-    (as_spec (ap spec_phrase c.in-Include.is ∙ spec_phrase-Include c.in-Include.sig c.in-Include.at
+    (as_spec (signatures_seen c.args.g.now c.args.top.now) (ap spec_phrase c.in-Include.is ∙ spec_phrase-Include c.in-Include.sig c.in-Include.at
     ∙ ap (λ x. SpecPhrase.Include (sig_phrase x) c.in-Include.at) (sym c.get.ensures))
     (listed_fails c.in_err-elab_included-in-Include.field-0.0 c.in_err-elab_included-in-Include.ensures.phrase))
 
@@ -251,7 +251,7 @@ elab_spec-returns-in_err-bind_since-in-Include-clause-phrase t c =
 pub elab_spec-returns-in_ok-bind_since-in-Include-clause-phrase :
     goal.elab_spec-returns-in_ok-bind_since-in-Include-clause-phrase
 elab_spec-returns-in_ok-bind_since-in-Include-clause-phrase t c =
-    as_spec (ap spec_phrase c.in-Include.is ∙ spec_phrase-Include c.in-Include.sig c.in-Include.at
+    as_spec (signatures_seen c.args.g.now c.args.top.now) (ap spec_phrase c.in-Include.is ∙ spec_phrase-Include c.in-Include.sig c.in-Include.at
     ∙ ap (λ x. SpecPhrase.Include (sig_phrase x) c.in-Include.at) (sym c.get.ensures))
     (listed_bound c.requires.envs c.requires.ready.core c.in_ok-elab_included-in-Include.ensures.phrase
     (λ graph first e. c.in_ok-bind_since-in-Include.ensures.ok graph first (c.mark-before-in-Include.ensures ∙ e)))
