@@ -1,12 +1,10 @@
 -- Signature expressions one in another: what inference gives, from what calls answer of the parts.
-use Rattle.std.proofs.Common.{◌≡◌, ℕ, refl, sym, ap, ap₂, ◌∙◌, subst, List, [], ◌∷◌, length, Some, None}
+use Rattle.std.proofs.Common.{◌≡◌, ℕ, refl, sym, ap, ap₂, ◌∙◌, subst, List, [], length, Some, None}
 use Rattle.std.specs.Prelude.{Result, Ok, Err, IfOk, OnOk}
 use Rattle.cm_base.specs.declared.fault.Fault.{Fault}
-use Rattle.cm_base.specs.declared.fault.Fault.TheVariants as fault
 use Rattle.sml_trees.specs.declared.name.At.{At}
 use Rattle.sml_trees.specs.declared.name.Name.{Name}
 use Rattle.sml_trees.specs.declared.name.LongName.{LongName}
-use Rattle.semantic_objects.specs.declared.name.TyName.{TyName}
 use Rattle.semantic_objects.specs.declared.entry.ValueEntry.{ValueEntry}
 use Rattle.semantic_objects.specs.Tables.{Table as Named}
 use Rattle.semantic_objects.specs.Environments.{Env, Signature, Top, modified_by}
@@ -15,9 +13,9 @@ use Rattle.sml_modules.specs.declared.parts.SigParts.{SigParts}
 use Rattle.sml_modules.specs.Items.{map_rows}
 use Rattle.sml_modules.specs.Graphs.{Graph, signature_of, top_at, HasSigParts, HasTop}
 use Rattle.type_nodes.specs.Tables.{Table, state, type_of}
-use Rattle.unification.specs.Types.{Ty}
 use Rattle.bare_phrases.specs.Phrases.{TyPhrase}
-use Rattle.static_semantics.specs.Inferring.{Progress, Scope, under, Answer, ◌>>=◌, gives}
+use Rattle.static_semantics.specs.Inferring.{Progress, Scope, under, Answer, ◌>>=◌, gives, name_at}
+use Rattle.static_semantics.specs.DatatypeInference.{infer_replication}
 use Rattle.core_scopes.specs.Scopes.{Bindings, seen, written_of, AreEnvs, IsScopeOf}
 use Rattle.core_scopes.specs.Marks as marks
 use Rattle.core_scopes.proofs.Scoping.{scope_there, fronts_go_on}
@@ -26,13 +24,13 @@ use Rattle.type_phrases.proofs.Keeping.{keeps_all, keeps_later}
 use Rattle.type_phrases.proofs.Steps.{failed, still_refused}
 use Rattle.module_semantics.specs.SigPhrases.{SigPhrase, SpecPhrase, SigBinds, SpecPhrases}
 use Rattle.module_semantics.specs.SignatureNames.{empty_signature}
-use Rattle.module_semantics.specs.SignatureInference.{infer_sig, infer_spec, infer_specs, infer_structure_specs}
+use Rattle.module_semantics.specs.SignatureInference.{infer_sig, infer_spec, infer_specs, infer_structure_specs, specified}
 use Rattle.signature_specs.specs.declared.specified.Specified.{Specified}
 use Rattle.signature_specs.specs.Specs.{env_so_far, signature_so_far, IsFrontOf}
 use Rattle.signature_specs.proofs.Fronts.{front_itself, front_later}
-use Rattle.where_types.specs.Where.{infer_where, GrowsByNodes, GivesParts}
+use Rattle.where_types.specs.Where.{infer_where, GivesParts}
 use Rattle.signature_parts.specs.Ending.{structure_specified}
-use Rattle.signature_parts.specs.Growing.{Grows, IsUnder, IsBound, IsOpenSig, IsSpecified, IsListed}
+use Rattle.signature_parts.specs.Growing.{Grows, IsBound, IsOpenSig, IsSpecified, IsListed}
 use Rattle.signature_parts.proofs.Again.{specified_again, with_nothing}
 use Rattle.signature_parts.proofs.Elaborated.{grows_self, grows_then, grows_nodes, envs_kept, so_far_kept, scope_kept, names_same}
 use Rattle.pattern_elab.specs.declared.own.OwnVariable.{OwnVariable}
@@ -40,7 +38,7 @@ use Rattle.module_scopes.specs.declared.defined.Defined.{Defined}
 use Rattle.module_scopes.specs.declared.top.TopScope.{TopScope}
 use Rattle.module_scopes.specs.Tops.{signatures_over, IsDefinedIn, IsTopScope}
 use Rattle.module_scopes.proofs.Tops.{tops_stay}
-use Rattle.signature_elab.specs.Phrases.{infer_added, infer_structure, signatures_seen, IsOwn, IsReadyIn, KeepsNames}
+use Rattle.signature_elab.specs.Phrases.{infer_added, infer_replicated, infer_structure, signatures_seen, IsOwn, IsReadyIn, KeepsNames}
 
 -- ---- steps of inference
 
@@ -473,6 +471,30 @@ specs_end {V} {sigs} {g} {h} {t} {u} {past} {made} {old} {new} {specs} {left} s 
   keeps = s.keeps;
   graph = s.graph;
   bound = s.bound;
+}
+
+-- ---- the replication of a datatype
+
+joined : (m : Answer Env) (f : Env → Answer Signature) (st : Progress)
+    → known_with (m >>= f) st ≡ (m >>= λ x. known_with (f x) st)
+joined None f st = refl
+joined (Some (Err d)) f st = refl
+joined (Some (Ok x)) f st = refl
+
+pub as_replicated : {V : Type 0} {g h : Graph} {t u : Table} {past made : Specified} {old new : Bindings V}
+    (sigs : Named Signature) (name : Name) (long : LongName) (at : At) {r : Result (Unit {0}) Fault}
+    → IsSpecified g h t u past made old new (λ sc so st. infer_replicated sc name long so st) r
+    → IsSpecified g h t u past made old new (λ sc so st. infer_spec sigs sc (SpecPhrase.Replication name long at) so st) r
+as_replicated {V} {g} {h} {t} {u} {past} {made} {old} {new} sigs name long at {r} k = record {
+  infers = λ w read.
+      subst (λ (m : Answer (Signature × Progress)). Answers m
+      (λ (done : Unit {0}). told (signature_so_far h made) (progress u h)) r)
+      (joined (infer_replication (scope_in g w read old) name long)
+      (λ part. specified (scope_in g w read old) (name_at name) part (signature_so_far g past)) (progress t g))
+      (k.infers w read);
+  keeps = k.keeps;
+  graph = k.graph;
+  bound = k.bound;
 }
 
 -- ---- what is asked of a scope, later

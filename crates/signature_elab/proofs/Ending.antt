@@ -1,6 +1,6 @@
 -- Signature expressions that are finished.
-use Rattle.std.proofs.Common.{◌≡◌, ℕ, refl, sym, ap, ap₂, ◌∙◌, subst, List, [], ◌∷◌}
-use Rattle.std.specs.Prelude.{Result, Ok, Err, IsErrAnd, IfOk}
+use Rattle.std.proofs.Common.{◌≡◌, ℕ, sym, ap, ap₂, ◌∙◌, subst, List}
+use Rattle.std.specs.Prelude.{Result, Ok, Err, IsErrAnd}
 use Rattle.cm_base.specs.declared.fault.Fault.{Fault}
 use Rattle.semantic_objects.specs.declared.name.TyId.{TyId}
 use Rattle.semantic_objects.specs.Tables.{Table as Named}

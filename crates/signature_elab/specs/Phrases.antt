@@ -18,7 +18,7 @@ use Rattle.module_scopes.specs.declared.top.TopScope.{TopScope}
 use Rattle.module_scopes.specs.Tops.{top_seen, IsTopScope}
 use Rattle.signature_specs.specs.declared.specified.Specified.{Specified}
 use Rattle.signature_specs.specs.Specs.{env_so_far}
-use Rattle.signature_parts.specs.Ending.{structure_specified, included}
+use Rattle.signature_parts.specs.Ending.{structure_specified}
 
 -- a name with its signature
 unfoldable pub bind_phrase : SigBind → Name × SigPhrase

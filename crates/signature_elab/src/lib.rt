@@ -3,6 +3,7 @@
 
 mod leaves;
 mod phrase;
+mod ready;
 mod whole;
 
 pub use whole::{elab_sig, elab_sig_in};

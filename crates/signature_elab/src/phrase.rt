@@ -10,6 +10,7 @@ ghost use Rattle.signature_parts.specs.Growing.{IsListed, IsOpenSig, IsSpecified
 ghost use Rattle.signature_elab.specs.Phrases.{bind_phrase, infer_added, infer_structure, signatures_seen, IsReadyIn, KeepsNames};
 
 use crate::leaves::{datatypes, exceptions, replication, types, vals};
+use crate::ready::{is_ready, is_ready_in};
 use cm_base::Fault;
 use module_scopes::TopScope;
 use signature_parts::{bind_since, end_signature, include, mark, specify_structure, use_signature};
@@ -40,6 +41,7 @@ pub(crate) fn elab_open_sig(
         SigExp::Sig(spec, _) => {
             let before = top.core.mark();
             let mut made = Specified::new(alloc);
+            is_ready_in(g, &made, top);
             elab_spec(alloc, g, t, top, spec.get(), &mut made)?;
             top.core.leave(before);
             Ok(end_signature(alloc, g, made)?)
@@ -47,7 +49,17 @@ pub(crate) fn elab_open_sig(
         SigExp::Named(name, _) => use_signature(alloc, g, top, name),
         SigExp::Where(sig, tyvars, long, ty, at) => {
             let open = elab_open_sig(alloc, g, t, top, sig.get())?;
-            elab_where(alloc, g, t, &mut top.core, &open, tyvars.as_slice(), long, ty, *at)
+            elab_where(
+                alloc,
+                g,
+                t,
+                &mut top.core,
+                &open,
+                tyvars.as_slice(),
+                long,
+                ty,
+                *at,
+            )
         }
     }
 }
@@ -154,6 +166,7 @@ fn elab_structures(
     ensures names { KeepsNames top.old top.new }
 {
     for bind in binds {
+        is_ready(g, made, top);
         elab_structure(alloc, g, t, top, bind, made)?;
     }
     Ok(())
@@ -177,6 +190,7 @@ fn elab_specs(
 {
     top.core.mark();
     for spec in specs {
+        is_ready_in(g, made, top);
         elab_spec(alloc, g, t, top, spec, made)?;
     }
     Ok(())

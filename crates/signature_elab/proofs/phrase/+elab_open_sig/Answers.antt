@@ -1,4 +1,4 @@
-use Rattle.std.proofs.Common.{refl, sym, ap, ap₂, ◌∙◌, subst, map, drop, List, rules}
+use Rattle.std.proofs.Common.{sym, ap, ap₂, ◌∙◌, map, List}
 use Rattle.cm_base.specs.declared.fault.Fault.TheVariants as fault
 use Rattle.sml_trees.specs.declared.sig_exp.SigBind.{SigBind, out-SigBind}
 use Rattle.sml_trees.specs.declared.sig_exp.Spec.{Spec}
@@ -6,10 +6,10 @@ use Rattle.bare_phrases.specs.PhraseOf.{ty_phrase, con_phrase, dat_phrase}
 use Rattle.type_phrases.proofs.PartsRead.{drop_item, drop_end}
 use Rattle.module_semantics.specs.SigPhrases.{SigPhrase, SpecPhrase, sig_binds, sig_phrase, spec_phrase, spec_phrases, val_phrase, type_desc_phrase}
 use Rattle.signature_parts.specs.Ending.{structure_specified, included}
-use Rattle.signature_parts.proofs.Elaborated.{grows_nodes, spec_passed, spec_memory, list_passed, sig_passed, sig_memory, listed_bound, listed_fails}
+use Rattle.signature_parts.proofs.Elaborated.{grows_nodes, spec_passed, spec_memory, list_passed, sig_passed, listed_bound, listed_fails}
 use Rattle.signature_elab.specs.Phrases.{bind_phrase, signatures_seen}
 use Rattle.signature_elab.proofs.Forms.{sig_phrase-Sig, sig_phrase-Named, sig_phrase-Where, spec_phrase-Vals, spec_phrase-Types, spec_phrase-Eqtypes, spec_phrase-Datatypes, spec_phrase-Replication, spec_phrase-Exceptions, spec_phrase-Structures, spec_phrase-Include, spec_phrase-Sequence, bind_phrase-kept}
-use Rattle.signature_elab.proofs.Chaining.{as_sig, as_spec, as_structure, sig_fails, sig_ends, sig_used, where_fails, where_goes, added_fails, added, structures_begin, structures_next, structures_fail, structures_end, structures_ready, specs_begin, specs_next, specs_fail, specs_end, specs_ready, signatures_kept, first_ready, names_self, names_then}
+use Rattle.signature_elab.proofs.Chaining.{as_sig, as_spec, as_structure, sig_fails, sig_ends, sig_used, where_fails, where_goes, added_fails, added, structures_begin, structures_next, structures_fail, structures_end, structures_ready, specs_begin, specs_next, specs_fail, specs_end, specs_ready, signatures_kept, first_ready, names_self, names_then, as_replicated, top_same}
 use Rattle.signature_elab.proofs.phrase.+elab_open_sig.Goals as goal
 
 -- ---- structures
@@ -202,7 +202,9 @@ elab_spec-returns-in-Exceptions-clause-phrase t c =
 pub elab_spec-returns-in-Replication-clause-phrase : goal.elab_spec-returns-in-Replication-clause-phrase
 elab_spec-returns-in-Replication-clause-phrase t c =
     as_spec (signatures_seen c.args.g.now c.args.top.now) (ap spec_phrase c.in-Replication.is
-    ∙ spec_phrase-Replication c.in-Replication.name c.in-Replication.long c.in-Replication.field-2) c.replication.ensures
+    ∙ spec_phrase-Replication c.in-Replication.name c.in-Replication.long c.in-Replication.field-2)
+    (as_replicated (signatures_seen c.args.g.now c.args.top.now) c.in-Replication.name c.in-Replication.long
+    c.in-Replication.field-2 c.replication.ensures)
 
 pub elab_spec-returns-in-Sequence-clause-phrase : goal.elab_spec-returns-in-Sequence-clause-phrase
 elab_spec-returns-in-Sequence-clause-phrase t c =
@@ -255,3 +257,20 @@ elab_spec-returns-in_ok-bind_since-in-Include-clause-phrase t c =
     ∙ ap (λ x. SpecPhrase.Include (sig_phrase x) c.in-Include.at) (sym c.get.ensures))
     (listed_bound c.requires.envs c.requires.ready.core c.in_ok-elab_included-in-Include.ensures.phrase
     (λ graph first e. c.in_ok-bind_since-in-Include.ensures.ok graph first (c.mark-before-in-Include.ensures ∙ e)))
+
+-- ---- what is asked of calls
+
+pub elab_open_sig-is_ready_in-requires : goal.elab_open_sig-is_ready_in-requires
+elab_open_sig-is_ready_in-requires t c =
+    first_ready c.new-made.result (c.new-made.ensures.empty c.args.g.now) c.new-made.ensures.structures c.requires
+
+pub elab_open_sig-elab_where-requires-clause-scope : goal.elab_open_sig-elab_where-requires-clause-scope
+elab_open_sig-elab_where-requires-clause-scope t c =
+    (top_same c.in_ok-open-in-Where.ensures.phrase.graph c.requires c.in_ok-open-in-Where.ensures.names
+    c.in_ok-open-in-Where.ensures.phrase.scope).core
+
+pub elab_specs-is_ready_in-requires : goal.elab_specs-is_ready_in-requires
+elab_specs-is_ready_in-requires t c = specs_ready c.loop-spec.invariant c.requires
+
+pub elab_structures-is_ready-requires-clause-ready : goal.elab_structures-is_ready-requires-clause-ready
+elab_structures-is_ready-requires-clause-ready t c = structures_ready c.loop-bind.invariant c.requires.ready

@@ -1,4 +1,3 @@
-use Rattle.std.proofs.Common.{sym}
 use Rattle.sml_modules.specs.declared.id.SigId.{SigId}
 use Rattle.sml_modules.specs.Graphs.{signature_at, top_at}
 use Rattle.static_semantics.specs.Inferring.{outermost}

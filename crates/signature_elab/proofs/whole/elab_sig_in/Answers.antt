@@ -1,4 +1,3 @@
-use Rattle.std.proofs.Common.{◌≡◌, refl, ◌∙◌}
 use Rattle.sml_modules.specs.declared.id.SigId.{SigId}
 use Rattle.sml_modules.specs.Graphs.{signature_at}
 use Rattle.module_semantics.specs.SigPhrases.{sig_phrase}

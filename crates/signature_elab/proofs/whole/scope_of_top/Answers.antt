@@ -1,5 +1,4 @@
 use Rattle.std.proofs.Common.{◌∙◌}
-use Rattle.sml_modules.specs.Graphs.{top_at}
 use Rattle.pattern_elab.specs.Scopes.{own_entry}
 use Rattle.signature_elab.proofs.Beginning.{signatures_begin, core_begins_alone}
 use Rattle.signature_elab.proofs.whole.scope_of_top.Goals as goal
