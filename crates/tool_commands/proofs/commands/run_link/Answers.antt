@@ -76,8 +76,9 @@ returns-in-Err-Diag-clause-performs g c =
     (subst (λ (holds : Option Files). Does by (λ files. without_tools (refused files diag))
     (λ files. without_tools (refused files diag)) c.print_refusal.result
     (stage (state_of s0.written holds s0.asked s0.skeletons) t0) (stage s1 t0)) c.in-Err-Diag.ensures.same
-    (refused_does by diag c.print_refusal.result _ s1 t0 c.print_refusal.ensures.end
-    c.print_refusal.ensures.performs))
+    (refused_does by diag c.print_refusal.result
+    (state_of s0.written (g.F.Folder.holds c.find_target.new.folder) s0.asked s0.skeletons) s1 t0 c.print_refusal.ensures.end
+    (rw c.in-Err-Diag.field-0-is at c.print_refusal.ensures.performs)))
 
 pub returns-in-Err-Folder-clause-performs : goal.returns-in-Err-Folder-clause-performs
 returns-in-Err-Folder-clause-performs g c =
