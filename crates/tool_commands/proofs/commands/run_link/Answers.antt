@@ -1,12 +1,11 @@
 use Rattle.std.proofs.Common.{◌≡◌, ◌∙◌, ap, sym, subst, refl, Option, Some}
-use Rattle.std.specs.Prelude.{Ok, Err}
+use Rattle.std.specs.Prelude.{Ok}
 use Rattle.cm_base.specs.Definitions.{Definitions}
 use Rattle.cm_base.specs.Files.{Files}
 use Rattle.deriving_loader.specs.Loading.{states_by}
-use Rattle.deriving_loader.proofs.Ending.{tends_rests}
 use Rattle.cm_top.specs.Answers.{IsOutside}
 use Rattle.cm_top.specs.Headline.{KeepsOthers}
-use Rattle.cm_top.specs.Performing.{State, state_of}
+use Rattle.cm_top.specs.Performing.{state_of}
 use Rattle.cm_top.specs.Sessions.{refused}
 use Rattle.cm_top.specs.Targets.{out_in, path_in}
 use Rattle.cm_top.specs.declared.status.Status.TheVariants as status

@@ -1,8 +1,7 @@
-use Rattle.std.proofs.Common.{◌∙◌, ap, sym, subst, refl, false, ℕ, List, Some}
+use Rattle.std.proofs.Common.{◌∙◌, ap}
 use Rattle.std.specs.Prelude.{Ok, Err}
 use Rattle.cm_base.specs.Definitions.{Definitions}
 use Rattle.cm_base.specs.Files.{Files}
-use Rattle.cm_description.specs.declared.loaded.Project.{Project}
 use Rattle.deriving_loader.specs.Loading.{states_by}
 use Rattle.deriving_loader.specs.declared.fault.LoadingFault.TheVariants as fault
 use Rattle.deriving_loader.proofs.Ending.{tends_as}
