@@ -1,10 +1,12 @@
 //! Commands as programs of cases run them: over any folder, output and compiler, with a box of tools of their own.
 #![tactic(auto)]
 
+use bundled_tools::BundledTool;
 use cm_base::{Compiler, Folder, NoMemory, Sink};
-use cm_top::{Status, run_cm};
-use member_tools::Toolbox;
+use cm_top::Status;
 use std::alloc::Global;
+use tool_commands::run_cm;
+use tool_deriving::Toolbox;
 
 /// The word for how a command ended.
 pub fn status_word(status: Status) -> &'static [u8] {
@@ -27,7 +29,7 @@ pub fn run<F: Folder, S: Sink, C: Compiler>(
     out: &mut S,
     compiler: &mut C,
 ) -> Result<Status, NoMemory> {
-    let mut tools = Toolbox::new(alloc);
+    let mut tools: Toolbox<BundledTool> = Toolbox::new(alloc);
     let status = run_cm(alloc, words, folder, out, compiler, &mut tools);
     tools.close();
     if status == Status::NoMemory {
