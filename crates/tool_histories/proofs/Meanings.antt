@@ -1,5 +1,5 @@
 -- What a command with tools means, whatever the store holds, is what it means where the same project stands alone.
-use Rattle.std.proofs.Common.{◌≡◌, ◌≢◌, ◌∙◌, sym, ap, subst, refl, ℕ, false, List, [], Option, Some, None, arith}
+use Rattle.std.proofs.Common.{◌≡◌, ◌∙◌, sym, ap, subst, refl, ℕ, false, List, [], Some, None, arith}
 use Rattle.std.specs.Prelude.{Result, Ok, Err, Contains}
 use Rattle.cm_base.specs.Definitions.{Definitions}
 use Rattle.cm_base.specs.Derived.{ToolRules}

@@ -1,5 +1,5 @@
 -- A project that is loaded with tools and then built, over a folder and where it stands alone.
-use Rattle.std.proofs.Common.{◌≡◌, ◌≢◌, ◌∙◌, sym, ap, ap₂, subst, refl, ℕ, Bool, true, false, cond, List, [], ◌∷◌, ◌++◌, Option, Some, None, append-nil}
+use Rattle.std.proofs.Common.{◌≡◌, ◌≢◌, ◌∙◌, sym, ap, ap₂, subst, refl, ℕ, Bool, false, cond, List, [], ◌∷◌, Option, Some, None, append-nil}
 use Rattle.std.specs.Prelude.{Result, Ok, Err, Contains, filter, is_some, map, not}
 use Rattle.std.specs.FinMap.{get}
 use Rattle.cm_base.specs.Definitions.{Definitions}
@@ -9,9 +9,7 @@ use Rattle.cm_base.specs.declared.diag.Diag.{Diag}
 use Rattle.cm_base.specs.declared.record.BuiltUnit.{BuiltUnit}
 use Rattle.cm_base.specs.declared.record.Def.{Def}
 use Rattle.cm_base.specs.declared.record.PlannedUnit.{PlannedUnit}
-use Rattle.bin_formats.specs.declared.bin.Bin.{Bin}
 use Rattle.bin_store.specs.Paths.{linked_path}
-use Rattle.bin_store.specs.Stored.{stored_bin}
 use Rattle.cm_description.specs.declared.loaded.Project.{Project}
 use Rattle.cm_description.specs.declared.loaded.Unit.{Unit as ProjectUnit}
 use Rattle.cm_description.specs.declared.loaded.UnitBody.{UnitBody}
@@ -39,7 +37,7 @@ use Rattle.cm_top.proofs.Showing.{interfaces_marked}
 use Rattle.history_laws.specs.FromNothing.{HasProjectAlone, build_of, end_of, if_loaded, sources_in, unread_in}
 use Rattle.history_laws.proofs.Alone.{alone_asked, alone_compiled}
 use Rattle.history_laws.proofs.Linking.{end_same}
-use Rattle.history_laws.proofs.Meanings.{built_is, coming_to, linked_alike, path_alike, project_kept, target_alike, units_in}
+use Rattle.history_laws.proofs.Meanings.{built_is, coming_to, linked_alike, path_alike, project_kept, target_alike}
 use Rattle.history_laws.proofs.Planned.{asked_loading, unread_alone}
 use Rattle.tool_commands.specs.Meaning.{Meaning, of_project, of_root}
 use Rattle.tool_commands.specs.Ways.{plain_way}
