@@ -1,10 +1,7 @@
-pub mod DescentSteps
 pub mod Fronts
 pub mod GoingOn
 pub mod GroupSteps
 pub mod MemberSteps
 pub mod Promises
-pub mod ReadGroups
 pub mod Steps
 pub mod Tables
-pub mod WholeSteps
