@@ -2,7 +2,7 @@
 #![tactic(auto)]
 
 use bundled_tools::BundledTool;
-use cm_base::{Compiler, Folder, NoMemory, Sink};
+use cm_base::{Compiler, Folder, NoMemory, Sink, Tool};
 use cm_top::Status;
 use std::alloc::Global;
 use tool_commands::run_cm;
@@ -21,6 +21,19 @@ pub fn status_word(status: Status) -> &'static [u8] {
     }
 }
 
+/// Runs a command with the tools of a box, of any type. (A call of `run_cm` at a type of tools that is given costs more
+/// than the check of one declaration may.)
+pub fn run_with<F: Folder, S: Sink, C: Compiler, T: Tool>(
+    alloc: Global,
+    words: &[String],
+    folder: &mut F,
+    out: &mut S,
+    compiler: &mut C,
+    tools: &mut Toolbox<T>,
+) -> Status {
+    run_cm(alloc, words, folder, out, compiler, tools)
+}
+
 /// Runs a command. Want of memory is handed on.
 pub fn run<F: Folder, S: Sink, C: Compiler>(
     alloc: Global,
@@ -30,7 +43,7 @@ pub fn run<F: Folder, S: Sink, C: Compiler>(
     compiler: &mut C,
 ) -> Result<Status, NoMemory> {
     let mut tools: Toolbox<BundledTool> = Toolbox::new(alloc);
-    let status = run_cm(alloc, words, folder, out, compiler, &mut tools);
+    let status = run_with(alloc, words, folder, out, compiler, &mut tools);
     tools.close();
     if status == Status::NoMemory {
         return Err(NoMemory);

@@ -5,7 +5,7 @@ ghost use Rattle.std.specs.Prelude.{◌≡◌};
 ghost use Rattle.cm_cli.specs.Exit.{exit_number};
 
 use bundled_tools::{BundledTool, Embed, Literate, Prelude};
-use cm_base::{NoMemory, Text};
+use cm_base::{Compiler, Folder, NoMemory, Sink, Text, Tool};
 use cm_host::{RealFolder, RealSink, WordsFault, program_words};
 use cm_top::Status;
 use sml_compiler::SmlCompiler;
@@ -60,6 +60,19 @@ fn tools_of_program(alloc: Global) -> Result<Toolbox<BundledTool>, NoMemory> {
     Ok(tools)
 }
 
+/// Runs a command over any folder, output, compiler and tools. (At types that are given the check of the call costs more
+/// than that of one declaration may.)
+fn run_with<F: Folder, S: Sink, C: Compiler, T: Tool>(
+    alloc: Global,
+    words: &[String],
+    folder: &mut F,
+    out: &mut S,
+    compiler: &mut C,
+    tools: &mut Toolbox<T>,
+) -> Status {
+    run_cm(alloc, words, folder, out, compiler, tools)
+}
+
 /// Runs the command that the program was called with over the working directory.
 fn run(rt: HostRuntime) -> Result<u8, NoMemory> {
     let alloc = rt.alloc();
@@ -68,7 +81,7 @@ fn run(rt: HostRuntime) -> Result<u8, NoMemory> {
     let mut out = RealSink::new(rt)?;
     let mut compiler = SmlCompiler::new(alloc)?;
     let mut tools = tools_of_program(alloc)?;
-    let status = run_cm(
+    let status = run_with(
         alloc,
         words.as_slice(),
         &mut folder,

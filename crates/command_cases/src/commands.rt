@@ -1,6 +1,7 @@
 //! Commands over a folder and an output in memory, with a box of tools.
 
 use crate::player::Player;
+use case_commands::{run_with, status_word};
 use case_files::{CaseFault, Part, Section, number_of, push_parts};
 use case_scenes::{Answer, Files, Stage, counted, look_at, look_of, unknown};
 use case_tools::{CaseTool, tool_of};
@@ -8,7 +9,6 @@ use cm_base::{Compiler, List, MemSink, NoMemory, SureFolder, SureSink, Text, Too
 use cm_top::Status;
 use std::alloc::Global;
 use std::mem;
-use tool_commands::run_cm;
 use tool_deriving::Toolbox;
 
 /// A folder, a box of tools, what the last command asked its compiler, and what is planned for the next.
@@ -56,19 +56,6 @@ fn step_of(name: &[u8]) -> Option<Step> {
         }
     }
     None
-}
-
-/// The word for how a command ended.
-fn status_word(status: Status) -> &'static [u8] {
-    match status {
-        Status::Ok => b"ok",
-        Status::Diagnostic => b"diagnostic",
-        Status::Usage => b"usage",
-        Status::FolderFault => b"folder fault",
-        Status::SinkFault => b"sink fault",
-        Status::NoMemory => b"no memory",
-        Status::ToolFault => b"tool fault",
-    }
 }
 
 /// A word as a program is given it.
@@ -176,7 +163,7 @@ impl<C: Compiler + Player + Drop> Commands<C> {
         self.files.begin();
         self.compiler = C::begin(alloc)?;
         let folder = &mut self.files.folder;
-        let status = run_cm(
+        let status = run_with(
             alloc,
             words,
             folder,
@@ -193,7 +180,7 @@ impl<C: Compiler + Player + Drop> Commands<C> {
         self.files.begin();
         self.compiler = C::begin(alloc)?;
         let folder: &mut SureFolder = &mut self.files.folder.files;
-        let status = run_cm(
+        let status = run_with(
             alloc,
             words,
             folder,

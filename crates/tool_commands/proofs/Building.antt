@@ -1,5 +1,5 @@
 -- A build of a project that was loaded, of which so much is printed.
-use Rattle.std.proofs.Common.{◌≡◌, ◌∙◌, ap, sym, refl, ℕ, List, ◌++◌, Option, Some}
+use Rattle.std.proofs.Common.{◌≡◌, ◌∙◌, ℕ, List, ◌++◌, Option, Some}
 use Rattle.std.specs.Prelude.{Result, Ok, Err}
 use Rattle.cm_base.specs.Definitions.{Definitions}
 use Rattle.cm_base.specs.Files.{Files, Told}
@@ -9,10 +9,10 @@ use Rattle.cm_description.specs.declared.loaded.Project.{Project}
 use Rattle.project_planning.specs.Planning.{plain_plan, plan_over}
 use Rattle.build_laws.specs.CutBuild.{Cut}
 use Rattle.cm_top.specs.Answers.{AsksFor, AsksFromGood, Does, Prints, Reports, Works}
-use Rattle.cm_top.specs.Headline.{Ends, IsCutShort, KeepsOthers, KeepsOutside, Run, Stays}
+use Rattle.cm_top.specs.Headline.{Ends, IsCutShort, KeepsOutside, Run, Stays}
 use Rattle.cm_top.specs.Meaning.{Meaning, target_paths}
 use Rattle.cm_top.specs.Performing.{Performs, State, between}
-use Rattle.cm_top.specs.ProjectBuild.{Builder, Prepared, Way, built, of_planning, plain_over, plain_way, store_over, store_way}
+use Rattle.cm_top.specs.ProjectBuild.{Builder, Prepared, built, of_planning, plain_over, plain_way, store_over, store_way}
 use Rattle.cm_top.specs.declared.status.Status.{Status}
 use Rattle.cm_top.specs.declared.status.Status.TheVariants as status
 use Rattle.cm_top.specs.declared.work.Report.{Report}

@@ -1,5 +1,5 @@
 -- A call of the program, by the classes and rules of its box; and completeness.
-use Rattle.std.proofs.Common.{◌≡◌, ◌∙◌, ap, sym, subst, refl, inl, inr, ℕ, zero, suc, List, [], ◌∷◌, Option, Some}
+use Rattle.std.proofs.Common.{◌≡◌, ◌∙◌, ap, sym, subst, refl, inl, inr, ℕ, zero, suc, List, [], ◌∷◌, Some}
 use Rattle.std.specs.Prelude.{slice_get}
 use Rattle.cm_base.specs.Causes.{Rose}
 use Rattle.cm_base.specs.Definitions.{Definitions}

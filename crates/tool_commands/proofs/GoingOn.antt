@@ -1,11 +1,11 @@
 -- Meanings of which the second counts only where the first ends well: how the whole ends, and what it leaves.
-use Rattle.std.proofs.Common.{◌≡◌, ◌≢◌, ◌∙◌, ◌⊎◌, sym, ap, refl, inl, inr, ℕ, List, ◌++◌, Some}
+use Rattle.std.proofs.Common.{◌≡◌, ◌≢◌, ◌∙◌, sym, ap, refl, inl, inr, ℕ, List, ◌++◌, Some}
 use Rattle.cm_base.specs.Definitions.{Definitions}
 use Rattle.cm_base.specs.Derived.{ToolRules}
 use Rattle.cm_base.specs.Files.{Files}
 use Rattle.cm_base.specs.Keeping.{Keeps}
 use Rattle.cm_bytes.specs.Hashes.{HashesApart}
-use Rattle.bin_store.specs.GoodStore.{IsGoodStore, StoreIsGood}
+use Rattle.bin_store.specs.GoodStore.{StoreIsGood}
 use Rattle.cm_top.specs.Headline.{Ends, FromGood, IsPlain, KeepsOutside}
 use Rattle.cm_top.specs.Performing.{between}
 use Rattle.cm_top.specs.declared.status.Status.{Status}

@@ -1,12 +1,11 @@
 -- A loading as a piece of what a command does.
-use Rattle.std.proofs.Common.{◌≡◌, ◌∙◌, ◌⊎◌, ap, sym, subst, refl, inl, inr, ℕ, true, false, List, [], ◌++◌, Option, Some, append-nil}
+use Rattle.std.proofs.Common.{◌≡◌, ◌∙◌, ◌⊎◌, ap, sym, subst, refl, inl, inr, ℕ, true, false, List, [], Option, Some, append-nil}
 use Rattle.std.specs.Prelude.{Contains}
 use Rattle.std.specs.FinMap.{get}
 use Rattle.std.proofs.lemmas.List.Elements.{Contains-append_left}
 use Rattle.cm_base.specs.Definitions.{Definitions}
 use Rattle.cm_base.specs.Files.{Files, Told, is_stored}
 use Rattle.cm_base.specs.Keeping.{Keeps}
-use Rattle.cm_base.proofs.FrontLemmas.{grows_none}
 use Rattle.bin_store.proofs.GoodAfter.{store_more}
 use Rattle.tool_deriving.specs.Deriving.{ToolState, ToolUse}
 use Rattle.member_deriving.specs.Uses.{Work, runs_of}
@@ -24,7 +23,7 @@ use Rattle.cm_top.specs.declared.status.Status.TheVariants as status
 use Rattle.cm_top.proofs.Ending.{nothing_done, nothing_printed}
 use Rattle.tool_commands.specs.Meaning.{Meaning, loading}
 use Rattle.tool_commands.specs.Performing.{Does}
-use Rattle.tool_commands.proofs.Counts.{ok_is_no_tool, ran_all, ran_front}
+use Rattle.tool_commands.proofs.Counts.{ran_front}
 use Rattle.tool_commands.proofs.InTurn.{effects, stage}
 
 -- ---- records are no files of the project

@@ -1,5 +1,5 @@
 -- A project that is loaded and then built, as one meaning.
-use Rattle.std.proofs.Common.{◌≡◌, ◌≢◌, ◌∙◌, ap, sym, subst, refl, false, ℕ, List, ◌++◌, Option, Some}
+use Rattle.std.proofs.Common.{◌≡◌, ◌∙◌, ap, sym, subst, false, ℕ, List, ◌++◌, Option, Some}
 use Rattle.std.specs.Prelude.{Result, unwrap_or}
 use Rattle.std.specs.FinMap.{empty}
 use Rattle.cm_base.specs.Definitions.{Definitions}
@@ -13,7 +13,7 @@ use Rattle.cm_description.specs.declared.loaded.Project.{Project}
 use Rattle.tool_records.proofs.Storing.{good_is_true}
 use Rattle.tool_deriving.specs.Deriving.{ToolState}
 use Rattle.tool_deriving.specs.Toolboxes.{rules_of}
-use Rattle.member_deriving.specs.Uses.{Outcome, Work}
+use Rattle.member_deriving.specs.Uses.{Outcome}
 use Rattle.box_deriving.specs.Boxes.{world_of}
 use Rattle.tool_loading.specs.Projects.{loaded_over}
 use Rattle.tool_loading.proofs.Stores.{over_true}

@@ -1,6 +1,6 @@
 -- The program's promise where members may be of tools' classes: how a command ends, what it leaves, what was asked, and
 -- how often each tool ran. The contract of `run_cm` is made of these and of the causes of a fault.
-use Rattle.std.specs.Prelude.{ℕ, ◌≡◌, ◌⊎◌, List, ◌++◌}
+use Rattle.std.specs.Prelude.{◌≡◌, ◌⊎◌, List}
 use Rattle.cm_base.specs.Definitions.{Definitions}
 use Rattle.cm_base.specs.Files.{Files}
 use Rattle.tool_deriving.specs.Deriving.{ToolState, ToolUse}

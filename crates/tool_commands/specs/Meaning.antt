@@ -1,6 +1,6 @@
 -- What a command means where members may be of tools' classes: what it prints, leaves and asks the compiler for, the uses
 -- of tools that its loading makes, and those of them that run their tools.
-use Rattle.std.specs.Prelude.{ℕ, List, [], ◌∷◌, ◌++◌, Option, Some, None, Result, Ok, Err}
+use Rattle.std.specs.Prelude.{ℕ, List, [], ◌++◌, Option, Some, None, Result, Ok, Err}
 use Rattle.cm_base.specs.Definitions.{Definitions}
 use Rattle.cm_base.specs.Derived.{ToolRules}
 use Rattle.cm_base.specs.Files.{Files}

@@ -1,6 +1,6 @@
 -- What is done of a meaning between two states of the folder, the output, the compiler and the tools: all that the program
 -- promises of a call, in one piece, so that pieces can be put one behind the other.
-use Rattle.std.specs.Prelude.{ℕ, ◌≡◌, not, filter, List, Option}
+use Rattle.std.specs.Prelude.{ℕ, ◌≡◌, List, Option}
 use Rattle.cm_base.specs.Definitions.{Definitions}
 use Rattle.cm_base.specs.Derived.{ToolRules}
 use Rattle.cm_base.specs.Files.{Files, Told}

@@ -1,6 +1,6 @@
 -- How a command goes about its work over files where members may be of tools' classes: how it loads a project, how it
 -- plans it, and how it builds the units.
-use Rattle.std.specs.Prelude.{ℕ, false, List, []}
+use Rattle.std.specs.Prelude.{ℕ, false, List}
 use Rattle.cm_base.specs.Definitions.{Definitions}
 use Rattle.cm_base.specs.Derived.{ToolRules}
 use Rattle.cm_base.specs.Files.{Files}

@@ -160,6 +160,24 @@ pub fn run_cm<F: Folder, S: Sink, C: Compiler, T: Tool>(
     run_call(alloc, words, folder, out, compiler, tools)
 }
 
+/// `run_cm`, of which completeness alone is told.
+fn run_to_its_end<F: Folder, S: Sink, C: Compiler, T: Tool>(
+    alloc: Global,
+    words: &[String],
+    folder: &mut F,
+    out: &mut S,
+    compiler: &mut C,
+    tools: &mut Toolbox<T>,
+) -> Status
+    ensures { Told (F.holds folder.old) (λ files. Told (S.written out.old) (λ text. Completes C.defines files
+        (meaning_of_call C.defines (rules_of T.class T.rule tools.old) (map string_bytes words.now) files) result
+        (Rose (F.faults folder.old) (F.faults folder.new)) (Rose (S.faults out.old) (S.faults out.new))
+        (Failed (states_by T.class T.rule T.ran T.faults tools.old)
+        (states_by T.class T.rule T.ran T.faults tools.new)))) }
+{
+    run_cm(alloc, words, folder, out, compiler, tools)
+}
+
 /// `run_cm` over a folder, an output and tools that never fail.
 pub fn run_sure<C: Compiler, T: Tool>(
     alloc: Global,
@@ -176,5 +194,5 @@ pub fn run_sure<C: Compiler, T: Tool>(
         → IsComplete result (meaning_of_call C.defines (rules_of T.class T.rule tools.old)
         (map string_bytes words.now) folder.old) }
 {
-    run_cm(alloc, words, folder, out, compiler, tools)
+    run_to_its_end(alloc, words, folder, out, compiler, tools)
 }

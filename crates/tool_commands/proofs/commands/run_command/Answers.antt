@@ -2,7 +2,9 @@ use Rattle.std.proofs.Common.{sym, subst}
 use Rattle.cm_base.specs.Definitions.{Definitions}
 use Rattle.command_words.specs.declared.command.Command.{Command}
 use Rattle.deriving_loader.specs.Loading.{states_by}
+use Rattle.cm_top.specs.Headline.{KeepsOthers}
 use Rattle.cm_top.specs.Performing.{state_of}
+use Rattle.cm_top.specs.Targets.{target_of}
 use Rattle.tool_commands.specs.Meaning.{of_command}
 use Rattle.tool_commands.specs.Performing.{Performs}
 use Rattle.tool_commands.specs.Ways.{plain_way, store_way}
@@ -36,3 +38,13 @@ returns-in-Link-clause-performs g c =
     (λ rules files. of_command c.args.part (store_way by rules) files command)
     (λ rules files. of_command c.args.part (plain_way by rules) files command) c.run_link.result (stage s0 t0) (stage s1 t1))
     (sym c.in-Link.is) (c.run_link.ensures.performs)
+
+pub returns-in-Build-clause-others : goal.returns-in-Build-clause-others
+returns-in-Build-clause-others g c = λ files is.
+    subst (λ (command : Command). KeepsOthers (target_of files command) files (g.F.Folder.holds c.run_root.new.folder))
+    (sym c.in-Build.is) (c.run_root.ensures.others tt files is)
+
+pub returns-in-Link-clause-others : goal.returns-in-Link-clause-others
+returns-in-Link-clause-others g c = λ files is.
+    subst (λ (command : Command). KeepsOthers (target_of files command) files (g.F.Folder.holds c.run_link.new.folder))
+    (sym c.in-Link.is) (c.run_link.ensures.others files is)

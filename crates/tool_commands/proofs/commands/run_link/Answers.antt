@@ -1,12 +1,11 @@
 use Rattle.std.proofs.Common.{◌≡◌, ◌∙◌, ap, sym, subst, refl, Option, Some}
-use Rattle.std.specs.Prelude.{Ok, Err}
+use Rattle.std.specs.Prelude.{Ok}
 use Rattle.cm_base.specs.Definitions.{Definitions}
 use Rattle.cm_base.specs.Files.{Files}
 use Rattle.deriving_loader.specs.Loading.{states_by}
-use Rattle.deriving_loader.proofs.Ending.{tends_rests}
 use Rattle.cm_top.specs.Answers.{IsOutside}
 use Rattle.cm_top.specs.Headline.{KeepsOthers}
-use Rattle.cm_top.specs.Performing.{State, state_of}
+use Rattle.cm_top.specs.Performing.{state_of}
 use Rattle.cm_top.specs.Sessions.{refused}
 use Rattle.cm_top.specs.Targets.{out_in, path_in}
 use Rattle.cm_top.specs.declared.status.Status.TheVariants as status
@@ -76,8 +75,9 @@ returns-in-Err-Diag-clause-performs g c =
     (subst (λ (holds : Option Files). Does by (λ files. without_tools (refused files diag))
     (λ files. without_tools (refused files diag)) c.print_refusal.result
     (stage (state_of s0.written holds s0.asked s0.skeletons) t0) (stage s1 t0)) c.in-Err-Diag.ensures.same
-    (refused_does by diag c.print_refusal.result _ s1 t0 c.print_refusal.ensures.end
-    c.print_refusal.ensures.performs))
+    (refused_does by diag c.print_refusal.result
+    (state_of s0.written (g.F.Folder.holds c.find_target.new.folder) s0.asked s0.skeletons) s1 t0 c.print_refusal.ensures.end
+    (rw c.in-Err-Diag.field-0-is at c.print_refusal.ensures.performs)))
 
 pub returns-in-Err-Folder-clause-performs : goal.returns-in-Err-Folder-clause-performs
 returns-in-Err-Folder-clause-performs g c =

@@ -1,8 +1,7 @@
-use Rattle.std.proofs.Common.{ap, sym, subst, refl, false, ℕ, List, Some}
+use Rattle.std.proofs.Common.{◌∙◌, ap}
 use Rattle.std.specs.Prelude.{Ok, Err}
 use Rattle.cm_base.specs.Definitions.{Definitions}
 use Rattle.cm_base.specs.Files.{Files}
-use Rattle.cm_description.specs.declared.loaded.Project.{Project}
 use Rattle.deriving_loader.specs.Loading.{states_by}
 use Rattle.deriving_loader.specs.declared.fault.LoadingFault.TheVariants as fault
 use Rattle.deriving_loader.proofs.Ending.{tends_as}
@@ -66,7 +65,7 @@ returns-in-Err-Diag-clause-performs g c = λ outside.
     (g.F.Folder.holds c.args.folder.now) (g.F.Folder.holds c.load.new.folder) t0 t1
     (λ files is. (steps files is).leads) c.load.ensures.tool (λ e. absurd cc))
     (refused_does by c.in-Err-Diag.diag c.print_refusal.result m s1 t1 c.print_refusal.ensures.end
-    c.print_refusal.ensures.performs)
+    (rw c.in-Err-Diag.field-0-is at c.print_refusal.ensures.performs))
 
 pub returns-in-Err-Folder-clause-performs : goal.returns-in-Err-Folder-clause-performs
 returns-in-Err-Folder-clause-performs g c = λ outside.
@@ -108,7 +107,7 @@ returns-in-Err-Tool-clause-performs g c = λ outside.
     (blamed by works (g.S.Sink.written c.args.out.now)
     (g.C.Compiler.asked c.args.compiler.now) (g.C.Compiler.asked_skeletons c.args.compiler.now)
     (g.F.Folder.holds c.args.folder.now) (g.F.Folder.holds c.load.new.folder) t0 t1
-    (λ files is. (steps files is).cut) c.load.ensures.tool (λ e. ap (λ x. Err x) c.in-Err-Tool.field-0-is))
+    (λ files is. (steps files is).cut) c.load.ensures.tool (λ e. c.in-Err-Tool.is ∙ ap (λ x. Err x) c.in-Err-Tool.field-0-is))
 
 pub returns-in-Err-NoMemory-clause-performs : goal.returns-in-Err-NoMemory-clause-performs
 returns-in-Err-NoMemory-clause-performs g c = λ outside.
@@ -232,7 +231,7 @@ pub returns-in-Err-Tool-clause-tools : goal.returns-in-Err-Tool-clause-tools
 returns-in-Err-Tool-clause-tools g c =
     let t0 = states_by g.T.Tool.class g.T.Tool.rule g.T.Tool.ran g.T.Tool.faults c.args.tools.now in
     let t1 = states_by g.T.Tool.class g.T.Tool.rule g.T.Tool.ran g.T.Tool.faults c.load.new.tools in
-    tends_as t0 t1 c.load.ensures.tool (λ e. ap (λ x. Err x) c.in-Err-Tool.field-0-is)
+    tends_as t0 t1 c.load.ensures.tool (λ e. c.in-Err-Tool.is ∙ ap (λ x. Err x) c.in-Err-Tool.field-0-is)
 
 pub returns-in-Err-NoMemory-clause-tools : goal.returns-in-Err-NoMemory-clause-tools
 returns-in-Err-NoMemory-clause-tools g c =
