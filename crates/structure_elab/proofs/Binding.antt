@@ -112,9 +112,9 @@ none_of : (g : Graph) (q : Result (Unit {0}) Fault) → IfOk q (NoneOf g)
 none_of g (Ok u) = tt
 none_of g (Err e) = tt
 
-new_in : {m : Moment} {name : Name} {rows : Rows EnvId} (r : Result (Unit {0}) Fault) → IsNew m name rows r
+new_in : {m : Moment} (name : Name) (rows : Rows EnvId) (r : Result (Unit {0}) Fault) → IsNew m name rows r
     → Elabs m (label_of name (structures_env m.graph rows)) read_unit NoneOf m r
-new_in {m} {name} {rows} r h = record {
+new_in {m} name rows r h = record {
   infers = h (core_scope m.graph.home (seen_at m)) refl;
   has = none_of m.graph r;
   goes = passes_top m m.top;
@@ -132,23 +132,23 @@ binds_from {m0} {m1} {want} {rows} {e} {reads} h = record {
   left = tt;
 }
 
+abbrev read_after : Rows EnvId → Moment → Unit {0} → Env × Progress
+read_after after m u = read_rows m after
+
+abbrev HasAfter : Rows EnvId → Graph → Unit {0} → Type 0
+HasAfter after g u = AreEnvs g after
+
 module _ {m0 : Moment} (name : Name) (str : ModulePhrase) (before after : Rows EnvId) where
-  abbrev read_after : Moment → Unit {0} → Env × Progress
-  read_after m u = read_rows m after
-
-  abbrev HasAfter : Graph → Unit {0} → Type 0
-  HasAfter g u = AreEnvs g after
-
   pub bind_first : {e : Fault} → IsNew m0 name before (Err e) → IsBind m0 (name, str) before after m0 (Err e)
-  bind_first {e} h = binds_from {reads = read_after} {have = HasAfter}
-      (stops {told = read_after} {got = HasAfter}
-      (bind_module name str (structures_env m0.graph before) (progress_at m0)) (new_in {m = m0} (Err e) h))
+  bind_first {e} h = binds_from {reads = read_after after} {have = HasAfter after}
+      (stops {told = read_after after} {got = HasAfter after}
+      (bind_module name str (structures_env m0.graph before) (progress_at m0)) (new_in {m = m0} name before (Err e) h))
 
   pub bind_second : {m1 : Moment} {e : Fault} → IsTopScope m0.graph m0.top → IsNew m0 name before (Ok tt)
       → IsModule m0 str m1 (Err e) → IsBind m0 (name, str) before after m1 (Err e)
-  bind_second {m1} {e} there h k = binds_from {reads = read_after} {have = HasAfter}
-      (goes_on {told = read_after} {got = HasAfter}
-      (bind_module name str (structures_env m0.graph before) (progress_at m0)) there (new_in {m = m0} (Ok tt) h)
+  bind_second {m1} {e} there h k = binds_from {reads = read_after after} {have = HasAfter after}
+      (goes_on {told = read_after after} {got = HasAfter after}
+      (bind_module name str (structures_env m0.graph before) (progress_at m0)) there (new_in {m = m0} name before (Ok tt) h)
       (stops (bind_end name (structures_env m0.graph before)) k))
 
   pub bind_memory : {m1 : Moment} {id : EnvId} → IsModule m0 str m1 (Ok id)
@@ -161,10 +161,10 @@ module _ {m0 : Moment} (name : Name) (str : ModulePhrase) (before after : Rows E
       ≡ with_structure name.text (env_at m1.graph id) (structures_env m1.graph before)
       → (AreEnvs m1.graph before → AreEnvs m1.graph after) → IsBind m0 (name, str) before after m1 (Ok tt)
   bind_done {m1} {id} there h k envs e more =
-      let all = goes_on {told = read_after} {got = HasAfter}
-      (bind_module name str (structures_env m0.graph before) (progress_at m0)) there (new_in {m = m0} (Ok tt) h)
-      (goes_on {told = read_after} {got = HasAfter} (bind_end name (structures_env m0.graph before)) there k (record {
-        infers = ap (λ (z : Env). gives (z, progress_at m1))
+      let all = goes_on {told = read_after after} {got = HasAfter after}
+      (bind_module name str (structures_env m0.graph before) (progress_at m0)) there (new_in {m = m0} name before (Ok tt) h)
+      (goes_on {told = read_after after} {got = HasAfter after} (bind_end name (structures_env m0.graph before)) there k (record {
+        infers = ap (λ (z : Env). gives {A = Env × Progress} (z, progress_at m1))
             (ap (λ (z : Env). with_structure name.text (env_at m1.graph id) z)
             (sym (rows_kept m0.graph m1.graph before k.goes.graph envs)) ∙ sym e);
         has = more (envs_kept m0.graph m1.graph before k.goes.graph envs);
@@ -174,10 +174,11 @@ module _ {m0 : Moment} (name : Name) (str : ModulePhrase) (before after : Rows E
       record { infers = all.infers; envs = all.has; goes = all.goes; left = all.left }
 
 -- a binding as it is written
-pub bind_of : {old new : Moment} {before after : Rows EnvId} {r : Result (Unit {0}) Fault} (bind : StrBind)
+pub bind_of : {old new : Moment} {after : Rows EnvId} {r : Result (Unit {0}) Fault} (before : Rows EnvId)
+    (bind : StrBind)
     → IsBind old ((out-StrBind bind).name, module_phrase (str_phrase (out-StrBind bind).body)) before after new r
     → IsBind old (bind_phrase bind) before after new r
-bind_of {old} {new} {before} {after} {r} bind h =
+bind_of {old} {new} {after} {r} before bind h =
     subst (λ (z : Name × Rattle.bare_phrases.specs.Phrases.StrPhrase). IsBind old (z.0, module_phrase z.1) before after
     new r) (sym (str_bind_phrase-kept bind)) h
 

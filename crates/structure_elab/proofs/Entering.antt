@@ -16,6 +16,8 @@ use Rattle.pattern_elab.specs.declared.own.OwnVariable.{OwnVariable}
 use Rattle.pattern_elab.specs.Scopes.{variable_of, scope_of, AreVariables, IsCoreScope}
 use Rattle.value_closing.specs.Under.{IsUnder}
 use Rattle.unit_semantics.specs.StructureInference.{top_under}
+use Rattle.sml_modules.specs.declared.id.TopId.{TopId}
+use Rattle.module_scopes.specs.declared.defined.Defined.{Defined}
 use Rattle.module_scopes.specs.declared.top.TopScope.{TopScope}
 use Rattle.module_scopes.specs.Tops.{top_seen, IsTopScope}
 use Rattle.module_scopes.specs.Stays.{GoesUnder}
@@ -23,6 +25,9 @@ use Rattle.structure_elab.specs.Moments.{GoesInto, IsOver}
 
 abbrev pub with_core : Bindings OwnVariable → TopScope → TopScope
 with_core core top = record { core = core; given = top.given; defined = top.defined }
+
+abbrev made_of : Bindings OwnVariable → TopId → Defined → TopScope
+made_of core given defined = record { core = core; given = given; defined = defined }
 
 env_under : (g : Graph) (old : TopScope) (core : Bindings OwnVariable) (made : Env)
     → (scope_of g core).env ≡ (top_under made (top_seen g old)).env
@@ -84,11 +89,10 @@ over_then {past} {now} {mid} {new} h e k =
       defined = l.defined ∙ h.defined;
     }
 
-tops_same : (a b : TopScope) → a.core ≡ b.core → a.given ≡ b.given → a.defined ≡ b.defined → a ≡ b
-tops_same a b e f h = cc
-
 -- what is left again
 pub left_again : (past now new : TopScope) (core : Bindings OwnVariable) → new ≡ with_core core now
     → core ≡ past.core → IsOver past now → new ≡ past
 left_again past now new core e f h =
-    e ∙ tops_same (with_core core now) past f h.given h.defined
+    e ∙ ap (λ (c : Bindings OwnVariable). with_core c now) f
+    ∙ ap (λ (given : TopId). made_of past.core given now.defined) h.given
+    ∙ ap (λ (defined : Defined). made_of past.core past.given defined) h.defined

@@ -27,7 +27,7 @@ use Rattle.pattern_elab.specs.declared.own.OwnVariable.{OwnVariable}
 use Rattle.pattern_elab.specs.Scopes.{own_entry}
 use Rattle.core_rules.specs.Joined.{IsNothing, joined}
 use Rattle.core_rules.proofs.Chains.{graph_then, answers_stop}
-use Rattle.core_rules.proofs.Joining.{made_kept, envs_kept, envs_both}
+use Rattle.core_rules.proofs.Joining.{made_kept, envs_kept}
 use Rattle.module_growth.specs.Grown.{IsInside}
 use Rattle.unit_derivations.specs.Promises.{every}
 use Rattle.unit_semantics.specs.UnitPhrases.{ModuleDec, ModuleDecs}
@@ -102,6 +102,10 @@ made_joined g a b = one_env _ _ _ _ _ _
     (both_rows (value_rows own_entry a.values) (value_rows own_entry b.values)
     (value_rows own_entry (a.values ++ b.values))
     (map_both (λ (e : NamedInScope OwnVariable). (e.name, entry_of own_entry e.entry)) a.values b.values))
+
+envs_both : (g : Graph) (front back : List NamedEnv) → HasEnvs g front → HasEnvs g back → HasEnvs g (front ++ back)
+envs_both g [] back h k = k
+envs_both g (e ∷ front) back h k = (h.0, envs_both g front back h.1 k)
 
 -- ---- one declaration after another
 

@@ -93,16 +93,20 @@ module _ {m0 m1 : Moment} (str : ModulePhrase) (sig : SigPhrase) (at : At) where
       → IsModule m0 (ModulePhrase.Transparent str sig at) m1 (Err e)
   constrained_first h = stops (transparent_rest sig (module_at str)) h
 
-  pub constrained_done : {m2 : Moment} {id : EnvId} {r : Result EnvId Fault} → IsTopScope m0.graph m0.top
-      → IsModule m0 str m1 (Ok id) → IsTransparent m1 (module_at str) sig id m2 r
+  pub constrained_done : {m2 : Moment} {id : EnvId} {r : Result EnvId Fault} (place : At) → place ≡ module_at str
+      → IsTopScope m0.graph m0.top
+      → IsModule m0 str m1 (Ok id) → IsTransparent m1 place sig id m2 r
       → IsModule m0 (ModulePhrase.Transparent str sig at) m2 r
-  constrained_done there h k = goes_on (transparent_rest sig (module_at str)) there h k
+  constrained_done {m2} {id} {r} place e there h k = goes_on (transparent_rest sig (module_at str)) there h
+      (subst (λ (z : At). IsTransparent m1 z sig id m2 r) e k)
 
   pub sealed_first : {e : Fault} → IsModule m0 str m1 (Err e)
       → IsModule m0 (ModulePhrase.Opaque str sig at) m1 (Err e)
   sealed_first h = stops (opaque_rest sig (module_at str)) h
 
-  pub sealed_done : {m2 : Moment} {id : EnvId} {r : Result EnvId Fault} → IsTopScope m0.graph m0.top
-      → IsModule m0 str m1 (Ok id) → IsOpaque m1 (module_at str) sig id m2 r
+  pub sealed_done : {m2 : Moment} {id : EnvId} {r : Result EnvId Fault} (place : At) → place ≡ module_at str
+      → IsTopScope m0.graph m0.top
+      → IsModule m0 str m1 (Ok id) → IsOpaque m1 place sig id m2 r
       → IsModule m0 (ModulePhrase.Opaque str sig at) m2 r
-  sealed_done there h k = goes_on (opaque_rest sig (module_at str)) there h k
+  sealed_done {m2} {id} {r} place e there h k = goes_on (opaque_rest sig (module_at str)) there h
+      (subst (λ (z : At). IsOpaque m1 z sig id m2 r) e k)

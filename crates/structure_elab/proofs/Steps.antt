@@ -64,9 +64,9 @@ state_same t u g e = ap (λ (z : Table). progress z g) e
 
 -- ---- `struct dec end`
 
-pub struct_first : {m0 m1 : Moment} {p : ModuleDec} {e : Fault} → IsDeclared m0 p m1 (Err e)
+pub struct_first : {m0 m1 : Moment} {e : Fault} (p : ModuleDec) → IsDeclared m0 p m1 (Err e)
     → IsStruct m0 p m1 (Err e)
-struct_first {m0} {m1} {p} {e} h = record {
+struct_first {m0} {m1} {e} p h = record {
   infers = still_refused (infer_module_dec depth m0.graph.home (seen_at m0) p (progress_at m0)) (read_made m1)
       (read_env m1) e h.infers;
   has = tt;
@@ -74,19 +74,19 @@ struct_first {m0} {m1} {p} {e} h = record {
   left = tt;
 }
 
-pub struct_memory : {m0 m1 : Moment} {p : ModuleDec} {made : Made OwnVariable} (g : Graph)
+pub struct_memory : {m0 m1 : Moment} {made : Made OwnVariable} (p : ModuleDec) (g : Graph)
     → IsDeclared m0 p m1 (Ok made) → g ≡ m1.graph → IsStruct m0 p (moment g m1.table m1.top) (Err fault.NoMemory)
-struct_memory {m0} {m1} {p} {made} g h e = record {
+struct_memory {m0} {m1} {made} p g h e = record {
   infers = tt;
   has = tt;
   goes = passes_over m0.top m1.top (subst (λ (z : Graph). Passes m0 (moment z m1.table m1.top)) (sym e) h.goes);
   left = tt;
 }
 
-pub struct_done : {m0 m1 : Moment} {p : ModuleDec} {made : Made OwnVariable} (g : Graph) (id : EnvId)
+pub struct_done : {m0 m1 : Moment} {made : Made OwnVariable} (p : ModuleDec) (g : Graph) (id : EnvId)
     → IsDeclared m0 p m1 (Ok made) → GivesEnv m1.graph g (made_at m1 made) id
     → IsStruct m0 p (moment g m1.table m1.top) (Ok id)
-struct_done {m0} {m1} {p} {made} g id h given = record {
+struct_done {m0} {m1} {made} p g id h given = record {
   infers = h.infers
       ∙ ap₂ (λ (x : Env) (n : ℕ). gives (x, (let st : Progress = record { types = state m1.table; names = n } in st)))
       (sym given.stands) (sym (ap length given.made));
@@ -98,7 +98,7 @@ struct_done {m0} {m1} {p} {made} g id h given = record {
 
 -- ---- a long name
 
-known_then : {A B R Q : Type 0} (want : Answer A) (k : A → Answer B) (reads : R → A) (told : R → B) (r : Result R Fault)
+known_then : {A B R : Type 0} (want : Answer A) (k : A → Answer B) (reads : R → A) (told : R → B) (r : Result R Fault)
     → ((x : R) → k (reads x) ≡ gives (told x)) → Answers want reads r → Answers (want >>= k) told r
 known_then want k reads told (Ok x) f h = ap (λ m. m >>= k) h ∙ f x
 known_then want k reads told (Err (fault.Diag d)) f h = ap (λ m. m >>= k) h
@@ -148,32 +148,36 @@ module _ {m0 : Moment} (name : Name) (argument : ModulePhrase) (at : At) where
       → IsModule m0 (ModulePhrase.Functor name argument at) m0 (Err e)
   fun_first {e} h = stops (fun_rest argument (progress_at m0)) (found {m = m0} name (Err e) h tt)
 
-  pub fun_second : {m1 : Moment} {fun : FunId} {e : Fault} → IsTopScope m0.graph m0.top
+  pub fun_second : {m1 : Moment} {e : Fault} (fun : FunId) → IsTopScope m0.graph m0.top
       → ((inner : Scope) → inner.home ≡ m0.graph.home → Answers
       (known inner (single name) (entry name.text (top_seen m0.graph m0.top).functors)) (functor_at m0.graph) (Ok fun))
       → HasFunctor m0.graph fun → IsModule m0 argument m1 (Err e)
       → IsModule m0 (ModulePhrase.Functor name argument at) m1 (Err e)
-  fun_second {m1} {fun} {e} there h has k =
+  fun_second {m1} {e} fun there h has k =
       goes_on (fun_rest argument (progress_at m0)) there (found {m = m0} name (Ok fun) h has)
       (stops (applied argument (functor_at m0.graph fun)) k)
 
-  pub fun_done : {m1 : Moment} {fun : FunId} {id : EnvId} (g : Graph) (t : Table) (r : Result EnvId Fault)
+  pub fun_done : {m1 : Moment} {id : EnvId} (fun : FunId) (place : At) (g : Graph) (t : Table)
+      (r : Result EnvId Fault) → place ≡ module_at argument
       → IsTopScope m0.graph m0.top
       → ((inner : Scope) → inner.home ≡ m0.graph.home → Answers
       (known inner (single name) (entry name.text (top_seen m0.graph m0.top).functors)) (functor_at m0.graph) (Ok fun))
       → HasFunctor m0.graph fun → IsModule m0 argument m1 (Ok id) → IsTopScope m1.graph m1.top
       → ((inner : Scope) → inner.home ≡ m1.graph.home
-      → Answers (functor_applied inner (module_at argument) (functor_at m1.graph fun) (env_at m1.graph id, progress_at m1))
+      → Answers (functor_applied inner place (functor_at m1.graph fun) (env_at m1.graph id, progress_at m1))
       (λ (made : EnvId). (env_at g made, progress t g)) r)
       → IfOk r (HasEnv g) → Grows m1.graph g → t ≡ m1.table
       → IsModule m0 (ModulePhrase.Functor name argument at) (moment g t m1.top) r
-  fun_done {m1} {fun} {id} g t r there h has k there1 l env grows e =
+  fun_done {m1} {id} fun place g t r at_place there h has k there1 l env grows e =
       goes_on (fun_rest argument (progress_at m0)) there (found {m = m0} name (Ok fun) h has)
       (goes_on (applied argument (functor_at m0.graph fun)) there k (record {
         infers = subst (λ (f : Functor). Answers (functor_applied (core_scope m1.graph.home (seen_at m1))
             (module_at argument) f (env_at m1.graph id, progress_at m1))
             (λ (made : EnvId). (env_at g made, progress t g)) r) (k.goes.graph.functor fun has)
-            (l (core_scope m1.graph.home (seen_at m1)) refl);
+            (subst (λ (z : At). Answers (functor_applied (core_scope m1.graph.home (seen_at m1)) z
+            (functor_at m1.graph fun) (env_at m1.graph id, progress_at m1))
+            (λ (made : EnvId). (env_at g made, progress t g)) r) at_place
+            (l (core_scope m1.graph.home (seen_at m1)) refl));
         has = env;
         goes = changes_graph {m = m1} g t grows.keeps grows.home e;
         left = same_left r m1.top m1.top refl;
@@ -225,11 +229,11 @@ module _ {W R : Type 0} {m0 : Moment} {g : Graph} {t : Table} {top1 top2 : TopSc
 
 -- ---- declarations of the core
 
-pub core_declared : {m0 : Moment} {p : DecPhrase} (g : Graph) (t : Table) (top : TopScope)
+pub core_declared : {m0 : Moment} (p : DecPhrase) (g : Graph) (t : Table) (top : TopScope)
     (r : Result (Made OwnVariable) Fault) → IsTopScope m0.graph m0.top
     → Answers (infer_dec depth (scope_of m0.graph m0.top.core) p (progress_at m0)) (read_made (moment g t top)) r
     → IfOk r (HasMade g) → Passes m0 (moment g t top) → top ≡ m0.top → IsCore m0 p (moment g t top) r
-core_declared {m0} {p} g t top r there h has goes e = record {
+core_declared {m0} p g t top r there h has goes e = record {
   infers = subst (λ sc. Answers (infer_dec depth sc p (progress_at m0)) (read_made (moment g t top)) r)
       (core_seen m0.graph m0.top there) h;
   has = has;
@@ -251,10 +255,10 @@ dec_end at home top r = sized_dec (core_scope home top) at r
 abbrev local_rest : ModuleDec → At → List ℕ → Top → Env × Progress → Answer (Env × Progress)
 local_rest shown at home top h = infer_module_dec depth home (top_under h.0 top) shown h.1 >>= dec_end at home top
 
-made_there : {g : Graph} (made : Made OwnVariable) (q : Result (Made OwnVariable) Fault) → HasMade g made
+pub made_there : (g : Graph) (made : Made OwnVariable) (q : Result (Made OwnVariable) Fault) → HasMade g made
     → IfOk q (λ same. same ≡ made) → IfOk q (HasMade g)
-made_there {g} made (Ok x) there e = subst (λ (z : Made OwnVariable). HasMade g z) (sym e) there
-made_there {g} made (Err f) there e = tt
+made_there g made (Ok x) there e = subst (λ (z : Made OwnVariable). HasMade g z) (sym e) there
+made_there g made (Err f) there e = tt
 
 -- the check of the size at the end
 pub checked : {m : Moment} {r : Result (Made OwnVariable) Fault} (at : At) (made : Made OwnVariable)
@@ -263,7 +267,7 @@ pub checked : {m : Moment} {r : Result (Made OwnVariable) Fault} (at : At) (made
     → Elabs m (λ home top. dec_end at home top (read_made m made)) read_made HasMade m r
 checked {m} {r} at made h there same = record {
   infers = h;
-  has = made_there {g = m.graph} made r there same;
+  has = made_there m.graph made r there same;
   goes = passes_top m m.top;
   left = same_left r m.top m.top refl;
 }

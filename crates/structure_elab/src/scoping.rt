@@ -13,20 +13,22 @@ use core_rules::enter_behind;
 use core_scopes::{Made, ScopeMark};
 use module_scopes::TopScope;
 use pattern_elab::OwnVariable;
+use sml_types::TypeTable;
 use std::alloc::Global;
-use value_closing::enter_made;
 
 /// Enters what a declaration makes. A mark from before leaves it again. Want of memory leaves what is in scope as it was.
 pub(crate) fn enter(top: &mut TopScope, made: Made<OwnVariable>) -> Result<(), NoMemory>
     ensures ok { OnOk result ((g : Graph) → HasEnvs g made.structures
         → GoesInto g (env_of_made g own_entry made) top.old top.new) }
 {
-    enter_made(&mut top.core, made)
+    top.core.bind_made(made)?;
+    Ok(())
 }
 
-/// .. and adds it to what the declarations before it make.
+/// .. and adds it to what the declarations before it make. The table is for the proof alone.
 pub(crate) fn enter_next(
     alloc: Global,
+    t: &TypeTable,
     top: &mut TopScope,
     all: &mut Made<OwnVariable>,
     made: Made<OwnVariable>,
@@ -35,7 +37,8 @@ pub(crate) fn enter_next(
     ensures ok { OnOk result ((g : Graph) → HasEnvs g made.structures
         → GoesInto g (env_of_made g own_entry made) top.old top.new) }
 {
-    enter_behind(alloc, &mut top.core, all, made)
+    enter_behind(alloc, &mut top.core, all, made)?;
+    Ok(())
 }
 
 /// Makes what is in scope again what a mark remembers.

@@ -140,7 +140,7 @@ module _ {m0 m1 : Moment} (bind : FunPhrase) (param inside : SigParts) where
         (goes_on (closing (signature_of m0.graph param) (signature_of m0.graph inside) (length m0.graph.made)) there1
         (known_step {id = id} g t (Ok known) k has grows same)
         (record {
-          infers = ap₂ (λ (f : Functor) (made : List TyName). gives (f, (let st : Progress = record {
+          infers = ap₂ (λ (f : Functor) (made : List TyName). gives {A = Functor × Progress} (f, (let st : Progress = record {
             types = state t;
             names = length made;
           } in st)))
@@ -188,7 +188,7 @@ module _ {m0 m1 : Moment} (bind : FunsigPhrase) (param inside : SigParts) where
       (env_at m1.graph result.env)) fun
       → IsResult m0 bind param inside (moment g m1.table m1.top) (Ok fun)
   result_done {sig} {fun} result g there p i h e given = goes_on made_of there h (record {
-    infers = ap₂ (λ (f : Functor) (made : List TyName). gives (f, (let st : Progress = record {
+    infers = ap₂ (λ (f : Functor) (made : List TyName). gives {A = Functor × Progress} (f, (let st : Progress = record {
       types = state m1.table;
       names = length made;
     } in st)))
@@ -212,9 +212,9 @@ Rest = List ℕ → Top → Signature → Signature × Progress → Answer (Func
 abbrev opening : Rest → List ℕ → Top → Signature × Progress → Answer (Functor × Progress)
 opening rest home top p = rest home top p.0 (opened home p.0 p.1)
 
-inside_is : {m1 : Moment} (g : Graph) (sig : Signature) (inside : SigParts) → IsOpened m1.graph g sig inside
+inside_is : (m1 : Moment) (g : Graph) (sig : Signature) (inside : SigParts) → IsOpened m1.graph g sig inside
     → (signature_of g inside, progress m1.table g) ≡ opened m1.graph.home sig (progress_at m1)
-inside_is {m1} g sig inside o =
+inside_is m1 g sig inside o =
     ap₂ (λ (s : Signature) (n : ℕ). (s, (let st : Progress = record { types = state m1.table; names = n } in st)))
     (o.is (progress_at m1) refl) (o.names (progress_at m1) refl)
 
@@ -251,7 +251,7 @@ module _ {m0 m1 : Moment} (sig : SigPhrase) (rest : Rest) where
             (opened m1.graph.home (signature_at m1.graph id) (progress_at m1))) (read_functor m3) r)
             (parts_kept m1.graph g param o.keeps p ∙ e)
             (subst (λ (y : Signature × Progress). Answers (rest m1.graph.home (seen_at m1) (signature_of g param) y)
-            (read_functor m3) r) (inside_is {m1 = m1} g (signature_at m1.graph id) inside o)
+            (read_functor m3) r) (inside_is m1 g (signature_at m1.graph id) inside o)
             (seen_before {old = m1} {mid = m2} (λ home top. rest home top (signature_of g param)
             (signature_of g inside, progress m1.table g)) (read_functor m3) r there1 goes refl k.infers));
         has = k.has;
@@ -275,7 +275,7 @@ ready_with {m0} {m1} {id} name sig inside g r h o k =
     let opens : opened m0.graph.home (signature_at m1.graph id) (progress_at m1)
     ≡ (signature_of g inside, progress m1.table g) =
     ap (λ z. opened z (signature_at m1.graph id) (progress_at m1)) (sym h.goes.home)
-    ∙ sym (inside_is {m1 = m1} g (signature_at m1.graph id) inside o) in
+    ∙ sym (inside_is m1 g (signature_at m1.graph id) inside o) in
     let second : IsAtTop every m0.graph.home (top_with_param name (env_at g inside.env) (seen_at m0))
     (progress m1.table g) =
     subst (λ (z : Signature × Progress). IsAtTop every m0.graph.home (top_with_param name z.0.env (seen_at m0)) z.1)
@@ -318,12 +318,12 @@ module _ {m0 m1 : Moment} (bind : Name × ModulePhrase) where
   })
 
 -- names that earlier bindings have
-pub label_among : {m : Moment} (name : Name) (rows : Rows EnvId) (r : Result (Unit {0}) Fault)
+pub label_among : (m : Moment) (name : Name) (rows : Rows EnvId) (r : Result (Unit {0}) Fault)
     → ((inner : Scope) → inner.home ≡ m.graph.home
     → Answers (new_label inner name (structures (structures_env m.graph rows))) (λ (u : Unit {0}). tt) r)
     → (inner : Scope) → inner.home ≡ m.graph.home
     → Answers (new_label inner name (table_at env_at m.graph rows)) (λ (u : Unit {0}). tt) r
-label_among {m} name rows r h inner e = subst (λ (table : Named Env). Answers (new_label inner name table)
+label_among m name rows r h inner e = subst (λ (table : Named Env). Answers (new_label inner name table)
     (λ (u : Unit {0}). tt) r) (tables_back (table_at env_at m.graph rows)) (h inner e)
 
 -- a binding as it is written
@@ -337,11 +337,11 @@ bound_as {old} {new} {r} sealing bind h =
 pub name_as : (sealing : Bool) (bind : StrBind) → (read_bind sealing bind).0 ≡ (out-StrBind bind).name
 name_as sealing bind = ap (λ (z : Name × StrPhrase). z.0) (str_bind_phrase-kept bind)
 
-pub label_as : {m : Moment} {r : Result (Unit {0}) Fault} (sealing : Bool) (bind : StrBind) (rows : Rows EnvId)
+pub label_as : {r : Result (Unit {0}) Fault} (m : Moment) (sealing : Bool) (bind : StrBind) (rows : Rows EnvId)
     → ((inner : Scope) → inner.home ≡ m.graph.home
     → Answers (new_label inner (out-StrBind bind).name (structures (structures_env m.graph rows))) (λ (u : Unit {0}). tt) r)
     → (inner : Scope) → inner.home ≡ m.graph.home
     → Answers (new_label inner (read_bind sealing bind).0 (table_at env_at m.graph rows)) (λ (u : Unit {0}). tt) r
-label_as {m} {r} sealing bind rows h inner e =
+label_as {r} m sealing bind rows h inner e =
     subst (λ (n : Name). Answers (new_label inner n (table_at env_at m.graph rows)) (λ (u : Unit {0}). tt) r)
-    (sym (name_as sealing bind)) (label_among {m = m} (out-StrBind bind).name rows r h inner e)
+    (sym (name_as sealing bind)) (label_among m (out-StrBind bind).name rows r h inner e)

@@ -115,9 +115,9 @@ module _ {B Id V : Type 0} (name : B → Name) (one : Inferring B V) (value : Gr
   abbrev label_of : B → Named V → List ℕ → Top → Answer (Unit {0})
   label_of bind made home top = new_label (core_scope home top) (name bind) made
 
-  new_in : {m : Moment} {bind : B} {rows : Rows Id} (r : Result (Unit {0}) Fault) → IsNew m bind rows r
+  new_in : {m : Moment} (bind : B) (rows : Rows Id) (r : Result (Unit {0}) Fault) → IsNew m bind rows r
       → Elabs m (label_of bind (table_at value m.graph rows)) read_unit NoneOf m r
-  new_in {m} {bind} {rows} r h = record {
+  new_in {m} bind rows r h = record {
     infers = h (core_scope m.graph.home (seen_at m)) refl;
     has = none_of m.graph r;
     goes = passes_top m m.top;
@@ -137,20 +137,20 @@ module _ {B Id V : Type 0} (name : B → Name) (one : Inferring B V) (value : Gr
   abbrev HasAfter : Rows Id → Graph → Unit {0} → Type 0
   HasAfter after g u = AllRows (has g) after
 
-  refused : {m0 m1 : Moment} {want : List ℕ → Top → Answer (Named V × Progress)} {after : Rows Id} {e : Fault}
+  refused : {m0 m1 : Moment} {want : List ℕ → Top → Answer (Named V × Progress)} {e : Fault} (after : Rows Id)
       → Elabs m0 want (read_after after) (HasAfter after) m1 (Err e) → BindsRows value has m0 want after m1 (Err e)
-  refused h = record { infers = h.infers; there = tt; goes = h.goes; left = tt }
+  refused after h = record { infers = h.infers; there = tt; goes = h.goes; left = tt }
 
   module _ {m0 : Moment} (bind : B) (before after : Rows Id) where
     pub bind_first : {e : Fault} → IsNew m0 bind before (Err e) → IsBound m0 bind before after m0 (Err e)
-    bind_first {e} h = refused (stops (one_of bind (table_at value m0.graph before) (progress_at m0))
-        (new_in {m = m0} (Err e) h))
+    bind_first {e} h = refused after (stops {told = read_after after} {got = HasAfter after} (one_of bind (table_at value m0.graph before) (progress_at m0))
+        (new_in {m = m0} bind before (Err e) h))
 
     pub bind_second : {m1 : Moment} {e : Fault} → IsTopScope m0.graph m0.top → IsNew m0 bind before (Ok tt)
         → IsOne m0 bind m1 (Err e) → IsBound m0 bind before after m1 (Err e)
     bind_second {m1} {e} there h k =
-        refused (goes_on (one_of bind (table_at value m0.graph before) (progress_at m0)) there
-        (new_in {m = m0} (Ok tt) h) (stops (one_end bind (table_at value m0.graph before)) k))
+        refused after (goes_on {told = read_after after} {got = HasAfter after} (one_of bind (table_at value m0.graph before) (progress_at m0)) there
+        (new_in {m = m0} bind before (Ok tt) h) (stops (one_end bind (table_at value m0.graph before)) k))
 
     pub bind_memory : {m1 : Moment} {id : Id} → IsOne m0 bind m1 (Ok id)
         → IsBound m0 bind before after m1 (Err fault.NoMemory)
@@ -161,10 +161,10 @@ module _ {B Id V : Type 0} (name : B → Name) (one : Inferring B V) (value : Gr
         → after ≡ before ++ (text, id) ∷ [] → IsBound m0 bind before after m1 (Ok tt)
     bind_done {m1} {id} text there h k rows t e =
         let all = goes_on {told = read_after after} {got = HasAfter after}
-        (one_of bind (table_at value m0.graph before) (progress_at m0)) there (new_in {m = m0} (Ok tt) h)
+        (one_of bind (table_at value m0.graph before) (progress_at m0)) there (new_in {m = m0} bind before (Ok tt) h)
         (goes_on {told = read_after after} {got = HasAfter after} (one_end bind (table_at value m0.graph before)) there k
         (record {
-          infers = ap (λ (z : Named V). gives (z, progress_at m1))
+          infers = ap (λ (z : Named V). gives {A = Named V × Progress} (z, progress_at m1))
               (ap (λ (z : Named V). with_entry (name bind).text (value m1.graph id) z)
               (sym (table_kept m0.graph m1.graph before k.goes.graph rows))
               ∙ sym (one_more (value m1.graph) before after (name bind).text text id t e []));

@@ -67,4 +67,5 @@ returns-in_ok-env-in-Transparent c =
     ∙ ap (λ s. ModulePhrase.Opaque (module_phrase (str_phrase s)) (sig_phrase c.in-Transparent.sig)
     c.in-Transparent.field-2) (sym c.get.ensures))
     (sealed_done (module_phrase (str_phrase c.get.result.now)) (sig_phrase c.in-Transparent.sig)
-    c.in-Transparent.field-2 c.requires.there c.in_ok-env-in-Transparent.ensures c.seal.ensures)
+    c.in-Transparent.field-2 c.place_of_str.result c.place_of_str.ensures c.requires.there
+    c.in_ok-env-in-Transparent.ensures c.seal.ensures)

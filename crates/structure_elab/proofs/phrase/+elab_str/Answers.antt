@@ -57,7 +57,8 @@ elab_str-returns-in_ok-env-in-Transparent t c =
     ∙ ap (λ s. ModulePhrase.Transparent (module_phrase (str_phrase s)) (sig_phrase c.in-Transparent.sig)
     c.in-Transparent.field-2) (sym c.get-in-Transparent.ensures))
     (constrained_done (module_phrase (str_phrase c.get-in-Transparent.result.now)) (sig_phrase c.in-Transparent.sig)
-    c.in-Transparent.field-2 c.requires.there c.in_ok-env-in-Transparent.ensures c.constrain.ensures)
+    c.in-Transparent.field-2 c.place_of_str.result c.place_of_str.ensures c.requires.there
+    c.in_ok-env-in-Transparent.ensures c.constrain.ensures)
 
 pub elab_str-returns-in_err-env-in-Opaque : goal.elab_str-returns-in_err-env-in-Opaque
 elab_str-returns-in_err-env-in-Opaque t c =
@@ -77,7 +78,8 @@ elab_str-returns-in_ok-env-in-Opaque t c =
     ∙ ap (λ s. ModulePhrase.Opaque (module_phrase (str_phrase s)) (sig_phrase c.in-Opaque.sig) c.in-Opaque.field-2)
     (sym c.get-in-Opaque.ensures))
     (sealed_done (module_phrase (str_phrase c.get-in-Opaque.result.now)) (sig_phrase c.in-Opaque.sig)
-    c.in-Opaque.field-2 c.requires.there c.in_ok-env-in-Opaque.ensures c.seal.ensures)
+    c.in-Opaque.field-2 c.place_of_str-in-Opaque.result c.place_of_str-in-Opaque.ensures c.requires.there
+    c.in_ok-env-in-Opaque.ensures c.seal.ensures)
 
 pub elab_str-returns-in_err-fun-in-Functor : goal.elab_str-returns-in_err-fun-in-Functor
 elab_str-returns-in_err-fun-in-Functor t c =
@@ -97,8 +99,8 @@ elab_str-returns-in_err-env-in-Functor t c =
     ∙ ap (λ s. ModulePhrase.Functor c.in-Functor.name (module_phrase (str_phrase s)) c.in-Functor.field-2)
     (sym c.get-in-Functor.ensures))
     (fun_second c.in-Functor.name (module_phrase (str_phrase c.get-in-Functor.result.now)) c.in-Functor.field-2
-    c.requires.there c.in_ok-fun-in-Functor.ensures.answers c.in_ok-fun-in-Functor.ensures.there
-    c.in_err-env-in-Functor.ensures))
+    c.in_ok-fun-in-Functor.fun c.requires.there c.in_ok-fun-in-Functor.ensures.answers
+    c.in_ok-fun-in-Functor.ensures.there c.in_err-env-in-Functor.ensures))
 
 pub elab_str-returns-in_ok-env-in-Functor : goal.elab_str-returns-in_ok-env-in-Functor
 elab_str-returns-in_ok-env-in-Functor t c =
@@ -107,9 +109,13 @@ elab_str-returns-in_ok-env-in-Functor t c =
     ∙ ap (λ s. ModulePhrase.Functor c.in-Functor.name (module_phrase (str_phrase s)) c.in-Functor.field-2)
     (sym c.get-in-Functor.ensures))
     (fun_done c.in-Functor.name (module_phrase (str_phrase c.get-in-Functor.result.now)) c.in-Functor.field-2
-    c.apply_functor.new.g c.apply_functor.new.t c.apply_functor.result
+    c.in_ok-fun-in-Functor.fun c.place_of_str-in-Functor.result c.apply_functor.new.g c.apply_functor.new.t
+    c.apply_functor.result c.place_of_str-in-Functor.ensures
     c.requires.there c.in_ok-fun-in-Functor.ensures.answers c.in_ok-fun-in-Functor.ensures.there
-    c.in_ok-env-in-Functor.ensures c.apply_functor.ensures.answers c.apply_functor.ensures.there
+    c.in_ok-env-in-Functor.ensures
+    (there_kept {new = moment c.elab_str-in-Functor.new.g c.elab_str-in-Functor.new.t c.elab_str-in-Functor.new.top}
+    c.requires.there c.in_ok-env-in-Functor.ensures.goes c.in_ok-env-in-Functor.ensures.left)
+    c.apply_functor.ensures.answers c.apply_functor.ensures.there
     c.apply_functor.ensures.graph c.apply_functor.ensures.table)
 
 pub elab_str-returns-in_err-made-in-Within : goal.elab_str-returns-in_err-made-in-Within
@@ -138,12 +144,22 @@ elab_str-is_ready_behind-requires t c =
     λ k. behind (module_dec (dec_phrase c.get-in-Within.result.now)) c.in_ok-made-in-Within.made c.requires k
     c.in_ok-made-in-Within.ensures
 
+pub elab_str-constrain-requires-clause-there : goal.elab_str-constrain-requires-clause-there
+elab_str-constrain-requires-clause-there t c =
+    there_kept {new = moment c.elab_str-in-Transparent.new.g c.elab_str-in-Transparent.new.t c.elab_str-in-Transparent.new.top}
+    c.requires.there c.in_ok-env-in-Transparent.ensures.goes c.in_ok-env-in-Transparent.ensures.left
+
+pub elab_str-seal-requires-clause-there : goal.elab_str-seal-requires-clause-there
+elab_str-seal-requires-clause-there t c =
+    there_kept {new = moment c.elab_str-in-Opaque.new.g c.elab_str-in-Opaque.new.t c.elab_str-in-Opaque.new.top}
+    c.requires.there c.in_ok-env-in-Opaque.ensures.goes c.in_ok-env-in-Opaque.ensures.left
+
 -- ---- the environment of a declaration
 
 pub elab_struct-returns-in_err-made : goal.elab_struct-returns-in_err-made
 elab_struct-returns-in_err-made t c =
     passed c.from_residual.result c.in_err-made.field-0.0 c.from_residual.ensures.1
-    (struct_first c.in_err-made.ensures)
+    (struct_first (module_dec (dec_phrase c.args.dec.now)) c.in_err-made.ensures)
 
 pub elab_struct-make_declared-requires : goal.elab_struct-make_declared-requires
 elab_struct-make_declared-requires t c = c.in_ok-made.ensures.has
@@ -151,10 +167,10 @@ elab_struct-make_declared-requires t c = c.in_ok-made.ensures.has
 pub elab_struct-returns-in_err-env : goal.elab_struct-returns-in_err-env
 elab_struct-returns-in_err-env t c =
     passed c.from_residual-in_err-env.result fault.NoMemory c.from_residual-in_err-env.ensures.1
-    (struct_memory c.make_declared.new.g c.in_ok-made.ensures c.in_err-env.ensures.err)
+    (struct_memory (module_dec (dec_phrase c.args.dec.now)) c.make_declared.new.g c.in_ok-made.ensures c.in_err-env.ensures.err)
 
 pub elab_struct-returns : goal.elab_struct-returns
-elab_struct-returns t c = struct_done c.make_declared.new.g c.in_ok-env.env c.in_ok-made.ensures c.in_ok-env.ensures.ok
+elab_struct-returns t c = struct_done (module_dec (dec_phrase c.args.dec.now)) c.make_declared.new.g c.in_ok-env.env c.in_ok-made.ensures c.in_ok-env.ensures.ok
 
 -- ---- under what a declaration made
 
@@ -292,7 +308,7 @@ elab_str_dec-returns-in_ok-made-in-Local t c =
     (sym c.get.ensures) (sym c.get-in-Local.ensures))
     (local_done (module_dec (dec_phrase c.get.result.now)) (module_dec (dec_phrase c.get-in-Local.result.now))
     c.in-Local.at c.check_made.new.t c.requires.there c.in_ok-before-in-Local.ensures
-    c.is_ready_behind-in-Local.ensures.there c.in_ok-made-in-Local.ensures c.check_made.ensures.same
+    c.is_ready_behind.ensures.there c.in_ok-made-in-Local.ensures c.check_made.ensures.same
     c.check_made.ensures.answer c.check_made.ensures.it)
 
 -- ---- declarations one after another
@@ -306,9 +322,6 @@ pub elab_sequence-returns : goal.elab_sequence-returns
 elab_sequence-returns t c =
     decs_done c.in_ok-elab_each.ensures
     (c.leave.ensures c.args.top.now c.mark-before.ensures.is c.in_ok-elab_each.ensures.over)
-
-pub elab_sequence-elab_each-requires-clause-over : goal.elab_sequence-elab_each-requires-clause-over
-elab_sequence-elab_each-requires-clause-over t c = over_itself c.args.top.now c.mark-before.ensures.front
 
 pub elab_each-loop-dec-init : goal.elab_each-loop-dec-init
 elab_each-loop-dec-init t c =
@@ -355,9 +368,6 @@ elab_each-returns t c =
 
 -- ---- structures
 
-pub elab_structures-elab_binds-requires-clause-envs : goal.elab_structures-elab_binds-requires-clause-envs
-elab_structures-elab_binds-requires-clause-envs t c = subst (AreEnvs c.args.g.now) (sym c.new-made.ensures) tt
-
 pub elab_structures-end_structures-requires : goal.elab_structures-end_structures-requires
 elab_structures-end_structures-requires t c = c.in_ok-elab_binds.ensures.envs
 
@@ -380,9 +390,6 @@ elab_binds-loop-bind-init t c =
 
 pub elab_binds-is_ready-requires : goal.elab_binds-is_ready-requires
 elab_binds-is_ready-requires t c = λ k. binds_ready c.loop-bind.invariant k
-
-pub elab_binds-elab_bind-requires-clause-envs : goal.elab_binds-elab_bind-requires-clause-envs
-elab_binds-elab_bind-requires-clause-envs t c = c.loop-bind.invariant.envs
 
 pub elab_binds-loop-bind-preserved : goal.elab_binds-loop-bind-preserved
 elab_binds-loop-bind-preserved t c =
@@ -412,7 +419,7 @@ elab_bind-returns-in_err-check_structure t c =
     passed_on (IsBind (moment c.args.g.now c.args.t.now c.args.top.now) (bind_phrase c.args.bind.now) c.args.made.now
     c.args.made.now (moment c.args.g.now c.args.t.now c.args.top.now)) c.from_residual.result
     c.in_err-check_structure.field-0.0 c.from_residual.ensures.1
-    (bind_of c.args.bind.now (bind_first {m0 = moment c.args.g.now c.args.t.now c.args.top.now}
+    (bind_of c.args.made.now c.args.bind.now (bind_first {m0 = moment c.args.g.now c.args.t.now c.args.top.now}
     (out-StrBind c.args.bind.now).name (module_phrase (str_phrase (out-StrBind c.args.bind.now).body))
     c.args.made.now c.args.made.now c.in_err-check_structure.ensures))
 
@@ -421,7 +428,7 @@ elab_bind-returns-in_err-env t c =
     passed_on (IsBind (moment c.args.g.now c.args.t.now c.args.top.now) (bind_phrase c.args.bind.now) c.args.made.now
     c.args.made.now (moment c.elab_str.new.g c.elab_str.new.t c.elab_str.new.top)) c.from_residual-in_err-env.result
     c.in_err-env.field-0.0 c.from_residual-in_err-env.ensures.1
-    (bind_of c.args.bind.now (bind_second
+    (bind_of c.args.made.now c.args.bind.now (bind_second
     (out-StrBind c.args.bind.now).name (module_phrase (str_phrase (out-StrBind c.args.bind.now).body))
     c.args.made.now c.args.made.now c.requires.ready.there c.in_ok-check_structure.ensures c.in_err-env.ensures))
 
@@ -430,13 +437,13 @@ elab_bind-returns-in_err-bind_structure t c =
     passed_on (IsBind (moment c.args.g.now c.args.t.now c.args.top.now) (bind_phrase c.args.bind.now) c.args.made.now
     c.bind_structure.new.made (moment c.elab_str.new.g c.elab_str.new.t c.elab_str.new.top))
     c.from_residual-in_err-bind_structure.result fault.NoMemory c.from_residual-in_err-bind_structure.ensures.1
-    (bind_of c.args.bind.now (bind_memory
+    (bind_of c.args.made.now c.args.bind.now (bind_memory
     (out-StrBind c.args.bind.now).name (module_phrase (str_phrase (out-StrBind c.args.bind.now).body))
     c.args.made.now c.bind_structure.new.made c.in_ok-env.ensures))
 
 pub elab_bind-returns : goal.elab_bind-returns
 elab_bind-returns t c =
-    bind_of c.args.bind.now (bind_done
+    bind_of c.args.made.now c.args.bind.now (bind_done
     (out-StrBind c.args.bind.now).name (module_phrase (str_phrase (out-StrBind c.args.bind.now).body))
     c.args.made.now c.bind_structure.new.made c.requires.ready.there c.in_ok-check_structure.ensures c.in_ok-env.ensures
     c.requires.envs (c.in_ok-bind_structure.ensures.ok c.elab_str.new.g)

@@ -1,0 +1,4 @@
+pub mod Lasting
+pub mod Turns
+pub mod Defining
+pub mod Declared
