@@ -162,8 +162,8 @@ top_rising home top dec st r h e =
 -- nothing rises
 pub empty_rises : RisingTop empty_top
 empty_rises = record {
-  env = (tt, tt, (tt, tt), tt);
-  signatures = (tt, tt);
-  functors = (tt, tt);
-  funsigs = (tt, tt);
+  env = (refl, tt, (refl, tt), refl);
+  signatures = (refl, tt);
+  functors = (refl, tt);
+  funsigs = (refl, tt);
 }

@@ -161,9 +161,9 @@ module _ {m0 : Moment} (name : Name) (str : ModulePhrase) (before after : Rows E
       ≡ with_structure name.text (env_at m1.graph id) (structures_env m1.graph before)
       → (AreEnvs m1.graph before → AreEnvs m1.graph after) → IsBind m0 (name, str) before after m1 (Ok tt)
   bind_done {m1} {id} there h k envs e more =
-      let all = goes_on {told = read_after after} {got = HasAfter after}
+      let all = goes_on {told = read_after after} {got = HasAfter after} {r = Ok tt}
       (bind_module name str (structures_env m0.graph before) (progress_at m0)) there (new_in {m = m0} name before (Ok tt) h)
-      (goes_on {told = read_after after} {got = HasAfter after} (bind_end name (structures_env m0.graph before)) there k (record {
+      (goes_on {told = read_after after} {got = HasAfter after} {r = Ok tt} (bind_end name (structures_env m0.graph before)) there k (record {
         infers = ap (λ (z : Env). gives {A = Env × Progress} (z, progress_at m1))
             (ap (λ (z : Env). with_structure name.text (env_at m1.graph id) z)
             (sym (rows_kept m0.graph m1.graph before k.goes.graph envs)) ∙ sym e);

@@ -1,19 +1,20 @@
 -- What is in scope is entered and left.
 use Rattle.std.proofs.Common.{◌≡◌, ℕ, List, [], ◌∷◌, refl, sym, ap, ◌∙◌, subst}
 use Rattle.semantic_objects.specs.declared.name.TyId.{TyId}
-use Rattle.semantic_objects.specs.Environments.{Env, Top}
+use Rattle.semantic_objects.specs.Environments.{Env, Top, modified_by}
 use Rattle.unification.specs.Types.{Ty}
 use Rattle.type_nodes.specs.Tables.{Table}
 use Rattle.sml_modules.specs.Items.{map_rows}
-use Rattle.sml_modules.specs.Graphs.{Graph}
+use Rattle.sml_modules.specs.Graphs.{Graph, HasEnvs}
 use Rattle.name_trails.specs.Trails.{Rows}
 use Rattle.static_semantics.specs.Inferring.{Scope}
 use Rattle.core_scopes.specs.declared.mark.ScopeMark.{ScopeMark}
-use Rattle.core_scopes.specs.Scopes.{Bindings, written_of}
-use Rattle.core_scopes.specs.Marks.{mark_of, IsFrontOf}
+use Rattle.core_scopes.specs.declared.made.Made.{Made}
+use Rattle.core_scopes.specs.Scopes.{Bindings, seen, written_of}
+use Rattle.core_scopes.specs.Marks.{mark_of, IsFrontOf, Becomes, env_of_made}
 use Rattle.core_scopes.proofs.Scoping.{fronts_go_on}
 use Rattle.pattern_elab.specs.declared.own.OwnVariable.{OwnVariable}
-use Rattle.pattern_elab.specs.Scopes.{variable_of, scope_of, AreVariables, IsCoreScope}
+use Rattle.pattern_elab.specs.Scopes.{own_entry, variable_of, scope_of, AreVariables, IsCoreScope}
 use Rattle.value_closing.specs.Under.{IsUnder}
 use Rattle.unit_semantics.specs.StructureInference.{top_under}
 use Rattle.sml_modules.specs.declared.id.TopId.{TopId}
@@ -21,6 +22,7 @@ use Rattle.module_scopes.specs.declared.defined.Defined.{Defined}
 use Rattle.module_scopes.specs.declared.top.TopScope.{TopScope}
 use Rattle.module_scopes.specs.Tops.{top_seen, IsTopScope}
 use Rattle.module_scopes.specs.Stays.{GoesUnder}
+use Rattle.module_scopes.proofs.Tops.{goes_under}
 use Rattle.structure_elab.specs.Moments.{GoesInto, IsOver}
 
 abbrev pub with_core : Bindings OwnVariable → TopScope → TopScope
@@ -96,3 +98,12 @@ left_again past now new core e f h =
     e ∙ ap (λ (c : Bindings OwnVariable). with_core c now) f
     ∙ ap (λ (given : TopId). made_of past.core given now.defined) h.given
     ∙ ap (λ (defined : Defined). made_of past.core past.given defined) h.defined
+
+-- what was made is entered
+pub enters : (made : Made OwnVariable) (old : TopScope) (core : Bindings OwnVariable)
+    → ((g : Graph) → HasEnvs g made.structures → Becomes g old.core core
+    (λ read. modified_by (seen g read old.core) (env_of_made g read made)) (written_of old.core))
+    → (g : Graph) → HasEnvs g made.structures → GoesInto g (env_of_made g own_entry made) old (with_core core old)
+enters made old core b g h = goes_into g (env_of_made g own_entry made) old core
+    (goes_under g old.core core (λ read. modified_by (seen g read old.core) (env_of_made g read made))
+    (env_of_made g own_entry made) (b g h) refl)

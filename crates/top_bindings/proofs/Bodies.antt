@@ -35,14 +35,19 @@ use Rattle.unit_derivations.specs.Promises.{every}
 use Rattle.unit_derivations.proofs.Scopes.{inside_top}
 use Rattle.module_scopes.specs.declared.top.TopScope.{TopScope}
 use Rattle.module_scopes.specs.Tops.{IsTopScope}
-use Rattle.structure_elab.specs.Moments.{Moment, moment, seen_at, progress_at, read_env, Passes, Elabs}
+use Rattle.cm_base.specs.declared.fault.NoMemory.{NoMemory}
+use Rattle.core_scopes.specs.Scopes.{Bindings}
+use Rattle.pattern_elab.specs.declared.own.OwnVariable.{OwnVariable}
+use Rattle.module_scopes.specs.Stays.{GoesUnder}
+use Rattle.structure_elab.specs.Moments.{Moment, moment, seen_at, progress_at, read_env, Passes, Elabs, GoesInto}
+use Rattle.structure_elab.proofs.Entering.{with_core, goes_into}
 use Rattle.structure_elab.specs.Phrases.{IsModule, IsSignature, read_signature}
 use Rattle.structure_elab.proofs.Chains.{passes_top, passes_then, seen_kept, there_kept, seen_before, stops, goes_on, same_left}
 use Rattle.structure_elab.proofs.Steps.{changes_graph}
 use Rattle.top_bindings.specs.Ready.{IsReadyTop, IsReadyWith}
 use Rattle.top_bindings.specs.Bindings.{read_functor, IsModuleWith, IsSignatureWith, IsBody, IsResult, infer_functor, infer_funsig, IsFunctorBound, IsFunsigBound, IsStructureBound, table_at}
 use Rattle.semantic_objects.specs.Tables.{Table as Named}
-use Rattle.semantic_objects.specs.Environments.{structures}
+use Rattle.semantic_objects.specs.Environments.{structures, empty_env, with_structure}
 use Rattle.name_trails.specs.Trails.{Rows}
 use Rattle.static_semantics.specs.TypeInference.{new_label}
 use Rattle.module_scopes.specs.Tops.{structures_env}
@@ -345,3 +350,13 @@ pub label_as : {r : Result (Unit {0}) Fault} (m : Moment) (sealing : Bool) (bind
 label_as {r} m sealing bind rows h inner e =
     subst (λ (n : Name). Answers (new_label inner n (table_at env_at m.graph rows)) (λ (u : Unit {0}). tt) r)
     (sym (name_as sealing bind)) (label_among m (out-StrBind bind).name rows r h inner e)
+
+-- a parameter is entered
+pub param_enters : (name : List ℕ) (env : EnvId) (old : TopScope) (core : Bindings OwnVariable)
+    (r : Result (Unit {0}) NoMemory)
+    → OnOk r ((g : Graph) → HasEnv g env → GoesUnder g (with_structure name (env_at g env) empty_env) old.core core)
+    → OnOk r ((g : Graph) → HasEnv g env
+    → GoesInto g (with_structure name (env_at g env) empty_env) old (with_core core old))
+param_enters name env old core (Ok u) k g h =
+    goes_into g (with_structure name (env_at g env) empty_env) old core (k g h)
+param_enters name env old core (Err e) k = tt

@@ -3,6 +3,7 @@ use Rattle.bare_phrases.specs.PhraseOf.{str_phrase}
 use Rattle.bare_phrases.proofs.Forms.{str_phrase-Struct, str_phrase-Named, str_phrase-Transparent, str_phrase-Opaque, str_phrase-Functor, str_phrase-Within}
 use Rattle.module_semantics.specs.SigPhrases.{sig_phrase}
 use Rattle.unit_semantics.specs.UnitPhrases.{ModulePhrase, module_phrase, read_module}
+use Rattle.unit_semantics.specs.StructureInference.{module_at}
 use Rattle.structure_elab.proofs.Chains.{passed, there_kept}
 use Rattle.structure_elab.proofs.Steps.{as_module}
 use Rattle.structure_elab.proofs.Sealing.{sealed_first, sealed_done}
@@ -67,5 +68,6 @@ returns-in_ok-env-in-Transparent c =
     ∙ ap (λ s. ModulePhrase.Opaque (module_phrase (str_phrase s)) (sig_phrase c.in-Transparent.sig)
     c.in-Transparent.field-2) (sym c.get.ensures))
     (sealed_done (module_phrase (str_phrase c.get.result.now)) (sig_phrase c.in-Transparent.sig)
-    c.in-Transparent.field-2 c.place_of_str.result c.place_of_str.ensures c.requires.there
+    c.in-Transparent.field-2 c.place_of_str.result
+    (c.place_of_str.ensures ∙ ap (λ s. module_at (module_phrase (str_phrase s))) (c.get-in-Transparent.ensures ∙ sym c.get.ensures)) c.requires.there
     c.in_ok-env-in-Transparent.ensures c.seal.ensures)

@@ -57,7 +57,8 @@ elab_str-returns-in_ok-env-in-Transparent t c =
     ∙ ap (λ s. ModulePhrase.Transparent (module_phrase (str_phrase s)) (sig_phrase c.in-Transparent.sig)
     c.in-Transparent.field-2) (sym c.get-in-Transparent.ensures))
     (constrained_done (module_phrase (str_phrase c.get-in-Transparent.result.now)) (sig_phrase c.in-Transparent.sig)
-    c.in-Transparent.field-2 c.place_of_str.result c.place_of_str.ensures c.requires.there
+    c.in-Transparent.field-2 c.place_of_str.result
+    (c.place_of_str.ensures ∙ ap (λ s. module_at (module_phrase (str_phrase s))) (c.get-in-Transparent-2.ensures ∙ sym c.get-in-Transparent.ensures)) c.requires.there
     c.in_ok-env-in-Transparent.ensures c.constrain.ensures)
 
 pub elab_str-returns-in_err-env-in-Opaque : goal.elab_str-returns-in_err-env-in-Opaque
@@ -78,7 +79,8 @@ elab_str-returns-in_ok-env-in-Opaque t c =
     ∙ ap (λ s. ModulePhrase.Opaque (module_phrase (str_phrase s)) (sig_phrase c.in-Opaque.sig) c.in-Opaque.field-2)
     (sym c.get-in-Opaque.ensures))
     (sealed_done (module_phrase (str_phrase c.get-in-Opaque.result.now)) (sig_phrase c.in-Opaque.sig)
-    c.in-Opaque.field-2 c.place_of_str-in-Opaque.result c.place_of_str-in-Opaque.ensures c.requires.there
+    c.in-Opaque.field-2 c.place_of_str-in-Opaque.result
+    (c.place_of_str-in-Opaque.ensures ∙ ap (λ s. module_at (module_phrase (str_phrase s))) (c.get-in-Opaque-2.ensures ∙ sym c.get-in-Opaque.ensures)) c.requires.there
     c.in_ok-env-in-Opaque.ensures c.seal.ensures)
 
 pub elab_str-returns-in_err-fun-in-Functor : goal.elab_str-returns-in_err-fun-in-Functor
@@ -110,7 +112,8 @@ elab_str-returns-in_ok-env-in-Functor t c =
     (sym c.get-in-Functor.ensures))
     (fun_done c.in-Functor.name (module_phrase (str_phrase c.get-in-Functor.result.now)) c.in-Functor.field-2
     c.in_ok-fun-in-Functor.fun c.place_of_str-in-Functor.result c.apply_functor.new.g c.apply_functor.new.t
-    c.apply_functor.result c.place_of_str-in-Functor.ensures
+    c.apply_functor.result
+    (c.place_of_str-in-Functor.ensures ∙ ap (λ s. module_at (module_phrase (str_phrase s))) (c.get-in-Functor-2.ensures ∙ sym c.get-in-Functor.ensures))
     c.requires.there c.in_ok-fun-in-Functor.ensures.answers c.in_ok-fun-in-Functor.ensures.there
     c.in_ok-env-in-Functor.ensures
     (there_kept {new = moment c.elab_str-in-Functor.new.g c.elab_str-in-Functor.new.t c.elab_str-in-Functor.new.top}
@@ -146,7 +149,7 @@ elab_str-is_ready_behind-requires t c =
 
 pub elab_str-constrain-requires-clause-there : goal.elab_str-constrain-requires-clause-there
 elab_str-constrain-requires-clause-there t c =
-    there_kept {new = moment c.elab_str-in-Transparent.new.g c.elab_str-in-Transparent.new.t c.elab_str-in-Transparent.new.top}
+    there_kept {new = moment c.elab_str.new.g c.elab_str.new.t c.elab_str.new.top}
     c.requires.there c.in_ok-env-in-Transparent.ensures.goes c.in_ok-env-in-Transparent.ensures.left
 
 pub elab_str-seal-requires-clause-there : goal.elab_str-seal-requires-clause-there
