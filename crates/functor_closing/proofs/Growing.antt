@@ -98,7 +98,7 @@ on_err (Ok x) f h = tt
 on_err (Err e) f h = f h
 
 -- the unit stays
-pub home_stays : {f : Functor} (g h : Graph) (r : Result FunId NoMemory) → IfOk r (GivesFunctor g h f)
+pub home_stays : (f : Functor) (g h : Graph) (r : Result FunId NoMemory) → IfOk r (GivesFunctor g h f)
     → OnErr r (h ≡ g) → h.home ≡ g.home
-home_stays g h (Ok id) k e = k.home
-home_stays g h (Err n) k e = ap (λ (z : Graph). z.home) e
+home_stays f g h (Ok id) k e = k.home
+home_stays f g h (Err n) k e = ap (λ (z : Graph). z.home) e

@@ -40,7 +40,14 @@ fn defined_in(
     let top = basis(alloc, g, options)?;
     let env = g.env_of(top)?;
     let mut scope = TopScope::new(alloc, g, env, given)?;
-    elab_tops(alloc, g, t, &mut scope, options.opaque, unit.topdecs.as_slice())?;
+    elab_tops(
+        alloc,
+        g,
+        t,
+        &mut scope,
+        options.opaque,
+        unit.topdecs.as_slice(),
+    )?;
     let made = make_defined(alloc, g, &scope.defined)?;
     Ok(made)
 }

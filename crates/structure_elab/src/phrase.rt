@@ -9,9 +9,9 @@ ghost use Rattle.structure_elab.specs.Moments.{moment, IsOver};
 ghost use Rattle.structure_elab.specs.Ready.{IsReadyAt, IsReadyBehind};
 ghost use Rattle.structure_elab.specs.Phrases.{IsModule, IsModuleBehind, IsStruct, IsDeclared, IsDeclaredBehind, AreDeclared, AreStructures, AreEntered, IsBind, AreBinds, bind_phrase};
 
-use crate::plain::declare_core;
 use crate::ends::end_structures;
 use crate::places::place_of_str;
+use crate::plain::declare_core;
 use crate::ready::{is_ready, is_ready_behind};
 use crate::scoping::{enter, enter_next, leave};
 use crate::signatures::{constrain, seal};

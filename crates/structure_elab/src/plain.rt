@@ -6,7 +6,7 @@ ghost use Rattle.structure_elab.specs.Ready.{IsReadyAt};
 ghost use Rattle.structure_elab.specs.Phrases.{IsCore};
 
 use cm_base::Fault;
-use core_stub::elab_dec_in;
+use core_elab::elab_dec_in;
 use core_scopes::Made;
 use module_scopes::TopScope;
 use pattern_elab::OwnVariable;

@@ -19,12 +19,7 @@ pub(crate) fn is_ready(g: &EnvGraph, t: &TypeTable, top: &TopScope)
 }
 
 /// .. under what a declaration made.
-pub(crate) fn is_ready_behind(
-    g: &EnvGraph,
-    t: &TypeTable,
-    top: &TopScope,
-    made: &Made<OwnVariable>,
-)
+pub(crate) fn is_ready_behind(g: &EnvGraph, t: &TypeTable, top: &TopScope, made: &Made<OwnVariable>)
     requires { IsKept t.now → IsReadyBehind (moment g.now t.now top.now) made.now }
     ensures { IsReadyBehind (moment g.now t.now top.now) made.now }
 {

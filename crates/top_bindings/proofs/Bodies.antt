@@ -145,10 +145,13 @@ module _ {m0 m1 : Moment} (bind : FunPhrase) (param inside : SigParts) where
         (goes_on (closing (signature_of m0.graph param) (signature_of m0.graph inside) (length m0.graph.made)) there1
         (known_step {id = id} g t (Ok known) k has grows same)
         (record {
-          infers = ap₂ (λ (f : Functor) (made : List TyName). gives {A = Functor × Progress} (f, (let st : Progress = record {
-            types = state t;
-            names = length made;
-          } in st)))
+          infers = ap₂ (λ (f : Functor) (made : List TyName). gives {A = Functor × Progress} (
+            f,
+            (let st : Progress = record {
+              types = state t;
+              names = length made;
+            } in st),
+          ))
               (ap₂ (λ (x y : Signature). functor_of x y (names_since g.home (length m0.graph.made) (env_at g known))
               (env_at g known)) (sym (parts_kept m0.graph g param keeps p)) (sym (parts_kept m0.graph g inside keeps i))
               ∙ ap (λ (z : ℕ). functor_of (signature_of g param) (signature_of g inside)
@@ -193,10 +196,13 @@ module _ {m0 m1 : Moment} (bind : FunsigPhrase) (param inside : SigParts) where
       (env_at m1.graph result.env)) fun
       → IsResult m0 bind param inside (moment g m1.table m1.top) (Ok fun)
   result_done {sig} {fun} result g there p i h e given = goes_on made_of there h (record {
-    infers = ap₂ (λ (f : Functor) (made : List TyName). gives {A = Functor × Progress} (f, (let st : Progress = record {
-      types = state m1.table;
-      names = length made;
-    } in st)))
+    infers = ap₂ (λ (f : Functor) (made : List TyName). gives {A = Functor × Progress} (
+      f,
+      (let st : Progress = record {
+        types = state m1.table;
+        names = length made;
+      } in st),
+    ))
         (ap₂ (λ (x y : Signature). functor_of x y (signature_at m1.graph sig).bound (signature_at m1.graph sig).env)
         (sym (parts_kept m0.graph m1.graph param h.goes.graph p))
         (sym (parts_kept m0.graph m1.graph inside h.goes.graph i))

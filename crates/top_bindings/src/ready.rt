@@ -28,13 +28,7 @@ pub(crate) fn is_ready_top(g: &EnvGraph, t: &TypeTable, top: &TopScope)
 }
 
 /// .. with a functor's parameter.
-pub(crate) fn is_ready_with(
-    g: &EnvGraph,
-    t: &TypeTable,
-    top: &TopScope,
-    param: &Name,
-    env: EnvId,
-)
+pub(crate) fn is_ready_with(g: &EnvGraph, t: &TypeTable, top: &TopScope, param: &Name, env: EnvId)
     requires { IsKept t.now → IsReadyWith (moment g.now t.now top.now) param.now (env_at g.now env) }
     ensures { IsReadyWith (moment g.now t.now top.now) param.now (env_at g.now env) }
 {

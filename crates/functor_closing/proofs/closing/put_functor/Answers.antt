@@ -26,5 +26,5 @@ returns-clause-err c = on_err c.make_fun.result
 
 pub returns-clause-home : goal.returns-clause-home
 returns-clause-home c =
-    home_stays c.realise.new.graph c.make_fun.new.self c.make_fun.result c.make_fun.ensures.ok c.make_fun.ensures.err
+    home_stays _ c.realise.new.graph c.make_fun.new.self c.make_fun.result c.make_fun.ensures.ok c.make_fun.ensures.err
     ∙ c.in_ok-result.ensures.ok.home

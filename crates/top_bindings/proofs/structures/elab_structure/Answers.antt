@@ -25,13 +25,17 @@ without_variables-requires c = c.in_ok-made.ensures.has
 pub returns-in_err-made : goal.returns-in_err-made
 returns-in_err-made c =
     passed c.from_residual.result c.in_err-made.field-0.0 c.from_residual.ensures.1
-    (bound_as c.args.sealing c.args.bind.now (structure_first ((out-StrBind c.args.bind.now).name,
-    read_module c.args.sealing (module_phrase (str_phrase (out-StrBind c.args.bind.now).body))) c.in_err-made.ensures))
+    (bound_as c.args.sealing c.args.bind.now (structure_first (
+      (out-StrBind c.args.bind.now).name,
+      read_module c.args.sealing (module_phrase (str_phrase (out-StrBind c.args.bind.now).body)),
+    ) c.in_err-made.ensures))
 
 pub returns-in_ok-made : goal.returns-in_ok-made
 returns-in_ok-made c =
-    bound_as c.args.sealing c.args.bind.now (structure_done ((out-StrBind c.args.bind.now).name,
-    read_module c.args.sealing (module_phrase (str_phrase (out-StrBind c.args.bind.now).body)))
+    bound_as c.args.sealing c.args.bind.now (structure_done (
+      (out-StrBind c.args.bind.now).name,
+      read_module c.args.sealing (module_phrase (str_phrase (out-StrBind c.args.bind.now).body)),
+    )
     c.without_variables.new.g c.without_variables.new.t c.without_variables.result c.requires.there c.in_ok-made.ensures
     c.without_variables.ensures.answers c.without_variables.ensures.there c.without_variables.ensures.graph
     c.without_variables.ensures.table)
