@@ -31,7 +31,7 @@ use Rattle.module_scopes.specs.Stays.{Defines}
 use Rattle.structure_elab.specs.Moments.{Moment, moment, seen_at, progress_at, Passes}
 use Rattle.structure_elab.proofs.Chains.{passes_over}
 use Rattle.top_bindings.specs.Bindings.{infer_bound, table_at, BindsRows, read_bind, structure_name, infer_structure, sig_name, infer_sig_bind, fun_name, infer_functor, funsig_name, infer_funsig, AreStructureRows, AreSignatureRows, AreFunctorRows, AreFunsigRows}
-use Rattle.top_bindings.proofs.Kinds.{binds_of, alone, alone_then, structures_bound, signatures_bound, functors_bound, funsigs_bound}
+use Rattle.top_bindings.proofs.Sorts.{binds_of, alone, alone_then, structures_bound, signatures_bound, functors_bound, funsigs_bound}
 use Rattle.module_elab.specs.Tops.{IsDefined}
 use Rattle.module_elab.proofs.Defining.{IsAlone}
 

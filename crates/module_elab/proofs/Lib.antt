@@ -2,3 +2,4 @@ pub mod Lasting
 pub mod Turns
 pub mod Defining
 pub mod Declared
+pub mod Starting

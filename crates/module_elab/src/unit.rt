@@ -10,6 +10,7 @@ ghost use Rattle.unit_semantics.specs.UnitPhrases.{unit_phrases};
 ghost use Rattle.unit_semantics.specs.UnitInference.{infer_unit};
 ghost use Rattle.unit_derivations.specs.Promises.{IsGiven};
 
+use crate::ready::is_ready_top;
 use crate::tops::elab_tops;
 use cm_base::{Fault, Options};
 use initial_basis::basis;
@@ -40,6 +41,7 @@ fn defined_in(
     let top = basis(alloc, g, options)?;
     let env = g.env_of(top)?;
     let mut scope = TopScope::new(alloc, g, env, given)?;
+    is_ready_top(g, t, &scope);
     elab_tops(
         alloc,
         g,

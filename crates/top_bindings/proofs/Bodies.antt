@@ -83,26 +83,27 @@ abbrev body_rest : FunPhrase → Signature → Signature → ℕ → List ℕ �
 body_rest bind param inside number home top r =
     without_variables (core_scope home top) bind.name r >>= closing param inside number home top
 
-module _ {m0 m1 : Moment} (bind : FunPhrase) (param inside : SigParts) where
-  abbrev rest : List ℕ → Top → Env × Progress → Answer (Functor × Progress)
-  rest = body_rest bind (signature_of m0.graph param) (signature_of m0.graph inside) (length m0.graph.made)
+abbrev rest_at : Moment → FunPhrase → SigParts → SigParts → List ℕ → Top → Env × Progress → Answer (Functor × Progress)
+rest_at m0 bind param inside =
+    body_rest bind (signature_of m0.graph param) (signature_of m0.graph inside) (length m0.graph.made)
 
+known_step : {m1 : Moment} (name : Name) (id : EnvId) (g : Graph) (t : Table) (r : Result EnvId Fault)
+    → ((inner : Scope) → inner.home ≡ m1.graph.home
+    → Answers (without_variables inner name (env_at m1.graph id, progress_at m1))
+    (λ (made : EnvId). (env_at g made, progress t g)) r)
+    → IfOk r (HasEnv g) → GrowsByNodes m1.graph g → t ≡ m1.table
+    → Elabs m1 (λ home top. known_rest name home top (read_env m1 id)) read_env HasEnv (moment g t m1.top) r
+known_step {m1} name id g t r h has grows e = record {
+  infers = h (core_scope m1.graph.home (seen_at m1)) refl;
+  has = has;
+  goes = changes_graph {m = m1} g t grows.keeps grows.home e;
+  left = same_left r m1.top m1.top refl;
+}
+
+module _ {m0 m1 : Moment} (bind : FunPhrase) (param inside : SigParts) where
   pub body_first : {e : Fault} → IsModuleWith m0 bind.param (env_at m0.graph inside.env) bind.body m1 (Err e)
       → IsBody m0 bind param inside m1 (Err e)
-  body_first h = stops rest h
-
-  known_step : {id : EnvId} (g : Graph) (t : Table) (r : Result EnvId Fault)
-      → ((inner : Scope) → inner.home ≡ m1.graph.home
-      → Answers (without_variables inner bind.name (env_at m1.graph id, progress_at m1))
-      (λ (made : EnvId). (env_at g made, progress t g)) r)
-      → IfOk r (HasEnv g) → GrowsByNodes m1.graph g → t ≡ m1.table
-      → Elabs m1 (λ home top. known_rest bind.name home top (read_env m1 id)) read_env HasEnv (moment g t m1.top) r
-  known_step {id} g t r h has grows e = record {
-    infers = h (core_scope m1.graph.home (seen_at m1)) refl;
-    has = has;
-    goes = changes_graph {m = m1} g t grows.keeps grows.home e;
-    left = same_left r m1.top m1.top refl;
-  }
+  body_first h = stops (rest_at m0 bind param inside) h
 
   module _ {id : EnvId} (there : IsTopScope m0.graph m0.top) (there1 : IsTopScope m1.graph m1.top)
       (h : IsModuleWith m0 bind.param (env_at m0.graph inside.env) bind.body m1 (Ok id)) (g : Graph) (t : Table)
@@ -112,18 +113,18 @@ module _ {m0 m1 : Moment} (bind : FunPhrase) (param inside : SigParts) where
         → Answers (without_variables inner bind.name (env_at m1.graph id, progress_at m1))
         (λ (made : EnvId). (env_at g made, progress t g)) (Err e))
         → IsBody m0 bind param inside (moment g t m1.top) (Err e)
-    body_second {e} k = goes_on rest there h
+    body_second {e} k = goes_on (rest_at m0 bind param inside) there h
         (stops (closing (signature_of m0.graph param) (signature_of m0.graph inside) (length m0.graph.made))
-        (known_step {id = id} g t (Err e) k tt grows same))
+        (known_step bind.name id g t (Err e) k tt grows same))
 
-    pub body_memory : {known : EnvId} (g2 : Graph) → Keeps g g2 → g2.home ≡ g.home
+    pub body_memory : (known : EnvId) (g2 : Graph) → Keeps g g2 → g2.home ≡ g.home
         → ((inner : Scope) → inner.home ≡ m1.graph.home
         → Answers (without_variables inner bind.name (env_at m1.graph id, progress_at m1))
         (λ (made : EnvId). (env_at g made, progress t g)) (Ok known)) → HasEnv g known
         → IsBody m0 bind param inside (moment g2 t m1.top) (Err fault.NoMemory)
-    body_memory {known} g2 keeps home k has = goes_on rest there h
+    body_memory known g2 keeps home k has = goes_on (rest_at m0 bind param inside) there h
         (goes_on (closing (signature_of m0.graph param) (signature_of m0.graph inside) (length m0.graph.made)) there1
-        (known_step {id = id} g t (Ok known) k has grows same)
+        (known_step bind.name id g t (Ok known) k has grows same)
         (record {
           infers = tt;
           has = tt;
@@ -131,7 +132,7 @@ module _ {m0 m1 : Moment} (bind : FunPhrase) (param inside : SigParts) where
           left = tt;
         }))
 
-    pub body_done : {known : EnvId} {fun : FunId} (g2 : Graph) (number : ℕ) → number ≡ length m0.graph.made
+    pub body_done : {fun : FunId} (known : EnvId) (g2 : Graph) (number : ℕ) → number ≡ length m0.graph.made
         → HasSigParts m0.graph param → HasSigParts m0.graph inside
         → ((inner : Scope) → inner.home ≡ m1.graph.home
         → Answers (without_variables inner bind.name (env_at m1.graph id, progress_at m1))
@@ -139,11 +140,11 @@ module _ {m0 m1 : Moment} (bind : FunPhrase) (param inside : SigParts) where
         → GivesFunctor g g2 (functor_of (signature_of g param) (signature_of g inside)
         (names_since g.home number (env_at g known)) (env_at g known)) fun
         → IsBody m0 bind param inside (moment g2 t m1.top) (Ok fun)
-    body_done {known} {fun} g2 number n p i k has given =
+    body_done {fun} known g2 number n p i k has given =
         let keeps : Keeps m0.graph g = graph_then m0.graph m1.graph g h.goes.graph grows.keeps in
-        goes_on rest there h
+        goes_on (rest_at m0 bind param inside) there h
         (goes_on (closing (signature_of m0.graph param) (signature_of m0.graph inside) (length m0.graph.made)) there1
-        (known_step {id = id} g t (Ok known) k has grows same)
+        (known_step bind.name id g t (Ok known) k has grows same)
         (record {
           infers = ap₂ (λ (f : Functor) (made : List TyName). gives {A = Functor × Progress} (
             f,
@@ -168,20 +169,20 @@ module _ {m0 m1 : Moment} (bind : FunPhrase) (param inside : SigParts) where
 abbrev making : Signature → Signature → List ℕ → Top → Signature × Progress → Answer (Functor × Progress)
 making param inside home top r = gives (functor_of param inside r.0.bound r.0.env, r.1)
 
-module _ {m0 m1 : Moment} (bind : FunsigPhrase) (param inside : SigParts) where
-  abbrev made_of : List ℕ → Top → Signature × Progress → Answer (Functor × Progress)
-  made_of = making (signature_of m0.graph param) (signature_of m0.graph inside)
+abbrev making_at : Moment → SigParts → SigParts → List ℕ → Top → Signature × Progress → Answer (Functor × Progress)
+making_at m0 param inside = making (signature_of m0.graph param) (signature_of m0.graph inside)
 
+module _ {m0 m1 : Moment} (bind : FunsigPhrase) (param inside : SigParts) where
   pub result_first : {e : Fault}
       → IsSignatureWith m0 bind.param (env_at m0.graph inside.env) bind.result_sig m1 (Err e)
       → IsResult m0 bind param inside m1 (Err e)
-  result_first h = stops made_of h
+  result_first h = stops (making_at m0 param inside) h
 
   pub result_memory : {sig : SigId} (g : Graph) → Keeps m1.graph g → g.home ≡ m1.graph.home
       → IsTopScope m0.graph m0.top
       → IsSignatureWith m0 bind.param (env_at m0.graph inside.env) bind.result_sig m1 (Ok sig)
       → IsResult m0 bind param inside (moment g m1.table m1.top) (Err fault.NoMemory)
-  result_memory {sig} g keeps home there h = goes_on made_of there h (record {
+  result_memory {sig} g keeps home there h = goes_on (making_at m0 param inside) there h (record {
     infers = tt;
     has = tt;
     goes = record { graph = keeps; home = home; ids = keeps_all m1.table };
@@ -195,7 +196,7 @@ module _ {m0 m1 : Moment} (bind : FunsigPhrase) (param inside : SigParts) where
       → GivesFunctor m1.graph g (functor_of (signature_of m1.graph param) (signature_of m1.graph inside) result.bound
       (env_at m1.graph result.env)) fun
       → IsResult m0 bind param inside (moment g m1.table m1.top) (Ok fun)
-  result_done {sig} {fun} result g there p i h e given = goes_on made_of there h (record {
+  result_done {sig} {fun} result g there p i h e given = goes_on (making_at m0 param inside) there h (record {
     infers = ap₂ (λ (f : Functor) (made : List TyName). gives {A = Functor × Progress} (
       f,
       (let st : Progress = record {
@@ -348,12 +349,12 @@ bound_as {old} {new} {r} sealing bind h =
 pub name_as : (sealing : Bool) (bind : StrBind) → (read_bind sealing bind).0 ≡ (out-StrBind bind).name
 name_as sealing bind = ap (λ (z : Name × StrPhrase). z.0) (str_bind_phrase-kept bind)
 
-pub label_as : {r : Result (Unit {0}) Fault} (m : Moment) (sealing : Bool) (bind : StrBind) (rows : Rows EnvId)
+pub label_as : (r : Result (Unit {0}) Fault) (m : Moment) (sealing : Bool) (bind : StrBind) (rows : Rows EnvId)
     → ((inner : Scope) → inner.home ≡ m.graph.home
     → Answers (new_label inner (out-StrBind bind).name (structures (structures_env m.graph rows))) (λ (u : Unit {0}). tt) r)
     → (inner : Scope) → inner.home ≡ m.graph.home
     → Answers (new_label inner (read_bind sealing bind).0 (table_at env_at m.graph rows)) (λ (u : Unit {0}). tt) r
-label_as {r} m sealing bind rows h inner e =
+label_as r m sealing bind rows h inner e =
     subst (λ (n : Name). Answers (new_label inner n (table_at env_at m.graph rows)) (λ (u : Unit {0}). tt) r)
     (sym (name_as sealing bind)) (label_among m (out-StrBind bind).name rows r h inner e)
 
@@ -363,6 +364,5 @@ pub param_enters : (name : List ℕ) (env : EnvId) (old : TopScope) (core : Bind
     → OnOk r ((g : Graph) → HasEnv g env → GoesUnder g (with_structure name (env_at g env) empty_env) old.core core)
     → OnOk r ((g : Graph) → HasEnv g env
     → GoesInto g (with_structure name (env_at g env) empty_env) old (with_core core old))
-param_enters name env old core (Ok u) k g h =
-    goes_into g (with_structure name (env_at g env) empty_env) old core (k g h)
+param_enters name env old core (Ok u) k = λ g h. goes_into g (with_structure name (env_at g env) empty_env) old core (k g h)
 param_enters name env old core (Err e) k = tt

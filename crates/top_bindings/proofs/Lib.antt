@@ -1,4 +1,4 @@
 pub mod Rows
 pub mod Readying
-pub mod Kinds
+pub mod Sorts
 pub mod Bodies

@@ -5,7 +5,7 @@ use Rattle.sml_trees.specs.declared.name.Name.{Name}
 use Rattle.semantic_objects.specs.Environments.{Env, Signature, Functor, Top}
 use Rattle.unification.specs.Unification.{depth}
 use Rattle.unification.specs.Fitting.{IsFit}
-use Rattle.static_semantics.specs.Inferring.{Progress, Answer, ◌>>=◌}
+use Rattle.static_semantics.specs.Inferring.{Progress, Answer, ◌>>=◌, gives, name_at}
 use Rattle.static_semantics.specs.Holding.{Given}
 use Rattle.static_semantics.proofs.Holding.{given_then}
 use Rattle.static_semantics.proofs.TypesGrow.{given_more}
@@ -15,8 +15,8 @@ use Rattle.module_semantics.specs.SigPhrases.{SigPhrase, SigBinds}
 use Rattle.module_semantics.specs.SignatureNames.{opened}
 use Rattle.module_semantics.specs.SignatureInference.{signature_of}
 use Rattle.unit_semantics.specs.UnitPhrases.{ModulePhrase, FunPhrase, FunsigPhrase, TopPhrase}
-use Rattle.unit_semantics.specs.StructureInference.{core_scope, infer_module}
-use Rattle.unit_semantics.specs.UnitInference.{top_with_param, without_variables, names_since, functor_of, infer_body, infer_result}
+use Rattle.unit_semantics.specs.StructureInference.{core_scope, known_env, infer_module}
+use Rattle.unit_semantics.specs.UnitInference.{has_variable, top_with_param, without_variables, names_since, functor_of, infer_body, infer_result}
 use Rattle.unit_semantics.proofs.Answers.{always}
 use Rattle.unit_laws.specs.Spelling.{SigSpelt, ModuleSpelt, FunSpelt, FunsigSpelt}
 use Rattle.unit_laws.specs.Parts.{FunctorOf, IsOfTop}
@@ -68,7 +68,8 @@ pub structure_at_top : (home : List ℕ) (top : Top) (name : Name) (str : Module
 structure_at_top home top name str st h =
     given_then (λ r. IsAtTop every home top r.1) (λ r. IsAtTop every home top r.1)
     (infer_module depth home top str st) _ (module_at_top home top str st h) (λ r k.
-    Rattle.static_semantics.proofs.Holding.given_where (λ r. IsAtTop every home top r.1) _ 42 (core_scope home top) _ _ k)
+    Rattle.static_semantics.proofs.Holding.given_where (λ (z : Env × Progress). IsAtTop every home top z.1)
+    (has_variable (known_env r.0 r.1)) 42 (core_scope home top) (name_at name) (λ u. gives (known_env r.0 r.1, r.1)) k)
 
 -- ---- signatures
 
@@ -101,7 +102,9 @@ body_fit home top bind param inside h =
     (module_grows every depth home inner bind.body inside.1 (module_spelt bind.body)
     (inside_top every home inner inside.1 h))) (λ r k.
     given_then (λ e. IsFit e.1.types) (λ e. IsFit e.1.types) (without_variables (core_scope home top) bind.name r) _
-    (Rattle.static_semantics.proofs.Holding.given_where (λ e. IsFit e.1.types) _ 42 (core_scope home top) _ _ k)
+    (Rattle.static_semantics.proofs.Holding.given_where (λ (z : Env × Progress). IsFit z.1.types)
+    (has_variable (known_env r.0 r.1)) 42 (core_scope home top) (name_at bind.name)
+    (λ u. gives (known_env r.0 r.1, r.1)) k)
     (λ e l. l))
 
 pub functor_at_top : (home : List ℕ) (top : Top) (bind : FunPhrase) (st : Progress) → IsAtTop every home top st

@@ -160,9 +160,10 @@ module _ {B Id V : Type 0} (name : B → Name) (one : Inferring B V) (value : Gr
         → IsOne m0 bind m1 (Ok id) → AllRows (has m0.graph) before → text ≡ (name bind).text
         → after ≡ before ++ (text, id) ∷ [] → IsBound m0 bind before after m1 (Ok tt)
     bind_done {m1} {id} text there h k rows t e =
-        let all = goes_on {told = read_after after} {got = HasAfter after}
+        let all = goes_on {told = read_after after} {got = HasAfter after} {r = Ok tt}
         (one_of bind (table_at value m0.graph before) (progress_at m0)) there (new_in {m = m0} bind before (Ok tt) h)
-        (goes_on {told = read_after after} {got = HasAfter after} (one_end bind (table_at value m0.graph before)) there k
+        (goes_on {told = read_after after} {got = HasAfter after} {r = Ok tt} (one_end bind (table_at value m0.graph before))
+        there k
         (record {
           infers = ap (λ (z : Named V). gives {A = Named V × Progress} (z, progress_at m1))
               (ap (λ (z : Named V). with_entry (name bind).text (value m1.graph id) z)

@@ -6,7 +6,7 @@ use Rattle.type_phrases.proofs.PartsRead.{passed_on}
 use Rattle.structure_elab.specs.Moments.{moment}
 use Rattle.top_bindings.specs.Bindings.{fun_name, infer_functor, IsFunctorRow}
 use Rattle.top_bindings.proofs.Rows.{bind_first, bind_second, bind_memory, bind_done}
-use Rattle.top_bindings.proofs.Kinds.{functors_kind}
+use Rattle.top_bindings.proofs.Sorts.{functors_kind}
 use Rattle.top_bindings.proofs.functors.bind_functor.Goals as goal
 
 pub returns-in_err-check_functor : goal.returns-in_err-check_functor
@@ -45,5 +45,5 @@ returns-in_err-bind c =
 pub returns : goal.returns
 returns c =
     bind_done fun_name infer_functor functor_at HasFunctor functors_kind (fun_phrase c.args.bind.now) c.args.made.now
-    c.bind.new.self c.in_ok-copy.copy c.requires.ready.there c.in_ok-check_functor.ensures c.in_ok-fun.ensures
+    c.bind.new.self _ c.requires.ready.there c.in_ok-check_functor.ensures c.in_ok-fun.ensures
     c.requires.made c.in_ok-copy.ensures c.in_ok-bind.ensures.ok

@@ -38,7 +38,7 @@ returns-in_err-fun c =
     (there_kept {new = moment c.elab_with_param.new.g c.elab_with_param.new.t c.elab_with_param.new.top}
     c.requires.ready.there c.in_ok-made.ensures.goes c.in_ok-made.ensures.left)
     c.in_ok-made.ensures c.without_variables.new.g c.without_variables.new.t c.in_ok-known.ensures.graph
-    c.in_ok-known.ensures.table c.close_functor.new.g c.in_err-fun.ensures.err c.in_err-fun.ensures.home
+    c.in_ok-known.ensures.table c.in_ok-known.known c.close_functor.new.g c.in_err-fun.ensures.err c.in_err-fun.ensures.home
     c.in_ok-known.ensures.answers c.in_ok-known.ensures.there)
 
 pub returns : goal.returns
@@ -47,5 +47,5 @@ returns c =
     (there_kept {new = moment c.elab_with_param.new.g c.elab_with_param.new.t c.elab_with_param.new.top}
     c.requires.ready.there c.in_ok-made.ensures.goes c.in_ok-made.ensures.left)
     c.in_ok-made.ensures c.without_variables.new.g c.without_variables.new.t c.in_ok-known.ensures.graph
-    c.in_ok-known.ensures.table c.close_functor.new.g c.made-number.result c.made-number.ensures c.requires.param
+    c.in_ok-known.ensures.table c.in_ok-known.known c.close_functor.new.g c.made-number.result c.made-number.ensures c.requires.param
     c.requires.inside c.in_ok-known.ensures.answers c.in_ok-known.ensures.there c.in_ok-fun.ensures.ok

@@ -55,8 +55,8 @@ returns-in_err-inside c =
     (grows_may c.signature_in.new.g c.open_signature.new.g c.in_err-inside.ensures.err).home c.requires.there
     c.in_ok-sig.ensures)
 
-pub returns-in_ok-inside : goal.returns-in_ok-inside
-returns-in_ok-inside c =
+pub returns : goal.returns
+returns c =
     param_done (fun_phrase c.args.bind.now).param_sig
     (λ home top p inside. infer_body depth home top (fun_phrase c.args.bind.now) p inside) c.in_ok-param.param
     c.in_ok-inside.inside c.open_signature.new.g c.requires.there c.in_ok-sig.ensures

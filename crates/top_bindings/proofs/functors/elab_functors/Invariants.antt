@@ -4,7 +4,7 @@ use Rattle.sml_modules.specs.Graphs.{functor_at, HasFunctor}
 use Rattle.structure_elab.specs.Moments.{moment}
 use Rattle.top_bindings.specs.Bindings.{fun_name, infer_functor}
 use Rattle.top_bindings.proofs.Rows.{RowsSoFar}
-use Rattle.top_bindings.proofs.Kinds.{functors_kind}
+use Rattle.top_bindings.proofs.Sorts.{functors_kind}
 use Rattle.top_bindings.proofs.functors.elab_functors.Given as goal
 
 -- what was bound so far, and the bindings that are left

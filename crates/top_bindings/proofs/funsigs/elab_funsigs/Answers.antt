@@ -7,7 +7,7 @@ use Rattle.type_phrases.proofs.PartsRead.{passed_on, drop_item}
 use Rattle.structure_elab.specs.Moments.{moment}
 use Rattle.top_bindings.specs.Bindings.{funsig_name, infer_funsig, AreFunsigRows}
 use Rattle.top_bindings.proofs.Rows.{rows_begin, rows_ready, rows_next, rows_fail, rows_end}
-use Rattle.top_bindings.proofs.Kinds.{funsigs_kind}
+use Rattle.top_bindings.proofs.Sorts.{funsigs_kind}
 use Rattle.top_bindings.proofs.funsigs.elab_funsigs.Goals as goal
 
 pub loop-bind-init : goal.loop-bind-init

@@ -4,7 +4,7 @@ use Rattle.sml_modules.specs.Graphs.{functor_at, HasFunctor}
 use Rattle.structure_elab.specs.Moments.{moment}
 use Rattle.top_bindings.specs.Bindings.{funsig_name, infer_funsig}
 use Rattle.top_bindings.proofs.Rows.{RowsSoFar}
-use Rattle.top_bindings.proofs.Kinds.{funsigs_kind}
+use Rattle.top_bindings.proofs.Sorts.{funsigs_kind}
 use Rattle.top_bindings.proofs.funsigs.elab_funsigs.Given as goal
 
 -- what was bound so far, and the bindings that are left

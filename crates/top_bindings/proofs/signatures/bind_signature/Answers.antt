@@ -6,7 +6,7 @@ use Rattle.type_phrases.proofs.PartsRead.{passed_on}
 use Rattle.structure_elab.specs.Moments.{moment}
 use Rattle.top_bindings.specs.Bindings.{sig_name, infer_sig_bind, IsSignatureRow}
 use Rattle.top_bindings.proofs.Rows.{bind_first, bind_second, bind_memory, bind_done}
-use Rattle.top_bindings.proofs.Kinds.{signatures_kind}
+use Rattle.top_bindings.proofs.Sorts.{signatures_kind}
 use Rattle.top_bindings.proofs.signatures.bind_signature.Goals as goal
 
 pub returns-in_err-check_signature : goal.returns-in_err-check_signature
@@ -45,5 +45,5 @@ returns-in_err-bind c =
 pub returns : goal.returns
 returns c =
     bind_done sig_name infer_sig_bind signature_at HasSignature signatures_kind (sig_bind_phrase c.args.bind.now) c.args.made.now
-    c.bind.new.self c.in_ok-copy.copy c.requires.ready.there c.in_ok-check_signature.ensures c.in_ok-sig.ensures
+    c.bind.new.self _ c.requires.ready.there c.in_ok-check_signature.ensures c.in_ok-sig.ensures
     c.requires.made c.in_ok-copy.ensures c.in_ok-bind.ensures.ok

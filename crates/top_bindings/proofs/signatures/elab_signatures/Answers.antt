@@ -7,7 +7,7 @@ use Rattle.type_phrases.proofs.PartsRead.{passed_on, drop_item}
 use Rattle.structure_elab.specs.Moments.{moment}
 use Rattle.top_bindings.specs.Bindings.{sig_name, infer_sig_bind, AreSignatureRows}
 use Rattle.top_bindings.proofs.Rows.{rows_begin, rows_ready, rows_next, rows_fail, rows_end}
-use Rattle.top_bindings.proofs.Kinds.{signatures_kind}
+use Rattle.top_bindings.proofs.Sorts.{signatures_kind}
 use Rattle.top_bindings.proofs.signatures.elab_signatures.Goals as goal
 
 pub loop-bind-init : goal.loop-bind-init

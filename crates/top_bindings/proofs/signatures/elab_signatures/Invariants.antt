@@ -4,7 +4,7 @@ use Rattle.sml_modules.specs.Graphs.{signature_at, HasSignature}
 use Rattle.structure_elab.specs.Moments.{moment}
 use Rattle.top_bindings.specs.Bindings.{sig_name, infer_sig_bind}
 use Rattle.top_bindings.proofs.Rows.{RowsSoFar}
-use Rattle.top_bindings.proofs.Kinds.{signatures_kind}
+use Rattle.top_bindings.proofs.Sorts.{signatures_kind}
 use Rattle.top_bindings.proofs.signatures.elab_signatures.Given as goal
 
 -- what was bound so far, and the bindings that are left

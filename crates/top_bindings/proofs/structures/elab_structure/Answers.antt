@@ -30,8 +30,8 @@ returns-in_err-made c =
       read_module c.args.sealing (module_phrase (str_phrase (out-StrBind c.args.bind.now).body)),
     ) c.in_err-made.ensures))
 
-pub returns-in_ok-made : goal.returns-in_ok-made
-returns-in_ok-made c =
+pub returns : goal.returns
+returns c =
     bound_as c.args.sealing c.args.bind.now (structure_done (
       (out-StrBind c.args.bind.now).name,
       read_module c.args.sealing (module_phrase (str_phrase (out-StrBind c.args.bind.now).body)),

@@ -6,7 +6,7 @@ use Rattle.type_phrases.proofs.PartsRead.{passed_on, drop_item}
 use Rattle.structure_elab.specs.Moments.{moment}
 use Rattle.top_bindings.specs.Bindings.{read_bind, structure_name, infer_structure, AreStructureRows}
 use Rattle.top_bindings.proofs.Rows.{rows_begin, rows_ready, rows_next, rows_fail, rows_end}
-use Rattle.top_bindings.proofs.Kinds.{structures_kind}
+use Rattle.top_bindings.proofs.Sorts.{structures_kind}
 use Rattle.top_bindings.proofs.structures.elab_structures.Goals as goal
 
 pub loop-bind-init : goal.loop-bind-init

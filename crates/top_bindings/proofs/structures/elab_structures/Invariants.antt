@@ -3,7 +3,7 @@ use Rattle.sml_modules.specs.Graphs.{env_at, HasEnv}
 use Rattle.structure_elab.specs.Moments.{moment}
 use Rattle.top_bindings.specs.Bindings.{read_bind, structure_name, infer_structure}
 use Rattle.top_bindings.proofs.Rows.{RowsSoFar}
-use Rattle.top_bindings.proofs.Kinds.{structures_kind}
+use Rattle.top_bindings.proofs.Sorts.{structures_kind}
 use Rattle.top_bindings.proofs.structures.elab_structures.Given as goal
 
 -- what was bound so far, and the bindings that are left
