@@ -135,6 +135,7 @@ module _ {begun now : Moment} {phrases left rest : List TopPhrase} {phrase : Top
         (answers_stop (infer_top depth now.graph.home (seen_at now) phrase (progress_at now))
         (rest_of now.graph.home (seen_at now) rest) (λ (u : Unit {0}). (h.made, progress_at mid))
         (λ (u : Unit {0}). (h.made, progress_at mid)) e h.infers));
+    there = tt;
     goes = passes_then {a = begun} {b = now} {c = mid} s.goes h.goes;
   }
 
@@ -146,5 +147,6 @@ tops_end {begun} {now} {phrases} {left} s is = record {
       >>= wrapped s.wrap) is
       ∙ ap (λ (x : Top). gives (x, progress_at now))
       (s.joins empty_top nothing_rises refl ∙ after_nothing (defined_top now.graph now.top.defined));
+  there = s.there;
   goes = s.goes;
 }

@@ -7,7 +7,7 @@ use Rattle.static_semantics.specs.Inferring.{Progress, Answer}
 use Rattle.type_phrases.specs.Inferred.{Answers}
 use Rattle.unit_semantics.specs.UnitPhrases.{TopPhrase}
 use Rattle.unit_semantics.specs.UnitInference.{top_with, infer_top, infer_tops}
-use Rattle.module_scopes.specs.Tops.{defined_top}
+use Rattle.module_scopes.specs.Tops.{defined_top, IsTopScope}
 use Rattle.module_scopes.specs.Stays.{Defines}
 use Rattle.structure_elab.specs.Moments.{Moment, seen_at, progress_at, Passes}
 
@@ -25,4 +25,5 @@ pub record AreDefined (old : Moment) (phrases : List TopPhrase) (new : Moment) (
     Type 0 where
   pub infers : Answers (infer_tops depth old.graph.home (seen_at old) phrases (progress_at old))
       (λ (u : Unit {0}). (defined_top new.graph new.top.defined, progress_at new)) result
+  pub there : OnOk result (IsTopScope new.graph new.top)
   pub goes : Passes old new
