@@ -1,6 +1,7 @@
 -- Graphs that grow by nodes, and functors that are made.
 use Rattle.std.proofs.Common.{◌≡◌, refl, sym, ap, ◌∙◌, subst, List, ◌++◌, length}
 use Rattle.std.specs.Prelude.{Result, Ok, Err, IfOk, OnErr}
+use Rattle.cm_base.specs.declared.fault.NoMemory.{NoMemory}
 use Rattle.semantic_objects.specs.declared.name.TyName.{TyName}
 use Rattle.semantic_objects.specs.Environments.{Env, Functor}
 use Rattle.realisation.specs.Realised.{of_rows, realised}
@@ -95,3 +96,9 @@ if_ok (Err e) P Q f h = tt
 pub on_err : {A E P Q : Type 0} (r : Result A E) → (P → Q) → OnErr r P → OnErr r Q
 on_err (Ok x) f h = tt
 on_err (Err e) f h = f h
+
+-- the unit stays
+pub home_stays : (f : Functor) (g h : Graph) (r : Result FunId NoMemory) → IfOk r (GivesFunctor g h f)
+    → OnErr r (h ≡ g) → h.home ≡ g.home
+home_stays f g h (Ok id) k e = k.home
+home_stays f g h (Err n) k e = ap (λ (z : Graph). z.home) e

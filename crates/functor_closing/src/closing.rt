@@ -57,6 +57,7 @@ fn put_functor(
     ensures ok { IfOk result (GivesFunctor g.old g.new
         (functor_by bound (env_at g.old param) closing.further closing.by.list (env_at g.old body))) }
     ensures err { OnErr result (Keeps g.old g.new) }
+    ensures home { g.new.home ≡ g.old.home }
 {
     let Closing { further, by } = closing;
     let result = realise(g, body, &by)?;
@@ -86,6 +87,7 @@ pub fn make_functor(
     ensures ok { IfOk result (GivesFunctor g.old g.new
         (functor_of (signature_of g.old param.now) (signature_of g.old inside.now) names.now (env_at g.old body))) }
     ensures err { OnErr result (Keeps g.old g.new) }
+    ensures home { g.new.home ≡ g.old.home }
 {
     let closing = closing_names(alloc, &param.bound, &inside.bound, names)?;
     let bound = copy_names(alloc, &param.bound)?;
@@ -110,6 +112,7 @@ pub fn close_functor(
         (functor_of (signature_of g.old param.now) (signature_of g.old inside.now)
         (names_made g.old.home number (env_at g.old body)) (env_at g.old body))) }
     ensures err { OnErr result (Keeps g.old g.new) }
+    ensures home { g.new.home ≡ g.old.home }
 {
     let names = names_since(g, number, body)?;
     make_functor(alloc, g, param, inside, &names, body)

@@ -1,0 +1,4 @@
+pub mod Rows
+pub mod Readying
+pub mod Sorts
+pub mod Bodies
