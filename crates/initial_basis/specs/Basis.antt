@@ -86,6 +86,10 @@ unit_type = record { name = codes "unit"; entry = record { function = record { a
 unfoldable pub basis_names : List NamedName
 basis_names = names_from 0 (rows_of type_lines)
 
+-- .. by themselves
+abbrev pub basis_type_names : List TyName
+basis_type_names = map (λ (row : NamedName). row.is) basis_names
+
 unfoldable pub basis_types : List NamedType
 basis_types =
     map (type_of_row basis_names (rows_of constructor_lines)) (rows_of type_lines) ++ unit_type ∷ []

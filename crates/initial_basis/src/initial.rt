@@ -5,16 +5,16 @@ ghost use Rattle.semantic_objects.specs.Environments.{env_of};
 ghost use Rattle.semantic_objects.specs.Tables.{with_all};
 ghost use Rattle.semantic_objects.specs.declared.entry.VidStatus.TheVariants.{Variable};
 ghost use Rattle.sml_modules.specs.Graphs.{GivesEnv, GivesTop, HasEnvs, structure_rows, type_rows, value_rows};
-ghost use Rattle.initial_basis.specs.Basis.{basis_names, basis_types, basis_values, basis_structures, values_of};
+ghost use Rattle.initial_basis.specs.Basis.{basis_names, basis_type_names, basis_types, basis_values, basis_structures, values_of};
 ghost use Rattle.initial_basis.specs.Basis.{basis_top, basis_env, with_names, OnlyAdds, GivesStructures};
 
 use crate::entries::add_values;
 use crate::row::Row;
 use crate::table;
-use crate::type_names::{NamedName, names_of};
+use crate::type_names::{NamedName, names_of, type_names};
 use crate::types::{types_of, unit_type};
 use cm_base::{List, NoMemory, Options, Text};
-use semantic_objects::VidStatus;
+use semantic_objects::{TyName, VidStatus};
 use sml_modules::{EnvGraph, EnvId, NamedEnv, NamedType, NamedValue, TopId};
 use std::alloc::Global;
 
@@ -25,6 +25,14 @@ fn basis_names(alloc: Global) -> Result<List<NamedName>, NoMemory>
 {
     let rows = table::type_rows(alloc)?;
     names_of(alloc, &rows)
+}
+
+/// The type names of the initial basis, by number.
+pub fn basis_type_names(alloc: Global) -> Result<List<TyName>, NoMemory>
+    ensures { IfOk result (λ names. names ≡ basis_type_names) }
+{
+    let rows = basis_names(alloc)?;
+    type_names(alloc, &rows)
 }
 
 /// The type structures of the initial basis.

@@ -11,4 +11,4 @@ mod type_names;
 mod types;
 mod words;
 
-pub use initial::basis;
+pub use initial::{basis, basis_type_names};

@@ -1,6 +1,6 @@
 //! The type names of the initial basis.
 
-ghost use Rattle.std.specs.Prelude.{◌≡◌, ◌-◌, [], IfOk, length};
+ghost use Rattle.std.specs.Prelude.{◌≡◌, ◌-◌, [], IfOk, length, map};
 ghost use Rattle.std.specs.Option.{option_copied};
 ghost use Rattle.initial_basis.specs.Phrases.{known};
 ghost use Rattle.initial_basis.specs.Basis.{last_word, is_eqtype, name_of, names_from};
@@ -72,6 +72,17 @@ pub(crate) fn names_of(alloc: Global, rows: &List<Row>) -> Result<List<NamedName
     for row in rows.as_slice() {
         let number = names.len() as u64;
         names.add(name_of(number, row)?)?;
+    }
+    Ok(names)
+}
+
+/// The type names alone.
+pub(crate) fn type_names(alloc: Global, rows: &List<NamedName>) -> Result<List<TyName>, NoMemory>
+    ensures { IfOk result (λ names. names ≡ map (λ (row : NamedName). row.is) rows.now) }
+{
+    let mut names = List::new(alloc);
+    for row in rows.as_slice() {
+        names.add(row.is.copy()?)?;
     }
     Ok(names)
 }

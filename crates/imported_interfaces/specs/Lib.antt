@@ -1,0 +1,4 @@
+pub mod Usable
+pub mod Known
+pub mod Imported
+pub mod Promises
