@@ -1,7 +1,6 @@
 //! Cases of the initial basis: what stands in it under each name.
 #![tactic(auto)]
 
-mod entries;
 mod kind;
 mod scene;
 

@@ -1,9 +1,9 @@
 //! A graph, and the initial basis that was made in it last.
 
-use crate::entries::{type_line, value_line};
 use case_files::{Part, push_parts};
 use case_texts::{Scene, line};
 use cm_base::{List, NoMemory, Options, Text};
+use entry_printing::{type_line, value_line};
 use initial_basis::basis;
 use sml_modules::{EnvGraph, EnvId, TopId};
 use std::alloc::Global;

@@ -1,0 +1,145 @@
+//! What is printed of an environment.
+
+ghost use Rattle.sml_modules.specs.Graphs.{HasEnv};
+
+use case_files::{Part, push_parts};
+use cm_base::{List, NoMemory, Text};
+use entry_printing::{type_line, value_line};
+use semantic_objects::{Symbol, TypeNode, TypeStr};
+use sml_modules::{EnvGraph, EnvId};
+use std::alloc::Global;
+
+/// Adds a word, a name and a line.
+fn push_entry(
+    alloc: Global,
+    out: &mut Vec<u8>,
+    word: &[u8],
+    name: &Text,
+    line: &[u8],
+) -> Result<(), NoMemory> {
+    push_parts(
+        alloc,
+        out,
+        &[
+            Part::Text(word),
+            Part::Text(b" "),
+            Part::Text(name.as_bytes()),
+            Part::Text(b" "),
+            Part::Text(line),
+        ],
+    )
+}
+
+/// Adds a line for the type of a name.
+fn push_type(
+    alloc: Global,
+    g: &EnvGraph,
+    env: EnvId,
+    name: &Text,
+    out: &mut Vec<u8>,
+) -> Result<(), NoMemory>
+    requires { HasEnv g.now env }
+{
+    match g.find_type(env, name)? {
+        Some(entry) => {
+            let line = type_line(alloc, &entry)?;
+            push_entry(alloc, out, b"type", name, line.as_slice())
+        }
+        None => Ok(()),
+    }
+}
+
+/// Adds a line for the value of a name.
+fn push_value(
+    alloc: Global,
+    g: &EnvGraph,
+    env: EnvId,
+    name: &Text,
+    out: &mut Vec<u8>,
+) -> Result<(), NoMemory>
+    requires { HasEnv g.now env }
+{
+    match g.find_value(env, name)? {
+        Some(entry) => {
+            let line = value_line(alloc, &entry)?;
+            push_entry(alloc, out, b"value", name, line.as_slice())
+        }
+        None => Ok(()),
+    }
+}
+
+/// The types and the values of an environment, a line each.
+pub fn lines_of(alloc: Global, g: &EnvGraph, env: EnvId) -> Result<Vec<u8>, NoMemory> {
+    if !g.has_env(env) {
+        return Err(NoMemory);
+    }
+    let mut out = Vec::new(alloc);
+    for name in g.names_type(env)?.as_slice() {
+        push_type(alloc, g, env, name, &mut out)?;
+    }
+    for name in g.names_value(env)?.as_slice() {
+        push_value(alloc, g, env, name, &mut out)?;
+    }
+    Ok(out)
+}
+
+/// Whether a type function is a type name that admits equality.
+fn admits_equality(entry: &TypeStr) -> bool {
+    match entry.function.body.nodes() {
+        [.., TypeNode::Made(Symbol::Name(name), _)] => name.eq,
+        _ => false,
+    }
+}
+
+/// How many of some types are type names that admit equality.
+fn equality_types(g: &EnvGraph, env: EnvId, names: &List<Text>) -> Result<u64, NoMemory>
+    requires { HasEnv g.now env }
+{
+    let mut count = 0u64;
+    for name in names.as_slice() {
+        match g.find_type(env, name)? {
+            Some(entry) if admits_equality(&entry) => count = count.saturating_add(1),
+            _ => {}
+        }
+    }
+    Ok(count)
+}
+
+/// How many types and values an environment has, as a line.
+pub fn counts_of(alloc: Global, g: &EnvGraph, env: EnvId) -> Result<Vec<u8>, NoMemory> {
+    if !g.has_env(env) {
+        return Err(NoMemory);
+    }
+    let types = g.names_type(env)?;
+    let values = g.names_value(env)?;
+    let mut out = Vec::new(alloc);
+    push_parts(
+        alloc,
+        &mut out,
+        &[
+            Part::Text(b"types "),
+            Part::Number(types.len() as u64),
+            Part::Text(b", equality "),
+            Part::Number(equality_types(g, env, &types)?),
+            Part::Text(b", values "),
+            Part::Number(values.len() as u64),
+            Part::Text(b"\n"),
+        ],
+    )?;
+    Ok(out)
+}
+
+/// How many type names a graph has made, as a line.
+pub fn names_line(alloc: Global, g: &EnvGraph) -> Result<Vec<u8>, NoMemory> {
+    let mut out = Vec::new(alloc);
+    push_parts(
+        alloc,
+        &mut out,
+        &[
+            Part::Text(b"made "),
+            Part::Number(g.made()),
+            Part::Text(b"\n"),
+        ],
+    )?;
+    Ok(out)
+}

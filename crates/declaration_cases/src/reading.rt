@@ -1,0 +1,56 @@
+//! Declarations are read as those of a structure, which is a unit.
+
+use case_files::{Part, push_parts};
+use cm_base::{Fault, NoMemory, Text};
+use derived_forms::to_bare;
+use module_parser::parse_unit;
+use sml_trees::{BareUnit, Dec, StrExp, TopDec};
+use std::alloc::Global;
+
+/// The unit that owns the types, and the file of the refusals.
+pub const UNIT: &[u8] = b"a.sml";
+
+/// The source of a unit: a structure whose declarations stand on lines of their own.
+fn source_of(alloc: Global, decs: &[u8]) -> Result<Text, NoMemory> {
+    let mut out = Vec::new(alloc);
+    push_parts(
+        alloc,
+        &mut out,
+        &[
+            Part::Text(b"structure A = struct\n"),
+            Part::Text(decs),
+            Part::Text(b"\nend\n"),
+        ],
+    )?;
+    Ok(Text::from_vec(out))
+}
+
+/// The unit of declarations.
+pub fn unit_of(alloc: Global, decs: &[u8]) -> Result<BareUnit, Fault> {
+    let file = Text::from_bytes(alloc, UNIT)?;
+    let source = source_of(alloc, decs)?;
+    let unit = parse_unit(alloc, &file, &source)?;
+    to_bare(alloc, &unit)
+}
+
+/// The declaration of `struct dec end`.
+pub fn body_of(body: &StrExp) -> Option<&Dec> {
+    match body {
+        StrExp::Struct(dec, _) => Some(dec.get()),
+        _ => None,
+    }
+}
+
+/// The declarations of a unit that is one structure.
+pub fn declarations_of(unit: &BareUnit) -> Option<&Dec> {
+    let [topdec] = unit.topdecs.as_slice() else {
+        return None;
+    };
+    let TopDec::Structures(binds, _) = topdec else {
+        return None;
+    };
+    match binds.as_slice() {
+        [bind] => body_of(&bind.body),
+        _ => None,
+    }
+}
