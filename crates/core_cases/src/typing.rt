@@ -11,11 +11,11 @@ use sml_types::TypeTable;
 use std::alloc::Global;
 use type_printing::push_scheme;
 
-/// The unit that owns the types and is the file of the refusals.
-const UNIT: &[u8] = b"a.sml";
+/// The unit that owns the types, and the file of the refusals.
+pub const UNIT: &[u8] = b"a.sml";
 
 /// With the built-in structures.
-const OPTIONS: Options = Options {
+pub const OPTIONS: Options = Options {
     nobasis: false,
     opaque: false,
 };

@@ -2,8 +2,7 @@
 
 ghost use Rattle.sml_modules.specs.Graphs.{HasEnv};
 
-use crate::reading::UNIT;
-use crate::scene::OPTIONS;
+use crate::typing::{OPTIONS, UNIT};
 use case_files::{Part, push_parts};
 use case_texts::{line, push_line, refusal};
 use cm_base::{Fault, List, NoMemory, Text};
@@ -65,7 +64,7 @@ fn values_line(
 }
 
 /// The values of a declaration in the initial basis, or `ok` in their place, or the refusal.
-pub fn inferred(alloc: Global, dec: &Dec, is_brief: bool) -> Result<Vec<u8>, NoMemory> {
+pub fn declared(alloc: Global, dec: &Dec, is_brief: bool) -> Result<Vec<u8>, NoMemory> {
     let mut graph = EnvGraph::new(alloc)?;
     graph.enter(&Text::from_bytes(alloc, UNIT)?)?;
     let top = basis(alloc, &mut graph, OPTIONS)?;

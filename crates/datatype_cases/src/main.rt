@@ -2,20 +2,17 @@
 #![tactic(auto)]
 
 mod chain;
-mod inferring;
 mod kind;
 mod printing;
-mod reading;
 mod scene;
 
 use case_files::{Case, CaseFault, Kinds, Report, Wrong, run_cases};
 use case_texts::{Answers, refusal, try_texts};
 use chain::chain;
 use cm_base::{Fault, Text};
-use inferring::inferred;
+use declaration_texts::{declaration_unit, declarations_of};
 use kind::{Kind, kind_of};
 use printing::{counts_of, lines_of, names_line};
-use reading::{declarations_of, unit_of};
 use scene::{Bound, Unit};
 use sml_trees::{BareUnit, Dec};
 use std::alloc::Global;
@@ -50,15 +47,6 @@ fn of_unit(alloc: Global, kind: Kind, case: &Case, tree: &BareUnit) -> Result<Ve
     }
 }
 
-/// What is answered of the values of a unit's declarations.
-fn of_values(alloc: Global, case: &Case, tree: &BareUnit) -> Result<Vec<u8>, CaseFault> {
-    let is_brief = case.find(b"briefly")?.is_some();
-    match declarations_of(tree) {
-        Some(dec) => Ok(inferred(alloc, dec, is_brief)?),
-        None => Err(CaseFault::Wrong(case.line, Wrong::Words)),
-    }
-}
-
 /// What is answered of declarations.
 fn of_declarations(
     alloc: Global,
@@ -66,11 +54,8 @@ fn of_declarations(
     case: &Case,
     decs: &[u8],
 ) -> Result<Vec<u8>, CaseFault> {
-    match unit_of(alloc, decs) {
-        Ok(tree) => match kind {
-            Kind::Inferred => of_values(alloc, case, &tree),
-            _ => of_unit(alloc, kind, case, &tree),
-        },
+    match declaration_unit(alloc, decs) {
+        Ok(tree) => of_unit(alloc, kind, case, &tree),
         Err(fault) => Ok(refusal(alloc, &fault)?),
     }
 }
@@ -90,7 +75,7 @@ impl Answers for Kind {
 impl Kinds for DatatypeKinds {
     fn try_case(&self, alloc: Global, case: &Case, report: &mut Report) -> Result<(), CaseFault> {
         match kind_of(case.kind.as_bytes()) {
-            Some(kind) => try_texts(alloc, &kind, (b"briefly", b""), case, report),
+            Some(kind) => try_texts(alloc, &kind, (b"", b""), case, report),
             None => Err(CaseFault::Wrong(case.line, Wrong::Kind)),
         }
     }

@@ -15,19 +15,14 @@ pub enum Kind {
     /// `chain`: the same of joined datatypes, of which each is an argument of the one before. A text is how many, and the
     /// type that the last one's argument has.
     Chain,
-    /// `inferred`: the values of declarations, of any kind but structures, as `NAME : TYPE` with `; ` between them, in the
-    /// byte order of their names, or `nothing`, or what they are refused for. Behind a type that isn't closed over all its
-    /// variables stands `, open`. `briefly` puts `ok` in the place of the values.
-    Inferred,
 }
 
 /// The kinds with their names.
-const KINDS: [(&[u8], Kind); 5] = [
+const KINDS: [(&[u8], Kind); 4] = [
     (b"elaborated", Kind::Elaborated),
     (b"made-names", Kind::MadeNames),
     (b"counted", Kind::Counted),
     (b"chain", Kind::Chain),
-    (b"inferred", Kind::Inferred),
 ];
 
 /// The kind of a name.
