@@ -3,17 +3,16 @@
 #![tactic(auto)]
 
 mod kind;
-mod phrase;
+mod start;
 mod typing;
 mod values;
 
+use asked_phrases::{AsksDeclarations, AsksExpressions, declarations_answer, expression_answer};
 use case_files::{Case, CaseFault, Kinds, Report, Wrong, run_cases};
-use case_texts::{Answers, refusal, try_texts};
+use case_texts::{Answers, try_texts};
 use cm_base::Text;
-use declaration_texts::{declaration_unit, declarations_of};
-use expression_texts::expression_unit;
 use kind::{Kind, kind_of};
-use phrase::expression_of;
+use sml_trees::{Dec, Exp};
 use std::alloc::Global;
 use std::process::ExitCode;
 use typing::typed;
@@ -22,35 +21,32 @@ use values::declared;
 /// The kinds of cases of this program.
 struct CoreKinds;
 
-/// The type of the expression that a text is, or the refusal of the text.
-fn type_of(alloc: Global, case: &Case, text: &Text) -> Result<Vec<u8>, CaseFault> {
-    let is_brief = case.find(b"briefly")?.is_some();
-    match expression_unit(alloc, text) {
-        Ok(unit) => match expression_of(&unit) {
-            Some(exp) => Ok(typed(alloc, exp, is_brief)?),
-            None => Err(CaseFault::Wrong(case.line, Wrong::Words)),
-        },
-        Err(fault) => Ok(refusal(alloc, &fault)?),
+/// What a case asks, where `ok` is enough of an answer or not.
+#[derive(Clone, Copy)]
+struct Asked {
+    is_brief: bool,
+}
+
+impl AsksExpressions for Asked {
+    fn of_expression(&self, alloc: Global, exp: &Exp) -> Result<Vec<u8>, CaseFault> {
+        Ok(typed(alloc, exp, self.is_brief)?)
     }
 }
 
-/// The values of the declarations that a text is, or the refusal of the text.
-fn values_of(alloc: Global, case: &Case, text: &Text) -> Result<Vec<u8>, CaseFault> {
-    let is_brief = case.find(b"briefly")?.is_some();
-    match declaration_unit(alloc, text.as_bytes()) {
-        Ok(unit) => match declarations_of(&unit) {
-            Some(dec) => Ok(declared(alloc, dec, is_brief)?),
-            None => Err(CaseFault::Wrong(case.line, Wrong::Words)),
-        },
-        Err(fault) => Ok(refusal(alloc, &fault)?),
+impl AsksDeclarations for Asked {
+    fn of_declarations(&self, alloc: Global, dec: &Dec) -> Result<Vec<u8>, CaseFault> {
+        Ok(declared(alloc, dec, self.is_brief)?)
     }
 }
 
 impl Answers for Kind {
     fn answer(&self, alloc: Global, case: &Case, text: &Text) -> Result<Vec<u8>, CaseFault> {
+        let asked = Asked {
+            is_brief: case.find(b"briefly")?.is_some(),
+        };
         match *self {
-            Kind::ExpressionType => type_of(alloc, case, text),
-            Kind::DeclaredValues => values_of(alloc, case, text),
+            Kind::ExpressionType => expression_answer(alloc, &asked, case.line, text),
+            Kind::DeclaredValues => declarations_answer(alloc, &asked, case.line, text.as_bytes()),
         }
     }
 }

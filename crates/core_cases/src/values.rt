@@ -2,12 +2,11 @@
 
 ghost use Rattle.sml_modules.specs.Graphs.{HasEnv};
 
-use crate::typing::{OPTIONS, UNIT};
+use crate::start::basis_env;
 use case_files::{Part, push_parts};
 use case_texts::{line, push_line, refusal};
 use cm_base::{Fault, List, NoMemory, Text};
 use core_elab::elab_dec;
-use initial_basis::basis;
 use semantic_objects::Scheme;
 use sml_modules::{EnvGraph, EnvId};
 use sml_trees::Dec;
@@ -66,9 +65,7 @@ fn values_line(
 /// The values of a declaration in the initial basis, or `ok` in their place, or the refusal.
 pub fn declared(alloc: Global, dec: &Dec, is_brief: bool) -> Result<Vec<u8>, NoMemory> {
     let mut graph = EnvGraph::new(alloc)?;
-    graph.enter(&Text::from_bytes(alloc, UNIT)?)?;
-    let top = basis(alloc, &mut graph, OPTIONS)?;
-    let env = graph.env_of(top)?;
+    let env = basis_env(alloc, &mut graph)?;
     let mut table = TypeTable::new(alloc)?;
     match elab_dec(&mut graph, &mut table, env, dec) {
         Ok(_made) if is_brief => line(alloc, b"ok"),

@@ -6,68 +6,71 @@ mod kind;
 mod printing;
 mod scene;
 
+use asked_phrases::{AsksDeclarations, declarations_answer};
 use case_files::{Case, CaseFault, Kinds, Report, Wrong, run_cases};
 use case_texts::{Answers, refusal, try_texts};
 use chain::chain;
-use cm_base::{Fault, Text};
-use declaration_texts::{declaration_unit, declarations_of};
+use cm_base::{Fault, NoMemory, Text};
 use kind::{Kind, kind_of};
 use printing::{counts_of, lines_of, names_line};
 use scene::{Bound, Unit};
-use sml_trees::{BareUnit, Dec};
+use sml_modules::EnvGraph;
+use sml_trees::Dec;
 use std::alloc::Global;
 use std::process::ExitCode;
 
 /// The kinds of cases of this program.
 struct DatatypeKinds;
 
-/// What the declarations of a unit bind. `None` where one is of another kind.
-fn bound_in(unit: &mut Unit, tree: &BareUnit) -> Result<Option<Bound>, Fault> {
+/// What a case asks, and the line in which it begins.
+#[derive(Clone, Copy)]
+struct Asked {
+    kind: Kind,
+    line: u32,
+}
+
+/// What the declarations of a sequence bind. `None` where one is of another kind.
+fn bound_in(unit: &mut Unit, dec: &Dec) -> Result<Option<Bound>, Fault> {
     let before = unit.begin()?;
-    match declarations_of(tree) {
-        Some(Dec::Sequence(decs, _)) => unit.elaborate(before, decs.as_slice()),
+    match dec {
+        Dec::Sequence(decs, _) => unit.elaborate(before, decs.as_slice()),
         _ => Ok(None),
     }
 }
 
-/// What is answered of a unit.
-fn of_unit(alloc: Global, kind: Kind, case: &Case, tree: &BareUnit) -> Result<Vec<u8>, CaseFault> {
-    let mut unit = Unit::new(alloc)?;
-    let bound = bound_in(&mut unit, tree);
-    if let Kind::MadeNames = kind {
-        return Ok(names_line(alloc, &unit.graph)?);
-    }
-    match bound {
-        Ok(Some(bound)) => match kind {
-            Kind::Counted | Kind::Chain => Ok(counts_of(alloc, &unit.graph, bound.own)?),
-            _ => Ok(lines_of(alloc, &unit.graph, bound.own)?),
-        },
-        Ok(None) => Err(CaseFault::Wrong(case.line, Wrong::Words)),
-        Err(fault) => Ok(refusal(alloc, &fault)?),
+/// What is printed of what declarations bind.
+fn printed(alloc: Global, kind: Kind, g: &EnvGraph, bound: Bound) -> Result<Vec<u8>, NoMemory> {
+    match kind {
+        Kind::Counted | Kind::Chain => counts_of(alloc, g, bound.own),
+        Kind::Elaborated | Kind::MadeNames => lines_of(alloc, g, bound.own),
     }
 }
 
-/// What is answered of declarations.
-fn of_declarations(
-    alloc: Global,
-    kind: Kind,
-    case: &Case,
-    decs: &[u8],
-) -> Result<Vec<u8>, CaseFault> {
-    match declaration_unit(alloc, decs) {
-        Ok(tree) => of_unit(alloc, kind, case, &tree),
-        Err(fault) => Ok(refusal(alloc, &fault)?),
+impl AsksDeclarations for Asked {
+    fn of_declarations(&self, alloc: Global, dec: &Dec) -> Result<Vec<u8>, CaseFault> {
+        let mut unit = Unit::new(alloc)?;
+        let bound = bound_in(&mut unit, dec);
+        if let Kind::MadeNames = self.kind {
+            return Ok(names_line(alloc, &unit.graph)?);
+        }
+        match bound {
+            Ok(Some(bound)) => Ok(printed(alloc, self.kind, &unit.graph, bound)?),
+            Ok(None) => Err(CaseFault::Wrong(self.line, Wrong::Words)),
+            Err(fault) => Ok(refusal(alloc, &fault)?),
+        }
     }
 }
 
 impl Answers for Kind {
     fn answer(&self, alloc: Global, case: &Case, text: &Text) -> Result<Vec<u8>, CaseFault> {
+        let line = case.line;
+        let asked = Asked { kind: *self, line };
         match *self {
             Kind::Chain => match chain(alloc, text.as_bytes())? {
-                Some(decs) => of_declarations(alloc, Kind::Chain, case, decs.as_slice()),
-                None => Err(CaseFault::Wrong(case.line, Wrong::Words)),
+                Some(decs) => declarations_answer(alloc, &asked, line, decs.as_slice()),
+                None => Err(CaseFault::Wrong(line, Wrong::Words)),
             },
-            kind => of_declarations(alloc, kind, case, text.as_bytes()),
+            _ => declarations_answer(alloc, &asked, line, text.as_bytes()),
         }
     }
 }

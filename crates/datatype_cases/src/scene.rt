@@ -1,9 +1,9 @@
 //! A unit while its declarations are elaborated.
 
+use asked_phrases::{UNIT, body_of};
 use cm_base::{Fault, List, NoMemory, Options, Text};
 use core_scopes::{Made, NamedInScope, Scope, ValueInScope};
 use datatype_declarations::datatypes;
-use declaration_texts::{UNIT, body_of};
 use exception_bindings::exceptions;
 use initial_basis::basis;
 use sml_modules::{EnvGraph, EnvId, NamedType, NamedValue};

@@ -4,4 +4,4 @@
 
 mod reading;
 
-pub use reading::{UNIT, body_of, declaration_unit, declarations_of};
+pub use reading::{UNIT, declaration_unit};

@@ -4,7 +4,7 @@ use case_files::{Part, push_parts};
 use cm_base::{Fault, NoMemory, Text};
 use derived_forms::to_bare;
 use module_parser::parse_unit;
-use sml_trees::{BareUnit, Dec, StrExp, TopDec};
+use sml_trees::BareUnit;
 use std::alloc::Global;
 
 /// The name of the unit of each text: it owns the types, and is the file of the refusals.
@@ -32,26 +32,4 @@ pub fn declaration_unit(alloc: Global, decs: &[u8]) -> Result<BareUnit, Fault> {
     let source = source_of(alloc, decs)?;
     let unit = parse_unit(alloc, &file, &source)?;
     to_bare(alloc, &unit)
-}
-
-/// The declaration of `struct dec end`.
-pub fn body_of(body: &StrExp) -> Option<&Dec> {
-    match body {
-        StrExp::Struct(dec, _) => Some(dec.get()),
-        _ => None,
-    }
-}
-
-/// The declarations of a unit that is one structure.
-pub fn declarations_of(unit: &BareUnit) -> Option<&Dec> {
-    let [topdec] = unit.topdecs.as_slice() else {
-        return None;
-    };
-    let TopDec::Structures(binds, _) = topdec else {
-        return None;
-    };
-    match binds.as_slice() {
-        [bind] => body_of(&bind.body),
-        _ => None,
-    }
 }
