@@ -10,12 +10,12 @@ use sml_modules::{EnvGraph, EnvId};
 use std::alloc::Global;
 
 /// Adds a word, a name and a line.
-fn push_entry(
+fn push_entry<'x>(
     alloc: Global,
     out: &mut Vec<u8>,
-    word: &[u8],
-    name: &Text,
-    line: &[u8],
+    word: &'x [u8],
+    name: &'x Text,
+    line: &'x [u8],
 ) -> Result<(), NoMemory> {
     push_parts(
         alloc,
