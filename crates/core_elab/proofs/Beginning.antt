@@ -1,5 +1,5 @@
 -- Whole expressions and declarations: the scope that they begin with, and the table after a diagnostic.
-use Rattle.std.proofs.Common.{◌≡◌, ℕ, [], length, sym, ap, ap₂, ◌∙◌, subst}
+use Rattle.std.proofs.Common.{◌≡◌, ℕ, [], length, refl, sym, ap, ap₂, ◌∙◌, subst}
 use Rattle.std.specs.Prelude.{Result, Err}
 use Rattle.cm_base.specs.declared.fault.Fault.{Fault}
 use Rattle.cm_base.specs.declared.fault.Fault.TheVariants as fault
@@ -84,3 +84,16 @@ keeps_given old mid new env id k given = graph_then old mid new k given.keeps
 
 pub keeps_same : (old mid new : Graph) → Keeps old mid → new ≡ mid → Keeps old new
 keeps_same old mid new k e = subst (Keeps old) (sym e) k
+
+-- a graph keeps itself
+pub graph_itself : (g : Graph) → Keeps g g
+graph_itself g = record {
+  has_env = λ id h. h;
+  env = λ id h. refl;
+  has_signature = λ id h. h;
+  signature = λ id h. refl;
+  has_functor = λ id h. h;
+  functor = λ id h. refl;
+  has_top = λ id h. h;
+  top = λ id h. refl;
+}

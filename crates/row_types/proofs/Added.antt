@@ -34,12 +34,12 @@ at_end xs x =
     ap (tree_at (xs ++ x ∷ [])) (sym last) ∙ root_push xs x
 
 -- the last item of a list
-last_item : {A : Type 0} (xs : List A) (x d : A) (n : ℕ) → length xs ≡ n → get_or (xs ++ x ∷ []) n d ≡ x
+pub last_item : {A : Type 0} (xs : List A) (x d : A) (n : ℕ) → length xs ≡ n → get_or (xs ++ x ∷ []) n d ≡ x
 last_item [] x d n e = subst (λ k. get_or (x ∷ []) k d ≡ x) e refl
 last_item (y ∷ ys) x d zero e = absurd (cc)
 last_item (y ∷ ys) x d (suc n) e = let k : length ys ≡ n = cc in last_item ys x d n k
 
-split_below : {P : Type 0} (p n : ℕ) → p < n + 1 → (p < n → P) → (p ≡ n → P) → P
+pub split_below : {P : Type 0} (p n : ℕ) → p < n + 1 → (p < n → P) → (p ≡ n → P) → P
 split_below zero zero lt f g = g refl
 split_below zero (suc n) lt f g = f (omega arith)
 split_below (suc p) zero lt f g = absurd (omega (arith, lt))

@@ -16,7 +16,7 @@ use Rattle.semantic_objects.specs.Trees.{Tree, Trees, trees_of}
 use Rattle.semantic_objects.specs.Nodes.{trees_at, unfolded}
 use Rattle.interface_format.specs.Tags.{with_named, with_type_name, record_node, arrow_node, named_node}
 use Rattle.interface_format.specs.Trees.{node_over, type_node, type_nodes}
-use Rattle.interface_format.specs.Rules.{IsNumber, IsTypeName, AreNames, IsSymbol, IsOver, count_trees}
+use Rattle.interface_format.specs.Rules.{IsNumber, IsTypeName, AreNames, IsSymbol, IsOver, IsType, count_trees}
 use Rattle.interface_format.proofs.Told.{Told, part_told, named_told, list_told, number_then_told}
 use Rattle.interface_format.proofs.Types.{type_name_told, count_nodes}
 use Rattle.interface_nodes.specs.declared.fields.NamedPlace.{NamedPlace}
@@ -24,7 +24,7 @@ use Rattle.interface_nodes.specs.Fields.{node_at, nodes_at, row_at, rows_at}
 use Rattle.row_fields.specs.Taking.{Begins, NeverBegins, IsAny}
 use Rattle.row_fields.specs.Listing.{HasName, AreItems}
 use Rattle.row_types.specs.declared.rows.TypeRows.{TypeRows}
-use Rattle.row_types.specs.Told.{AreTold, PartsAre, LacksType, MakesOf, Makes, MakesRecord, MakesArrow, MakesNamed, name_of, place_of}
+use Rattle.row_types.specs.Told.{most, AreTold, PartsAre, LacksType, MakesOf, Makes, MakesRecord, MakesArrow, MakesNamed, name_of, place_of}
 use Rattle.row_types.proofs.Parts.{lacks_never, count_of_trees}
 use Rattle.row_types.proofs.Refused.{nothing_left, no_variable, no_record, no_arrow, no_named, fields_fit, args_fit}
 
@@ -40,21 +40,21 @@ over_found home made nodes c places x p s r n e =
       (record { below = p.below; counted = n }, r),
       record {
         node = e ∙ ap (node_over home c) (sym p.are);
-        symbols = (record { symbol = s; parts = count }, p.symbols);
+        is = (record { symbol = s; parts = count }, p.types);
       },
     )
 
 -- ---- variables
 
 pub variable_found : (home : List ℕ) (items rest : List Item) (rows : TypeRows) (i : ℕ)
-    → ((made : List Node) → Begins IsNumber with_number made i items rest) → rest ≡ []
+    → ((made : List Node) → Begins IsNumber with_number made i items rest) → rest ≡ [] → i < most
     → Makes home 1 items rows (Some (node.Bound i))
-variable_found home items rest rows i h e made told = (
+variable_found home items rest rows i h e lt made told = (
   tt,
   record {
     node = ap (Node.node 1)
         ((h made).is ∙ ap (λ (z : List Item). with_number i (content_of made z)) e);
-    symbols = tt;
+    is = lt;
   },
 )
 
@@ -62,6 +62,32 @@ pub variable_never : (home : List ℕ) (items : List Item) (rows : TypeRows) →
     → Makes home 1 items rows None
 variable_never home items rows h made told =
     no_variable home (content_of made items) (λ j n e. h.never made j Content.nothing n e)
+
+first_content : (c d : Content) → Node.node 1 c ≡ Node.node 1 d → c ≡ d
+first_content c d e = cc
+
+pub variable_index : (i : ℕ) → IsNumber i → i ≢ most → i < most
+variable_index i n apart = let b = n.below in omega (arith, b, apart)
+
+-- no binder has so many variables
+pub variable_last : (home : List ℕ) (items rest : List Item) (rows : TypeRows) (i : ℕ)
+    → ((made : List Node) → Begins IsNumber with_number made i items rest) → i ≡ most → Makes home 1 items rows None
+variable_last home items rest rows i h last made told = record {
+  never = λ m t n k e. below m t n k (ap (λ (c : Content). Node.node 1 c) (sym ((h made).is)) ∙ e);
+}
+  where
+    below : (m : ℕ) (t : Tree) → IsNumber m → IsType m t
+        → Node.node 1 (with_number i (content_of made rest)) ≢ type_node home t
+    below m (Tree.Bound j) n k e =
+        let same = (number_then_told i j (content_of made rest) Content.nothing ((h made).fits)
+        (let b = n.below in record { below = omega (arith, k, b) })
+        (first_content (with_number i (content_of made rest)) (with_number j Content.nothing) e)).item in
+        let b = n.below in
+        omega (arith, same, last, k, b)
+    below m (Tree.Free v) n k e = k
+    below m (Tree.Made symbol.Arrow ts) n k e = cc
+    below m (Tree.Made (symbol.Record ls) ts) n k e = cc
+    below m (Tree.Made (symbol.Name name) ts) n k e = cc
 
 pub variable_longer : (home : List ℕ) (items rest : List Item) (rows : TypeRows) (i : ℕ)
     → ((made : List Node) → Begins IsNumber with_number made i items rest) → rest ≢ []

@@ -35,7 +35,7 @@ below_nodes home made rows p is h s =
 
 pub parts_are : (home : List ℕ) (made : List Node) (rows : TypeRows) (places : List ℕ) → AreTold home made rows
     → ((k : ℕ) → k < length places → Stands rows (get_or places k 0) true) → PartsAre home made rows.nodes places
-parts_are home made rows [] h s = record { below = tt; are = refl; symbols = tt }
+parts_are home made rows [] h s = record { below = tt; are = refl; types = tt }
 parts_are home made rows (p ∷ ps) h s =
     let here = s 0 (omega arith) in
     let first = told_at home made rows p true h here in
@@ -43,7 +43,7 @@ parts_are home made rows (p ∷ ps) h s =
     record {
       below = (below_nodes home made rows p true h here, more.below);
       are = ap₂ (λ x xs. x ∷ xs) (sym first.node) more.are;
-      symbols = (first.symbols, more.symbols);
+      types = (first.is, more.types);
     }
 
 pub lacks : (home : List ℕ) (made : List Node) (rows : TypeRows) (places : List ℕ) (k p : ℕ) → AreTold home made rows

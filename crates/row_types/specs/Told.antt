@@ -6,11 +6,11 @@ use Rattle.node_bytes.specs.declared.table.Item.{Item}
 use Rattle.node_bytes.specs.declared.table.Row.{Row}
 use Rattle.semantic_objects.specs.declared.name.TyName.{TyName}
 use Rattle.semantic_objects.specs.declared.node.TypeNode.{TypeNode}
-use Rattle.semantic_objects.specs.Trees.{Tree, Trees, trees_of}
+use Rattle.semantic_objects.specs.Trees.{Tree, trees_of}
 use Rattle.semantic_objects.specs.Nodes.{node_tree, trees_at, unfolded, tree_at, IsNodeAt, AreBelow, AreNodes}
 use Rattle.interface_format.specs.Tags.{record_node, arrow_node, named_node}
 use Rattle.interface_format.specs.Trees.{type_node, type_nodes}
-use Rattle.interface_format.specs.Rules.{IsNumber, IsTypeName, IsOver, IsType, count_trees}
+use Rattle.interface_format.specs.Rules.{IsNumber, IsTypeName, IsType, AreTypes}
 use Rattle.interface_nodes.specs.declared.fields.NamedPlace.{NamedPlace}
 use Rattle.interface_nodes.specs.Fields.{node_at, nodes_at, rows_at}
 use Rattle.row_fields.specs.Listing.{HasName, AreItems}
@@ -18,22 +18,14 @@ use Rattle.row_types.specs.declared.rows.TypeRows.{TypeRows}
 
 -- ---- types
 
--- a type whose symbols stand over their parts as the rules ask, whatever its indexes are; no variable of a table stands
--- in it
-abbrev mutual
-  pub HasSymbols : Tree → Type 0
-  HasSymbols (Tree.Bound i) = Unit {0}
-  HasSymbols (Tree.Free n) = ⊥
-  HasSymbols (Tree.Made c ts) = IsOver c (count_trees ts) × HaveSymbols ts
+-- the largest count that a binder of variables can have
+abbrev pub most : ℕ
+most = 4294967295
 
-  pub HaveSymbols : Trees → Type 0
-  HaveSymbols Trees.Nil = Unit {0}
-  HaveSymbols (Trees.Cons t ts) = HasSymbols t × HaveSymbols ts
-
--- a node is that of this type
+-- a node is that of this type, which meets the rules below some binder
 pub record IsTypeOf (home : List ℕ) (x : Node) (t : Tree) : Type 0 where
   pub node : x ≡ type_node home t
-  pub symbols : HasSymbols t
+  pub is : IsType most t
 
 -- it is that of no type that meets the rules, however many variables there are
 pub record NoType (home : List ℕ) (x : Node) : Type 0 where
@@ -61,7 +53,7 @@ pub record Stands (rows : TypeRows) (place : ℕ) (is : Bool) : Type 0 where
 pub record PartsAre (home : List ℕ) (made : List Node) (nodes : List TypeNode) (places : List ℕ) : Type 0 where
   pub below : AreBelow (length nodes) places
   pub are : type_nodes home (trees_of (trees_at (unfolded nodes) places)) ≡ nodes_at made places
-  pub symbols : HaveSymbols (trees_of (trees_at (unfolded nodes) places))
+  pub types : AreTypes most (trees_of (trees_at (unfolded nodes) places))
 
 -- one of them is none
 pub record LacksType (home : List ℕ) (made : List Node) (places : List ℕ) : Type 0 where

@@ -13,14 +13,17 @@ use row_fields::Fields;
 use semantic_objects::{Symbol, TyName, TypeNode};
 use std::alloc::Global;
 
-/// A variable by its index.
-#[tactic(auto, using(crate::proofs::Found::variable_found, crate::proofs::Found::variable_never, crate::proofs::Found::variable_longer))]
+/// A variable by its index. No binder has so many that one has the last number of four bytes.
+#[tactic(auto, using(crate::proofs::Found::variable_never))]
 pub(crate) fn variable_of(items: &[Item]) -> Option<TypeNode>
     ensures { (home : List ℕ) (rows : TypeRows) → Makes home 1 items.now rows result }
 {
     let mut fields = Fields::new(items);
     let index = fields.number()?;
     if !fields.at_end() {
+        return None;
+    }
+    if index == u32::MAX {
         return None;
     }
     Some(TypeNode::Bound(index))

@@ -6,9 +6,10 @@ use Rattle.bare_phrases.specs.PhraseOf.{exp_phrase}
 use Rattle.static_semantics.specs.Inferring.{outermost}
 use Rattle.static_semantics.specs.CoreInference.{infer_exp}
 use Rattle.type_phrases.specs.Inferred.{progress}
+use Rattle.type_phrases.proofs.Keeping.{keeps_all}
 use Rattle.core_soundness.proofs.Promised.{exp_follows}
 use Rattle.core_rules.proofs.Ruling.{keeps_same}
-use Rattle.core_elab.proofs.Beginning.{refused}
+use Rattle.core_elab.proofs.Beginning.{refused, graph_itself}
 use Rattle.core_elab.proofs.whole.elab_exp.Goals as goal
 
 pub undo-requires : goal.undo-requires
@@ -19,7 +20,7 @@ pub returns-in-Ok-clause-sound : goal.returns-in-Ok-clause-sound
 returns-in-Ok-clause-sound c = λ has types.
     exp_follows depth (outermost c.args.g.now.home (env_at c.args.g.now c.args.env)) (exp_phrase c.args.exp.now)
     (progress c.args.t.now c.args.g.now)
-    (type_of c.type_in.new.t c.in-Ok.id, progress c.type_in.new.t c.type_in.new.g) c.requires.ready
+    (type_of c.type_in.new.t c.in-Ok.id, progress c.type_in.new.t c.type_in.new.g) (c.is_known.ensures.ready c.if-not-is_known.false)
     c.in-Ok.ensures.infers has types
 
 pub returns-clause-infers : goal.returns-clause-infers
@@ -30,3 +31,18 @@ returns-clause-infers c =
 
 pub returns-clause-ids : goal.returns-clause-ids
 returns-clause-ids c = keeps_same c.args.t.now c.undo.new.self (c.undo.ensures ∙ c.mark-before.ensures)
+
+pub type_in-requires-clause-ready : goal.type_in-requires-clause-ready
+type_in-requires-clause-ready c = c.is_known.ensures.ready c.if-not-is_known.false
+
+pub returns-in-Ok-clause-foreign : goal.returns-in-Ok-clause-foreign
+returns-in-Ok-clause-foreign c = λ no. absurd (no (c.is_known.ensures.of c.if-not-is_known.false))
+
+pub returns-clause-foreign : goal.returns-clause-foreign
+returns-clause-foreign c = λ no. absurd (no (c.is_known.ensures.of c.if-not-is_known.false))
+
+pub returns-then-not-is_known-clause-ids : goal.returns-then-not-is_known-clause-ids
+returns-then-not-is_known-clause-ids c = keeps_all c.args.t.now
+
+pub returns-then-not-is_known-clause-graph : goal.returns-then-not-is_known-clause-graph
+returns-then-not-is_known-clause-graph c = graph_itself c.args.g.now

@@ -1,0 +1,4 @@
+pub mod Holding
+pub mod Rows
+pub mod Walking
+pub mod OfState

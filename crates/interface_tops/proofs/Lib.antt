@@ -1,0 +1,4 @@
+pub mod Deciding
+pub mod Conditions
+pub mod Contents
+pub mod Tops

@@ -1,0 +1,4 @@
+pub mod Contents
+pub mod Conditions
+pub mod Tops
+pub mod Promises

@@ -1,0 +1,5 @@
+pub mod Numbered
+pub mod Among
+pub mod Found
+pub mod Cons
+pub mod Adding
