@@ -24,14 +24,25 @@ fn type_line(alloc: Global, table: &mut TypeTable, id: TyId) -> Result<Vec<u8>, 
     Ok(out)
 }
 
-/// The type of an expression, closed over all its variables, or `ok` in its place, or the refusal.
-pub fn typed(alloc: Global, exp: &Exp, is_brief: bool) -> Result<Vec<u8>, NoMemory> {
-    let mut graph = EnvGraph::new(alloc)?;
-    let env = basis_env(alloc, &mut graph)?;
-    let mut table = TypeTable::new(alloc)?;
-    match elab_exp(&mut graph, &mut table, env, exp) {
+/// The type of an expression in the initial basis, which is made in an empty graph.
+fn typed_in(
+    alloc: Global,
+    g: &mut EnvGraph,
+    table: &mut TypeTable,
+    exp: &Exp,
+    is_brief: bool,
+) -> Result<Vec<u8>, NoMemory> {
+    let env = basis_env(alloc, g)?;
+    match elab_exp(g, table, env, exp) {
         Ok(_id) if is_brief => line(alloc, b"ok"),
-        Ok(id) => type_line(alloc, &mut table, id),
+        Ok(id) => type_line(alloc, table, id),
         Err(fault) => refusal(alloc, &fault),
     }
+}
+
+/// The type of an expression, closed over all its variables, or `ok` in its place, or the refusal.
+pub fn typed(alloc: Global, exp: &Exp, is_brief: bool) -> Result<Vec<u8>, NoMemory> {
+    let mut table = TypeTable::new(alloc)?;
+    let mut graph = EnvGraph::new(alloc)?;
+    typed_in(alloc, &mut graph, &mut table, exp, is_brief)
 }

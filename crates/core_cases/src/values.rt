@@ -62,14 +62,25 @@ fn values_line(
     Ok(out)
 }
 
-/// The values of a declaration in the initial basis, or `ok` in their place, or the refusal.
-pub fn declared(alloc: Global, dec: &Dec, is_brief: bool) -> Result<Vec<u8>, NoMemory> {
-    let mut graph = EnvGraph::new(alloc)?;
-    let env = basis_env(alloc, &mut graph)?;
-    let mut table = TypeTable::new(alloc)?;
-    match elab_dec(&mut graph, &mut table, env, dec) {
+/// The values of a declaration in the initial basis, which is made in an empty graph.
+fn declared_in(
+    alloc: Global,
+    g: &mut EnvGraph,
+    table: &mut TypeTable,
+    dec: &Dec,
+    is_brief: bool,
+) -> Result<Vec<u8>, NoMemory> {
+    let env = basis_env(alloc, g)?;
+    match elab_dec(g, table, env, dec) {
         Ok(_made) if is_brief => line(alloc, b"ok"),
-        Ok(made) => values_line(alloc, &graph, &mut table, made),
+        Ok(made) => values_line(alloc, g, table, made),
         Err(fault) => refusal(alloc, &fault),
     }
+}
+
+/// The values of a declaration in the initial basis, or `ok` in their place, or the refusal.
+pub fn declared(alloc: Global, dec: &Dec, is_brief: bool) -> Result<Vec<u8>, NoMemory> {
+    let mut table = TypeTable::new(alloc)?;
+    let mut graph = EnvGraph::new(alloc)?;
+    declared_in(alloc, &mut graph, &mut table, dec, is_brief)
 }

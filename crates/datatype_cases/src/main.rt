@@ -13,9 +13,10 @@ use chain::chain;
 use cm_base::{Fault, NoMemory, Text};
 use kind::{Kind, kind_of};
 use printing::{counts_of, lines_of, names_line};
-use scene::{Bound, Unit};
+use scene::{Bound, begin, elaborate};
 use sml_modules::EnvGraph;
 use sml_trees::Dec;
+use sml_types::TypeTable;
 use std::alloc::Global;
 use std::process::ExitCode;
 
@@ -30,10 +31,15 @@ struct Asked {
 }
 
 /// What the declarations of a sequence bind. `None` where one is of another kind.
-fn bound_in(unit: &mut Unit, dec: &Dec) -> Result<Option<Bound>, Fault> {
-    let before = unit.begin()?;
+fn bound_in(
+    alloc: Global,
+    g: &mut EnvGraph,
+    t: &mut TypeTable,
+    dec: &Dec,
+) -> Result<Option<Bound>, Fault> {
+    let before = begin(alloc, g)?;
     match dec {
-        Dec::Sequence(decs, _) => unit.elaborate(before, decs.as_slice()),
+        Dec::Sequence(decs, _) => elaborate(alloc, g, t, before, decs.as_slice()),
         _ => Ok(None),
     }
 }
@@ -46,18 +52,40 @@ fn printed(alloc: Global, kind: Kind, g: &EnvGraph, bound: Bound) -> Result<Vec<
     }
 }
 
+/// What is answered of how declarations ended.
+fn answered(
+    alloc: Global,
+    asked: Asked,
+    g: &EnvGraph,
+    bound: Result<Option<Bound>, Fault>,
+) -> Result<Vec<u8>, CaseFault> {
+    match bound {
+        Ok(Some(bound)) => Ok(printed(alloc, asked.kind, g, bound)?),
+        Ok(None) => Err(CaseFault::Wrong(asked.line, Wrong::Words)),
+        Err(fault) => Ok(refusal(alloc, &fault)?),
+    }
+}
+
+/// What is answered of declarations in an empty graph and an empty table.
+fn answer_in(
+    alloc: Global,
+    asked: Asked,
+    g: &mut EnvGraph,
+    t: &mut TypeTable,
+    dec: &Dec,
+) -> Result<Vec<u8>, CaseFault> {
+    let bound = bound_in(alloc, g, t, dec);
+    match asked.kind {
+        Kind::MadeNames => Ok(names_line(alloc, g)?),
+        _ => answered(alloc, asked, g, bound),
+    }
+}
+
 impl AsksDeclarations for Asked {
     fn of_declarations(&self, alloc: Global, dec: &Dec) -> Result<Vec<u8>, CaseFault> {
-        let mut unit = Unit::new(alloc)?;
-        let bound = bound_in(&mut unit, dec);
-        if let Kind::MadeNames = self.kind {
-            return Ok(names_line(alloc, &unit.graph)?);
-        }
-        match bound {
-            Ok(Some(bound)) => Ok(printed(alloc, self.kind, &unit.graph, bound)?),
-            Ok(None) => Err(CaseFault::Wrong(self.line, Wrong::Words)),
-            Err(fault) => Ok(refusal(alloc, &fault)?),
-        }
+        let mut table = TypeTable::new(alloc)?;
+        let mut graph = EnvGraph::new(alloc)?;
+        answer_in(alloc, *self, &mut graph, &mut table, dec)
     }
 }
 

@@ -3,7 +3,7 @@
 ghost use Rattle.sml_modules.specs.Graphs.{HasEnv};
 
 use case_files::{Part, push_parts};
-use cm_base::{List, NoMemory, Text};
+use cm_base::{NoMemory, Text};
 use entry_printing::{type_line, value_line};
 use semantic_objects::{Symbol, TypeNode, TypeStr};
 use sml_modules::{EnvGraph, EnvId};
@@ -68,18 +68,34 @@ fn push_value(
     }
 }
 
+/// Adds a line for each type of an environment.
+fn push_types(alloc: Global, g: &EnvGraph, env: EnvId, out: &mut Vec<u8>) -> Result<(), NoMemory>
+    requires { HasEnv g.now env }
+{
+    for name in g.names_type(env)?.as_slice() {
+        push_type(alloc, g, env, name, out)?;
+    }
+    Ok(())
+}
+
+/// Adds a line for each value of an environment.
+fn push_values(alloc: Global, g: &EnvGraph, env: EnvId, out: &mut Vec<u8>) -> Result<(), NoMemory>
+    requires { HasEnv g.now env }
+{
+    for name in g.names_value(env)?.as_slice() {
+        push_value(alloc, g, env, name, out)?;
+    }
+    Ok(())
+}
+
 /// The types and the values of an environment, a line each.
 pub fn lines_of(alloc: Global, g: &EnvGraph, env: EnvId) -> Result<Vec<u8>, NoMemory> {
     if !g.has_env(env) {
         return Err(NoMemory);
     }
     let mut out = Vec::new(alloc);
-    for name in g.names_type(env)?.as_slice() {
-        push_type(alloc, g, env, name, &mut out)?;
-    }
-    for name in g.names_value(env)?.as_slice() {
-        push_value(alloc, g, env, name, &mut out)?;
-    }
+    push_types(alloc, g, env, &mut out)?;
+    push_values(alloc, g, env, &mut out)?;
     Ok(out)
 }
 
@@ -91,18 +107,28 @@ fn admits_equality(entry: &TypeStr) -> bool {
     }
 }
 
-/// How many of some types are type names that admit equality.
-fn equality_types(g: &EnvGraph, env: EnvId, names: &List<Text>) -> Result<u64, NoMemory>
+/// How many types an environment has, and how many of these are type names that admit equality.
+fn type_counts(g: &EnvGraph, env: EnvId) -> Result<(u64, u64), NoMemory>
     requires { HasEnv g.now env }
 {
-    let mut count = 0u64;
-    for name in names.as_slice() {
+    let mut types = 0u64;
+    let mut equality = 0u64;
+    for name in g.names_type(env)?.as_slice() {
+        types = types.saturating_add(1);
         match g.find_type(env, name)? {
-            Some(entry) if admits_equality(&entry) => count = count.saturating_add(1),
+            Some(entry) if admits_equality(&entry) => equality = equality.saturating_add(1),
             _ => {}
         }
     }
-    Ok(count)
+    Ok((types, equality))
+}
+
+/// How many values an environment has.
+fn value_count(g: &EnvGraph, env: EnvId) -> Result<u64, NoMemory>
+    requires { HasEnv g.now env }
+{
+    let names = g.names_value(env)?;
+    Ok(names.len() as u64)
 }
 
 /// How many types and values an environment has, as a line.
@@ -110,19 +136,19 @@ pub fn counts_of(alloc: Global, g: &EnvGraph, env: EnvId) -> Result<Vec<u8>, NoM
     if !g.has_env(env) {
         return Err(NoMemory);
     }
-    let types = g.names_type(env)?;
-    let values = g.names_value(env)?;
+    let (types, equality) = type_counts(g, env)?;
+    let values = value_count(g, env)?;
     let mut out = Vec::new(alloc);
     push_parts(
         alloc,
         &mut out,
         &[
             Part::Text(b"types "),
-            Part::Number(types.len() as u64),
+            Part::Number(types),
             Part::Text(b", equality "),
-            Part::Number(equality_types(g, env, &types)?),
+            Part::Number(equality),
             Part::Text(b", values "),
-            Part::Number(values.len() as u64),
+            Part::Number(values),
             Part::Text(b"\n"),
         ],
     )?;
