@@ -46,7 +46,7 @@ module _ (first rest : Meaning) where
       either_way (λ m. HashesApart (known ++ m.interfaces) → HashesApart (known ++ first.interfaces))
       (apart_left known first.interfaces rest.interfaces) (λ apart. apart)
 
-plain_or : (end : Status) → IsPlain end ⊎ (IsPlain end → ⊥)
+pub plain_or : (end : Status) → IsPlain end ⊎ (IsPlain end → ⊥)
 plain_or status.Ok = inl tt
 plain_or status.Diagnostic = inl tt
 plain_or status.Usage = inl tt

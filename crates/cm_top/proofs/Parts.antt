@@ -45,7 +45,7 @@ all_parts n = (
 
 -- ---- nothing outside the store changes but the project's files
 
-none_within : (path : List ℕ) → Contains [] path → ⊥
+pub none_within : (path : List ℕ) → Contains [] path → ⊥
 none_within path (i, within, at) = omega (arith, within)
 
 one_within : (x path : List ℕ) → Contains (x ∷ []) path → x ≡ path
@@ -53,7 +53,7 @@ one_within x path (zero, within, at) = at
 one_within x path (suc i, within, at) = absurd (omega (arith, within))
 
 -- what a part changes is one of the files of so many units
-abbrev IsOf : ℕ → Step → Type 0
+abbrev pub IsOf : ℕ → Step → Type 0
 IsOf n part = (way : Way) (files : Files) (path : List ℕ) → Contains (of_part way files part).outside path
     → Contains (files_of n) path
 
@@ -96,7 +96,7 @@ middle_least n least = omega (arith, least)
 middle_most : (n : ℕ) → 1 ≤ n → middle n ≤ n
 middle_most n least = omega (arith, least)
 
-all_of : (n : ℕ) → 1 ≤ n → AllByRecursion (IsOf n) (generated n)
+pub all_of : (n : ℕ) → 1 ≤ n → AllByRecursion (IsOf n) (generated n)
 all_of n least = (
   description_is n,
   sources_of n 1 n (omega arith) (omega arith) (build_project ∷ write_again (middle n) ∷ build_project ∷ [])

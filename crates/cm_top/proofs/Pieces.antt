@@ -159,13 +159,13 @@ module _ (by : Definitions) (d1 m1 d2 m2 : Files → Meaning) (end : Status) (s0
   both a b files = then_command (a files) (b (a files).files)
 
   -- from a good store the second begins with one, for all that is known then
-  record Second (known : List (List ℕ)) (files : Files) : Type 0 where
-    holds : s1.holds ≡ Some (m1 files).files
-    good : IsGoodStore by (known ++ (m1 files).interfaces) (m1 files).files
-    apart : HashesApart ((known ++ (m1 files).interfaces) ++ (m2 (m1 files).files).interfaces)
-    left : HashesApart (known ++ (m1 files).interfaces)
+  pub record Second (known : List (List ℕ)) (files : Files) : Type 0 where
+    pub holds : s1.holds ≡ Some (m1 files).files
+    pub good : IsGoodStore by (known ++ (m1 files).interfaces) (m1 files).files
+    pub apart : HashesApart ((known ++ (m1 files).interfaces) ++ (m2 (m1 files).files).interfaces)
+    pub left : HashesApart (known ++ (m1 files).interfaces)
 
-  second : (known : List (List ℕ)) (files : Files) → s0.holds ≡ Some files
+  pub second : (known : List (List ℕ)) (files : Files) → s0.holds ≡ Some files
       → HashesApart (known ++ (both m1 m2 files).interfaces) → IsGoodStore by known files → Second known files
   second known files is apart good =
       let i1 = (m1 files).interfaces in

@@ -147,7 +147,7 @@ module _ (by : Definitions) (path : List ℕ) (out : is_stored path ≡ false) (
 
 -- ---- commands
 
-target_outside : (target : Option (List ℕ)) (files : Files) (holds : Option Files) → KeepsOthers target files holds
+pub target_outside : (target : Option (List ℕ)) (files : Files) (holds : Option Files) → KeepsOthers target files holds
     → KeepsOutside (target_paths target) files holds
 target_outside None files holds kept = record {
   after = kept.after;

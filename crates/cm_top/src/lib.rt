@@ -16,6 +16,10 @@ mod work;
 
 pub use command_words::{Call, Command, read_call};
 pub use generating::generate;
-pub use run::{run_cm, run_sure};
-pub use sessions::session;
+pub use printing::print;
+pub use run::{run_cm, run_sure, run_usage};
+pub use script::find_script;
+pub use sessions::{edit_end, is_plain, print_refusal, print_status, session};
 pub use status::Status;
+pub use targets::find_target;
+pub use work::{Report, WorkFault, build_project};

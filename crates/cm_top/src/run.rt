@@ -27,7 +27,7 @@ use member_tools::Toolbox;
 use std::alloc::Global;
 
 /// Prints the line for words that mean nothing.
-pub(crate) fn run_usage<F: Folder, S: Sink, C: Compiler>(
+pub fn run_usage<F: Folder, S: Sink, C: Compiler>(
     alloc: Global,
     folder: &F,
     out: &mut S,

@@ -22,7 +22,7 @@ use session_scripts::Step;
 use std::alloc::Global;
 
 /// Whether a command that ended so met no fault.
-fn is_plain(status: Status) -> bool
+pub fn is_plain(status: Status) -> bool
     ensures { result ≡ is_plain status }
 {
     match status {
@@ -44,7 +44,7 @@ fn status_line(status: Status) -> &'static [u8]
 }
 
 /// Prints the line behind a command that ended so.
-fn print_status<S: Sink>(alloc: Global, out: &mut S, status: Status) -> Status
+pub fn print_status<S: Sink>(alloc: Global, out: &mut S, status: Status) -> Status
     ensures sink { HasCause (S.faults out.old) (S.faults out.new) (result ≡ Status.SinkFault) }
     ensures prints { Prints result Status.Ok (S.written out.old) (S.written out.new) (status_line status) }
 {
@@ -52,7 +52,7 @@ fn print_status<S: Sink>(alloc: Global, out: &mut S, status: Status) -> Status
 }
 
 /// How an edit ends, by the folder's answer.
-pub(crate) fn edit_end(answer: Result<(), FolderFault>) -> Status
+pub fn edit_end(answer: Result<(), FolderFault>) -> Status
     ensures { result ≡ edit_end answer }
 {
     match answer {
@@ -136,7 +136,7 @@ fn play<F: Folder, S: Sink, C: Compiler>(
 }
 
 /// Prints the line of a refusal.
-fn print_refusal<F: Folder, S: Sink, C: Compiler>(
+pub fn print_refusal<F: Folder, S: Sink, C: Compiler>(
     alloc: Global,
     diag: &Diag,
     folder: &F,

@@ -156,8 +156,8 @@ fn build_plan<F: Folder, C: Compiler>(
     }
 }
 
-/// Plans a project and builds it, up to the report.
-fn build_project<F: Folder, C: Compiler>(
+/// Plans a project that was loaded and builds it, with a target or none, up to the report.
+pub fn build_project<F: Folder, C: Compiler>(
     alloc: Global,
     defs: &List<Def>,
     target: &Option<Text>,

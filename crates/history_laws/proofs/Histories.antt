@@ -46,7 +46,7 @@ apart_within : (more fewer : List (List ℕ)) → ((t : List ℕ) → Contains f
 apart_within more fewer within apart = record { apart = λ a b ha hb. apart.apart a b (within a ha) (within b hb) }
 
 -- a step keeps a store good
-abbrev Keeps : {S : Type 0} → Definitions → Effect S → (Files → S → Type 0) → Type 0
+abbrev pub Keeps : {S : Type 0} → Definitions → Effect S → (Files → S → Type 0) → Type 0
 Keeps {S} by effect P = (files : Files) (step : S) (known : List (List ℕ)) → P files step
     → HashesApart (known ++ effect.interfaces files step) → IsGoodStore by known files
     → IsGoodStore by (known ++ effect.interfaces files step) (effect.leaves files step)
@@ -94,13 +94,13 @@ module _ {S : Type 0} (by : Definitions) (effect : Effect S) (P : Files → S �
       each_at before later step (effect.leaves files first) each.1
 
   -- what a step finds
-  record Finds (start : Files) (before : List S) (step : S) : Type 0 where
+  pub record Finds (start : Files) (before : List S) (step : S) : Type 0 where
     pub good : IsGoodAfter by effect start before
     pub apart : HashesApart (interfaces_in effect start before
         ++ effect.interfaces (folder_after effect start before) step)
     pub lawful : P (folder_after effect start before) step
 
-  finds : (start : Files) (before later : List S) (step : S) → IsHistory effect P start (before ++ step ∷ later)
+  pub finds : (start : Files) (before later : List S) (step : S) → IsHistory effect P start (before ++ step ∷ later)
       → Finds start before step
   finds start before later step is = record {
     good = steps_good before start [] (each_front before (step ∷ later) start is.each)
@@ -130,12 +130,12 @@ module _ {S : Type 0} (by : Definitions) (effect : Effect S) (P : Files → S �
           (append_assoc front own rest ∙ sym (interfaces_on before (step ∷ later) start))
           (Contains-append_left (front ++ own) rest t h)
 
-  all_good : (start : Files) (steps : List S) → IsHistory effect P start steps → IsGoodAfter by effect start steps
+  pub all_good : (start : Files) (steps : List S) → IsHistory effect P start steps → IsGoodAfter by effect start steps
   all_good start steps is = steps_good steps start [] is.each is.apart (no_store_good by start is.begins)
 
 -- ---- edits
 
-edit_keeps : (by : Definitions) (known : List (List ℕ)) (files : Files) (path : List ℕ) (content : Option (List ℕ))
+pub edit_keeps : (by : Definitions) (known : List (List ℕ)) (files : Files) (path : List ℕ) (content : Option (List ℕ))
     → is_stored path ≡ false → IsGoodStore by known files → IsGoodStore by (known ++ []) (edited files path content)
 edit_keeps by known files path None outside good =
     subst (λ texts. IsGoodStore by texts (edited files path None)) (sym (append-nil known))

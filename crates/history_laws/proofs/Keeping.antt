@@ -70,7 +70,7 @@ module _ (by : Definitions) (files : Files) (target : Option (List ℕ)) (skelet
   abbrev m : Meaning
   m = coming_to by files target skeletons r
 
-  coming_good : (known : List (List ℕ)) → GivesSmallSkeletons by → IsOutside target
+  pub coming_good : (known : List (List ℕ)) → GivesSmallSkeletons by → IsOutside target
       → ((planned : List PlannedUnit) → r ≡ Ok planned → HaveSkeletons by.skel planned)
       → HashesApart (known ++ m.interfaces) → IsGoodStore by known files
       → IsGoodStore by (known ++ m.interfaces) m.files

@@ -41,7 +41,7 @@ abbrev pub units_in : Result (List PlannedUnit) Diag → List PlannedUnit
 units_in (Ok planned) = planned
 units_in (Err diag) = []
 
-built_is : (by : Definitions) (files : Files) (r : Result (List PlannedUnit) Diag)
+pub built_is : (by : Definitions) (files : Files) (r : Result (List PlannedUnit) Diag)
     → built (plain_over by) files r ≡ coming files (units_in r) (build_of by r)
 built_is by files (Ok planned) = refl
 built_is by files (Err diag) = refl
@@ -161,7 +161,7 @@ module _ (by : Definitions) (files clean : Files) (target : Option (List ℕ)) (
       → (coming_to by here target asked r).files ≡ linked here (end_of b)
   files_are here asked = ap (linked here) (end_same here b b.ended)
 
-  path_alike : (path : List ℕ) → Contains (paths_of b.units) path
+  pub path_alike : (path : List ℕ) → Contains (paths_of b.units) path
       → get (coming_to by files target skeletons r).files path ≡ get (coming_to by clean target others r).files path
   path_alike path within =
       let is = path_is b.units path within in
@@ -177,7 +177,7 @@ module _ (by : Definitions) (files clean : Files) (target : Option (List ℕ)) (
       → (coming_to by here target asked r).files ≡ linked here None
   well here asked none = files_are here asked ∙ ap (linked here) none
 
-  linked_alike : end_of b ≡ None
+  pub linked_alike : end_of b ≡ None
       → get (coming_to by files target skeletons r).files linked_path
       ≡ get (coming_to by clean target others r).files linked_path
   linked_alike none =
@@ -187,7 +187,7 @@ module _ (by : Definitions) (files clean : Files) (target : Option (List ℕ)) (
       ∙ linked_there target (marked here b) (left here) outside ∙ ap Some (linked_same here b) in
       at files skeletons ∙ sym (at clean others)
 
-  target_alike : (path : List ℕ) → end_of b ≡ None → target ≡ Some path
+  pub target_alike : (path : List ℕ) → end_of b ≡ None → target ≡ Some path
       → get (coming_to by files target skeletons r).files path ≡ get (coming_to by clean target others r).files path
   target_alike path none is =
       let at : (here : Files) (asked : List (List ℕ)) → get (coming_to by here target asked r).files path
@@ -196,7 +196,7 @@ module _ (by : Definitions) (files clean : Files) (target : Option (List ℕ)) (
       ∙ target_there target path (marked here b) (left here) is ∙ ap Some (linked_same here b) in
       at files skeletons ∙ sym (at clean others)
 
-  project_kept : (path : List ℕ) → is_stored path ≡ false → target ≢ Some path
+  pub project_kept : (path : List ℕ) → is_stored path ≡ false → target ≢ Some path
       → get (coming_to by files target skeletons r).files path ≡ get files path
   project_kept path out apart =
       ap (λ (f : Files). get f path) (files_are files skeletons)

@@ -34,7 +34,7 @@ use Rattle.history_laws.specs.FromNothing.{if_loaded, project_in, sources_in, un
 -- ---- over two folders with one project
 
 module _ (by : Definitions) (a b : Files) (alike : LoadsAlike a b) where
-  out_same : (root out : List ℕ) → out_in a root out ≡ out_in b root out
+  pub out_same : (root out : List ℕ) → out_in a root out ≡ out_in b root out
   out_same root out = ap (λ (r : Result Bindings Diag). r >>= λ anchors. out_path anchors root out) alike.anchors
 
   pub target_same : (command : Command) → target_of a command ≡ target_of b command
@@ -76,7 +76,7 @@ module _ (by : Definitions) (a b : Files) (alike : LoadsAlike a b) where
 
 -- ---- what is asked
 
-asked_loading : (by : Definitions) (files : Files) (defs : List Def) (r : Result Project Diag)
+pub asked_loading : (by : Definitions) (files : Files) (defs : List Def) (r : Result Project Diag)
     → (of_loading (plain_plan by.skel files) defs r).asked_skeletons ≡ unread_in by files (if_loaded r)
 asked_loading by files defs (Ok project) = refl
 asked_loading by files defs (Err diag) = refl
@@ -135,7 +135,7 @@ after_has by project defs None plan stops is =
     (names_of project (skeletons_of by.skel project).found defs) plan is)
     stops
 
-abbrev HaveAll : Definitions → Result (List PlannedUnit) Diag → Type 0
+abbrev pub HaveAll : Definitions → Result (List PlannedUnit) Diag → Type 0
 HaveAll by (Ok planned) = HaveSkeletons by.skel planned
 HaveAll by (Err diag) = Unit {0}
 
@@ -145,7 +145,7 @@ units_have : (by : Definitions) (project : Project) (r : Result Plan Diag)
 units_have by project (Ok plan) have = have plan refl
 units_have by project (Err diag) have = tt
 
-loading_has : (by : Definitions) (files : Files) (defs : List Def) (r : Result Project Diag)
+pub loading_has : (by : Definitions) (files : Files) (defs : List Def) (r : Result Project Diag)
     → HaveAll by (of_loading (plain_plan by.skel files) defs r).units
 loading_has by files defs (Ok project) =
     units_have by project (plan_of by.skel project defs).result

@@ -4,8 +4,6 @@
 mod kind;
 mod made;
 mod scene;
-mod tool;
-mod tools;
 
 use case_files::{Case, CaseFault, Kinds, Report, Wrong, run_cases};
 use case_texts::try_texts;

@@ -1,10 +1,9 @@
 //! Cases `derive`: tools are put into a box and used, over a folder in memory, by steps.
 
-use crate::tool::CaseTool;
-use crate::tools::tool_of;
 use bin_store::StoreFault;
 use case_files::{Case, CaseFault, Part, Report, number_of, push_parts};
 use case_texts::{Scene, line, push_diag, take_steps};
+use case_tools::{CaseTool, tool_of};
 use cm_base::{CallKind, FailAt, Left, List, MemFolder, NoMemory, Text, Tool};
 use member_deriving::{MemberFault, derive_source, find_tool};
 use std::alloc::Global;

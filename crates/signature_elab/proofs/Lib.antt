@@ -1,0 +1,4 @@
+pub mod Forms
+pub mod Chaining
+pub mod Ending
+pub mod Beginning

@@ -1,0 +1,10 @@
+pub mod Building
+pub mod Calls
+pub mod Counts
+pub mod Cuts
+pub mod GoingOn
+pub mod InTurn
+pub mod Loading
+pub mod Parts
+pub mod Roots
+pub mod Steps

@@ -1,0 +1,4 @@
+pub mod Roots
+pub mod Meanings
+pub mod Keeping
+pub mod Histories

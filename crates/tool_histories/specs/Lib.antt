@@ -1,0 +1,4 @@
+pub mod Calls
+pub mod FromNothing
+pub mod Laws
+pub mod Steps
