@@ -1,11 +1,13 @@
 //! Signature expressions that are finished.
 
-ghost use Rattle.std.specs.Prelude.{◌≡◌, IfOk, OnOk, OnErr};
+ghost use Rattle.std.specs.Prelude.{◌≡◌, ℕ, List, Bool, IfOk, OnOk, OnErr};
 ghost use Rattle.sml_modules.specs.Graphs.{signature_at, top_at, HasSignature, HasTop, Keeps};
 ghost use Rattle.static_semantics.specs.Inferring.{outermost};
 ghost use Rattle.module_semantics.specs.SigPhrases.{sig_phrase};
 ghost use Rattle.module_semantics.specs.SignatureInference.{signature_of};
 ghost use Rattle.unit_semantics.specs.StructureInference.{core_scope};
+ghost use Rattle.unit_laws.specs.Spelling.{SigSpelt};
+ghost use Rattle.specification_laws.specs.Promises.{IsAround, SignatureDerived};
 ghost use Rattle.type_phrases.specs.Inferred.{Answers, KeepsTypes, progress};
 ghost use Rattle.module_scopes.specs.Tops.{top_seen, IsTopScope};
 
@@ -87,7 +89,7 @@ fn elab_in_top(
 /// The signature that a signature expression stands for, with the environment and the signatures of a top: 30, 33, 35,
 /// 37 and 40 as inference has them in order, and the table is then as before. It binds its flexible names, numbered from
 /// 0 in the order in which its specifications made them. All ids keep what they stand for; after a refusal names of the
-/// unit that nothing has may have been made.
+/// unit that nothing has may have been made. Where what is in scope is as a unit has it, the rules give this signature.
 /// The Definition of Standard ML (Revised), rules 62 to 65.
 pub fn elab_sig(
     g: &mut EnvGraph,
@@ -99,6 +101,11 @@ pub fn elab_sig(
     ensures infers { Answers (signature_of (top_at g.old env).signatures
         (outermost g.old.home (top_at g.old env).env) (sig_phrase sig.now) (progress t.old g.old))
         (λ id. (signature_at g.new id, progress t.new g.new)) result }
+    ensures sound { (good : List ℕ → Bool) → SigSpelt good (sig_phrase sig.now)
+        → IsAround good (top_at g.old env).signatures (outermost g.old.home (top_at g.old env).env) (progress t.old g.old)
+        → IfOk result (λ id. SignatureDerived (top_at g.old env).signatures
+        (outermost g.old.home (top_at g.old env).env) (sig_phrase sig.now) (progress t.old g.old)
+        (signature_at g.new id, progress t.new g.new)) }
     ensures there { IfOk result (HasSignature g.new) }
     ensures keeps { KeepsTypes t.old t.new }
     ensures refused { OnErr result (t.new ≡ t.old) }

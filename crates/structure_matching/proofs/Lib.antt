@@ -17,3 +17,4 @@ pub mod EnrichingSteps
 pub mod EnrichingEnvs
 pub mod EnrichedOnce
 pub mod Concluding
+pub mod Ruled

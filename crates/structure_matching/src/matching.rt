@@ -11,7 +11,7 @@ ghost use Rattle.static_semantics.specs.EnvironmentsPut.{put_env};
 ghost use Rattle.module_semantics.specs.Matching.{matching, matched};
 ghost use Rattle.type_phrases.specs.Inferred.{Answers};
 ghost use Rattle.structure_matching.specs.Searching.{at_of};
-ghost use Rattle.structure_matching.specs.Matches.{StaysGraph};
+ghost use Rattle.structure_matching.specs.Matches.{IsMatched, IsMatchedBy, StaysGraph};
 
 use crate::enriching::enrich_env;
 use crate::parts::EnvPair;
@@ -67,7 +67,8 @@ fn match_parts(
 /// place, and 36 and 37 show the long name from the signature's root. First the realisation is found, then all is
 /// compared. A variable of the table that is free in the environment stands for itself alone, and the table is as
 /// before. After a refusal the graph may have nodes more. Structures that nest deeper than 1,024, and a variable of the
-/// table in a type or in the signature, which no source gives, are refused as want of memory is.
+/// table in a type or in the signature, which no source gives, are refused as want of memory is. By the rules the
+/// environment matches the signature by the realisation that is answered.
 /// The Definition of Standard ML (Revised), sections 5.5 and 5.6, rule 52.
 pub fn match_signature(
     g: &mut EnvGraph,
@@ -81,6 +82,8 @@ pub fn match_signature(
     ensures answers { (inner : Scope) → inner.home ≡ at.now.file
         → Answers (matching inner (at_of at.now) (state t.old) (put_env (state t.old).stands (env_at g.old env))
         (signature_at g.old sig)) (λ made. rows_of made.by.list) result }
+    ensures sound { IfOk result (λ made. IsMatchedBy (state t.old)
+        (put_env (state t.old).stands (env_at g.old env)) (signature_at g.old sig) (put_by made.by.list)) }
     ensures gives { IfOk result (λ made. GivesEnv g.old g.new
         (realised (put_by made.by.list) (signature_at g.old sig).env) made.env) }
     ensures graph { StaysGraph g.old g.new }
@@ -105,6 +108,8 @@ pub fn matches(
     ensures answers { (inner : Scope) → inner.home ≡ at.now.file
         → Answers (matched inner (at_of at.now) (state t.old) (put_env (state t.old).stands (env_at g.old env))
         (signature_at g.old sig)) (env_at g.new) result }
+    ensures sound { IfOk result (λ id. IsMatched (state t.old)
+        (put_env (state t.old).stands (env_at g.old env)) (signature_at g.old sig) (env_at g.new id)) }
     ensures there { IfOk result (HasEnv g.new) }
     ensures graph { StaysGraph g.old g.new }
     ensures table { t.new ≡ t.old }

@@ -1,6 +1,6 @@
 use Rattle.std.proofs.Common.{◌≡◌}
 use Rattle.type_nodes.specs.Tables.{state}
-use Rattle.type_walks.specs.Replaced.{rows_of}
+use Rattle.type_walks.specs.Replaced.{put_by, rows_of}
 use Rattle.sml_modules.specs.Graphs.{env_at, signature_at}
 use Rattle.static_semantics.specs.Inferring.{Scope}
 use Rattle.static_semantics.specs.EnvironmentsPut.{put_env}
@@ -26,3 +26,10 @@ returns-in_err-match_signature-clause-answers c =
     c.from_residual.result fault c.from_residual.ensures.1
     (λ inner home. not_matched inner place s env sig fault (λ (made : Matched). rows_of made.by.list)
     (env_at c.match_signature.new.g) (c.in_err-match_signature.ensures.answers inner home))
+
+pub returns-clause-sound : goal.returns-clause-sound
+returns-clause-sound c = record {
+  by = put_by c.in_ok-match_signature.field-0.by.list;
+  is = c.in_ok-match_signature.ensures.gives.stands;
+  matches = c.in_ok-match_signature.ensures.sound;
+}
