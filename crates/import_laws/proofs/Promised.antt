@@ -6,26 +6,24 @@ use Rattle.semantic_objects.specs.declared.name.TyName.{TyName}
 use Rattle.semantic_objects.specs.declared.name.Owner.{Owner}
 use Rattle.semantic_objects.specs.declared.name.Owner.TheVariants as owner
 use Rattle.semantic_objects.specs.Symbols.{same_owner}
-use Rattle.semantic_objects.specs.Environments.{Env, Top, empty_env, empty_top, modified_by}
+use Rattle.semantic_objects.specs.Environments.{Top, empty_top}
 use Rattle.env_parts.specs.Types.{is_bound}
 use Rattle.realisation.specs.Names.{names_in_top}
 use Rattle.realisation.specs.Canonical.{is_own, is_bound_name}
 use Rattle.static_semantics.specs.Inferring.{Progress}
-use Rattle.static_semantics.proofs.Holding.{has_modified, has_nothing}
-use Rattle.inference_laws.specs.Nodes.{Nodes, SchemeOf, FunctionOf, EnvOf, below_number}
+use Rattle.static_semantics.proofs.Holding.{has_nothing}
+use Rattle.inference_laws.specs.Nodes.{SchemeOf, FunctionOf, below_number}
 use Rattle.unit_semantics.specs.Promises.{IsClosedScheme, IsClosedFunction, IsClosedTop}
-use Rattle.unit_semantics.specs.UnitInference.{with_given}
-use Rattle.unit_laws.specs.Parts.{TopOf, IsOfTop}
+use Rattle.unit_laws.specs.Parts.{TopOf}
 use Rattle.table_laws.specs.Rising.{RisingTop}
-use Rattle.specification_laws.proofs.Joined.{with_nothing}
 use Rattle.interface_format.specs.Interfaces.{IsInterface}
 use Rattle.interface_format.specs.Rules.{is_not_bound}
 use Rattle.interface_tops.specs.Tops.{interface_top}
 use Rattle.interface_tops.proofs.Tops.{have_tops}
 use Rattle.imported_interfaces.specs.Usable.{written, has_module, is_of_another, writes_the_basis, writes_no_name_of, agree_with, names_fit, is_usable, usable_if, usable_of, usable_top}
 use Rattle.imported_interfaces.specs.Imported.{Imports, with_imported, with_import, imported_or, imported_one, then, imported_after, imported, no_imports}
-use Rattle.unit_derivations.specs.Promises.{every, IsGiven}
-use Rattle.import_laws.specs.Promises.{ImportsAreGiven}
+use Rattle.basis_laws.specs.Promises.{MayBeGiven}
+use Rattle.import_laws.specs.Promises.{ImportsMayBeGiven}
 use Rattle.import_laws.proofs.Items.{and_left, and_right, all_picked}
 use Rattle.import_laws.proofs.Nodes.{lets_below, AreOthers}
 use Rattle.import_laws.proofs.Tops.{top_may, top_rises, top_closed}
@@ -141,33 +139,19 @@ fits_nothing unit = record {
   };
 }
 
--- ---- in front of the basis
+-- ---- what is given
 
-given_top : (unit : List ℕ) (basis : Env) (top : Top) (st : Progress) → Fits unit top
-    → IsGiven unit basis empty_top st → IsGiven unit basis top st
-given_top unit basis top st h k =
-    let q : Nodes = below_number unit st.names in
-    record {
-      below = record {
-        admits = k.below.admits;
-        scope = record {
-          env = has_modified (SchemeOf q) (FunctionOf q) basis top.env
-              (subst (EnvOf q) (with_nothing basis) k.below.scope.env) (h.of st.names).env;
-          signatures = (h.of st.names).signatures;
-          functors = (h.of st.names).functors;
-          funsigs = (h.of st.names).funsigs;
-        };
-        state = k.below.state;
-      };
-      basis_rises = k.basis_rises;
-      given_rises = h.rises;
-      basis_closed = k.basis_closed;
-      given_closed = h.closed;
-      fit = k.fit;
-    }
+given_top : (unit : List ℕ) (top : Top) (st : Progress) → Fits unit top → MayBeGiven unit empty_top st
+    → MayBeGiven unit top st
+given_top unit top st h k = record {
+  below = h.of st.names;
+  state = k.state;
+  rises = h.rises;
+  closed = h.closed;
+}
 
-pub imports_are_given : ImportsAreGiven
-imports_are_given = record {
-  given = λ unit basis st imports made e k.
-      given_top unit basis made.top st (fits_after unit imports no_imports made e (fits_nothing unit)) k;
+pub imports_may_be_given : ImportsMayBeGiven
+imports_may_be_given = record {
+  given = λ unit st imports made e k.
+      given_top unit made.top st (fits_after unit imports no_imports made e (fits_nothing unit)) k;
 }

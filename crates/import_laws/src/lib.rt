@@ -1,6 +1,6 @@
-//! Laws alone: what a unit's imports give it is as the elaboration of a unit asks.
+//! Laws alone: what its imports give a unit may be given to its elaboration.
 #![tactic(auto)]
 
 mod laws;
 
-pub use laws::imports_are_given;
+pub use laws::imports_may_be_given;
