@@ -33,6 +33,7 @@ use Rattle.structure_elab.proofs.Chains.{passes_over}
 use Rattle.top_bindings.specs.Bindings.{infer_bound, table_at, BindsRows, read_bind, structure_name, infer_structure, sig_name, infer_sig_bind, fun_name, infer_functor, funsig_name, infer_funsig, AreStructureRows, AreSignatureRows, AreFunctorRows, AreFunsigRows}
 use Rattle.top_bindings.proofs.Sorts.{binds_of, alone, alone_then, structures_bound, signatures_bound, functors_bound, funsigs_bound}
 use Rattle.module_elab.specs.Tops.{IsDefined}
+use Rattle.module_elab.proofs.Turns.{top_is}
 use Rattle.module_elab.proofs.Defining.{IsAlone}
 
 -- ---- what a call that binds rows says of a declaration
@@ -117,15 +118,6 @@ envs_all g (row ∷ rows) h = (h.0, envs_all g rows h.1)
 
 once : {A : Type 0} (rows : Named A) → with_all (with_all rows []) [] ≡ with_all rows []
 once rows = all_at_once rows [] [] refl
-
-top_is : (d e : Env) (s t : Named Signature) (f h : Named Functor) (k l : Named Functor) → d ≡ e → s ≡ t → f ≡ h
-    → k ≡ l
-    → (let a : Top = record { env = d; signatures = s; functors = f; funsigs = k } in a)
-    ≡ (let b : Top = record { env = e; signatures = t; functors = h; funsigs = l } in b)
-top_is d e s t f h k l p q r z = cc
-
-abbrev structures_of_rows : Graph → Rows EnvId → Named Env
-structures_of_rows g rows = table_at env_at g rows
 
 structures_alone : (g : Graph) (rows : Rows EnvId) → IsAlone (of_structures (table_at env_at g rows))
 structures_alone g rows = top_is _ _ _ _ _ _ _ _

@@ -25,6 +25,7 @@ use Rattle.unit_derivations.specs.Derived.{IsAtTop}
 use Rattle.unit_derivations.specs.Promises.{every}
 use Rattle.unit_derivations.proofs.Spelt.{top_spelt}
 use Rattle.structure_elab.proofs.Steps.{read_plain}
+use Rattle.module_elab.proofs.Turns.{regrouped, after_nothing}
 use Rattle.top_bindings.proofs.Readying.{structure_at_top, signature_at_top, functor_at_top, funsig_at_top}
 
 -- ---- what a declaration defines holds no variable
@@ -40,7 +41,7 @@ plain_top (TopPhrase.Signatures binds at) = refl
 plain_top (TopPhrase.Functors binds at) = refl
 plain_top (TopPhrase.Funsigs binds at) = refl
 
-with_env : Env → Top → Top
+abbrev with_env : Env → Top → Top
 with_env env top = record {
   env = env;
   signatures = top.signatures;
@@ -50,9 +51,6 @@ with_env env top = record {
 
 nothing_closed : IsClosedEnv empty_env
 nothing_closed = Rattle.static_semantics.proofs.Holding.has_nothing IsClosedScheme IsClosedFunction
-
-after_nothing : (top : Top) → top_with top empty_top ≡ top
-after_nothing top = ap (λ (env : Env). with_env env top) (with_nothing top.env)
 
 -- a declaration alone, as a unit over what is in scope
 abbrev alone_unit : List ℕ → Top → TopPhrase → Progress → Answer (Top × Progress)
@@ -88,7 +86,7 @@ structures_at : (home : List ℕ) (top : Top) (binds : ModuleBinds) (made : Env)
 structures_at home top ModuleBinds.EndOfBinds made st h = h
 structures_at home top (ModuleBinds.Bind name str rest) made st h =
     always (λ r. IsAtTop every home top r.1) _ _ (λ u.
-    Rattle.module_elab.proofs.Turns.regrouped (λ r. IsAtTop every home top r.1) _ _ _
+    regrouped (λ r. IsAtTop every home top r.1) _ _ _
     (given_then (λ r. IsAtTop every home top r.1) (λ r. IsAtTop every home top r.1) _ _
     (structure_at_top home top name str st h) (λ e k. structures_at home top rest _ e.1 k)))
 
@@ -105,7 +103,7 @@ functors_at : (home : List ℕ) (top : Top) (binds : List FunPhrase) (made : Nam
 functors_at home top [] made st h = h
 functors_at home top (bind ∷ binds) made st h =
     always (λ r. IsAtTop every home top r.1) _ _ (λ u.
-    Rattle.module_elab.proofs.Turns.regrouped (λ r. IsAtTop every home top r.1) _ _ _
+    regrouped (λ r. IsAtTop every home top r.1) _ _ _
     (given_then (λ r. IsAtTop every home top r.1) (λ r. IsAtTop every home top r.1) _ _
     (functor_at_top home top bind st h) (λ r k. functors_at home top binds _ r.1 k)))
 
@@ -114,7 +112,7 @@ funsigs_at : (home : List ℕ) (top : Top) (binds : List FunsigPhrase) (made : N
 funsigs_at home top [] made st h = h
 funsigs_at home top (bind ∷ binds) made st h =
     always (λ r. IsAtTop every home top r.1) _ _ (λ u.
-    Rattle.module_elab.proofs.Turns.regrouped (λ r. IsAtTop every home top r.1) _ _ _
+    regrouped (λ r. IsAtTop every home top r.1) _ _ _
     (given_then (λ r. IsAtTop every home top r.1) (λ r. IsAtTop every home top r.1) _ _
     (funsig_at_top home top bind st h) (λ r k. funsigs_at home top binds _ r.1 k)))
 

@@ -1,5 +1,6 @@
-pub mod Lasting
 pub mod Turns
+pub mod Lasting
 pub mod Defining
 pub mod Declared
+pub mod Alone
 pub mod Starting

@@ -17,7 +17,7 @@ regrouped R None n k h = h
 regrouped R (Some (Err d)) n k h = h
 regrouped R (Some (Ok r)) n k h = h
 
-top_is : (d e : Env) (s t : Named Signature) (f h : Named Functor) (k l : Named Functor) → d ≡ e → s ≡ t → f ≡ h
+pub top_is : (d e : Env) (s t : Named Signature) (f h : Named Functor) (k l : Named Functor) → d ≡ e → s ≡ t → f ≡ h
     → k ≡ l
     → (let a : Top = record { env = d; signatures = s; functors = f; funsigs = k } in a)
     ≡ (let b : Top = record { env = e; signatures = t; functors = h; funsigs = l } in b)

@@ -56,7 +56,8 @@ fn structures_made(
 pub fn make_defined(alloc: Global, g: &mut EnvGraph, defined: &Defined) -> Result<TopId, NoMemory>
     requires { IsDefinedIn g.old defined.now }
     ensures ok { IfOk result (GivesTop g.old g.new (defined_top g.old defined.now)) }
-    ensures err { OnErr result (Keeps g.old g.new × (g.new.home ≡ g.old.home)) }
+    ensures kept { OnErr result (Keeps g.old g.new) }
+    ensures home { OnErr result (g.new.home ≡ g.old.home) }
 {
     let signatures = signature_rows(alloc, defined.signatures.rows())?;
     let functors = functor_rows(alloc, defined.functors.rows())?;
