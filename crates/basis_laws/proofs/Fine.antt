@@ -1,6 +1,6 @@
 -- Types, entries and tables in which names of the basis alone stand, and no variables but their own: a test of each that
 -- computes, and what holds where it passes.
-use Rattle.std.proofs.Common.{◌≡◌, ℕ, List, [], ◌∷◌, length, refl, sym, ◌∙◌, ap, Bool, true, false, ◌||◌, ◌&&◌, not}
+use Rattle.std.proofs.Common.{◌≡◌, ℕ, List, [], ◌∷◌, length, refl, sym, ◌∙◌, ap, arith, Bool, true, false, ◌||◌, ◌&&◌, not}
 use Rattle.std.specs.Prelude.{ltb, eqb, ◌<◌}
 use Rattle.std.proofs.lemmas.Bool.{ltb-true, eqb-true}
 use Rattle.std.specs.FinMap.{is_sorted}
@@ -24,12 +24,12 @@ use Rattle.table_laws.specs.Rising.{RisingType, con_table}
 
 -- ---- types
 
-is_of_basis : Owner → Bool
+abbrev pub is_of_basis : Owner → Bool
 is_of_basis owner.Basis = true
 is_of_basis (owner.«Unit» unit) = false
 is_of_basis owner.Bound = false
 
-abbrev symbol_fine : Symbol → Bool
+abbrev pub symbol_fine : Symbol → Bool
 symbol_fine symbol.Arrow = true
 symbol_fine (symbol.Record labels) = true
 symbol_fine (symbol.Name name) = is_of_basis name.owner
@@ -113,7 +113,7 @@ scheme_fine σ = fine (length σ.marks) σ.body
 abbrev pub function_fine : TypeFn → Bool
 function_fine function = fine function.arity function.body
 
-abbrev cons_fine : List ConEntry → Bool
+abbrev pub cons_fine : List ConEntry → Bool
 cons_fine [] = true
 cons_fine (con ∷ cons) = scheme_fine con.scheme && cons_fine cons
 
