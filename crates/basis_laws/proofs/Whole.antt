@@ -30,7 +30,7 @@ lines_rise lines = rising_of [] [] (with_all (value_rows (values_of basis_names 
 structures_rise : (nobasis : Bool) → AllRows RisingEnv (chosen nobasis)
 unfolding basis_structures
 structures_rise true = tt
-structures_rise false = (lines_rise int_lines, lines_rise string_lines, lines_rise char_lines, tt)
+structures_rise false = (lines_rise int_lines, (lines_rise string_lines, (lines_rise char_lines, tt)))
 
 pub basis_rises : (nobasis : Bool) → RisingEnv (basis_env nobasis)
 unfolding basis_env
@@ -56,7 +56,7 @@ module _ (S : TypeScheme → Type 0) (F : TypeFn → Type 0) (s : (σ : TypeSche
   unfolding basis_structures
   structures_have true = tt
   structures_have false =
-      (lines_have int_lines int_fine, lines_have string_lines string_fine, lines_have char_lines char_fine, tt)
+      (lines_have int_lines int_fine, (lines_have string_lines string_fine, (lines_have char_lines char_fine, tt)))
 
   pub basis_has : (nobasis : Bool) → EnvHas S F (basis_env nobasis)
   unfolding basis_env
