@@ -2,7 +2,7 @@ use Rattle.std.proofs.Common.{◌≡◌, subst}
 use Rattle.type_nodes.specs.Tables.{state}
 use Rattle.type_walks.specs.Replaced.{rows_of}
 use Rattle.semantic_objects.specs.Environments.{Signature}
-use Rattle.sml_modules.specs.Graphs.{env_at}
+use Rattle.sml_modules.specs.Graphs.{env_at, signature_at}
 use Rattle.static_semantics.specs.Inferring.{Scope}
 use Rattle.static_semantics.specs.EnvironmentsPut.{put_env}
 use Rattle.module_semantics.specs.Matching.{matching}
