@@ -1,5 +1,5 @@
 -- The rows of the initial basis pass the tests.
-use Rattle.std.proofs.Common.{◌≡◌, refl, List, true}
+use Rattle.std.proofs.Common.{◌≡◌, refl, true}
 use Rattle.semantic_objects.specs.declared.entry.VidStatus.TheVariants.{Variable}
 use Rattle.sml_modules.specs.Graphs.{type_rows, value_rows}
 use Rattle.initial_basis.specs.Table.{type_lines, constructor_lines, exception_lines, value_lines, int_lines, string_lines, char_lines}

@@ -1,12 +1,11 @@
 -- Types, entries and tables in which names of the basis alone stand, and no variables but their own: a test of each that
 -- computes, and what holds where it passes.
-use Rattle.std.proofs.Common.{◌≡◌, ℕ, List, [], ◌∷◌, length, refl, sym, ◌∙◌, ap, arith, Bool, true, false, ◌||◌, ◌&&◌, not}
-use Rattle.std.specs.Prelude.{ltb, eqb, ◌<◌}
+use Rattle.std.proofs.Common.{◌≡◌, ℕ, List, [], ◌∷◌, length, refl, ap, arith, Bool, true, false, ◌||◌, ◌&&◌, not}
+use Rattle.std.specs.Prelude.{ltb, ◌<◌}
 use Rattle.std.proofs.lemmas.Bool.{ltb-true, eqb-true}
 use Rattle.std.specs.FinMap.{is_sorted}
 use Rattle.semantic_objects.specs.declared.name.Owner.{Owner}
 use Rattle.semantic_objects.specs.declared.name.Owner.TheVariants as owner
-use Rattle.semantic_objects.specs.declared.name.TyName.{TyName}
 use Rattle.semantic_objects.specs.declared.symbol.Symbol.{Symbol}
 use Rattle.semantic_objects.specs.declared.symbol.Symbol.TheVariants as symbol
 use Rattle.semantic_objects.specs.declared.entry.ConEntry.{ConEntry}
@@ -14,7 +13,7 @@ use Rattle.semantic_objects.specs.declared.entry.TypeFn.{TypeFn}
 use Rattle.semantic_objects.specs.declared.entry.TypeStr.{TypeStr}
 use Rattle.semantic_objects.specs.declared.entry.ValueEntry.{ValueEntry}
 use Rattle.semantic_objects.specs.Tables.{Table, by_bytes}
-use Rattle.semantic_objects.specs.Trees.{Tree, Trees, TypeScheme, BindsBelow, binds, binds_any}
+use Rattle.semantic_objects.specs.Trees.{Tree, Trees, TypeScheme, binds, binds_any}
 use Rattle.env_parts.specs.Types.{holds_free, any_holds_free}
 use Rattle.unification.proofs.Walking.{or_left, and_left, and_right, or_either}
 use Rattle.static_semantics.specs.DatatypeInference.{same_as_home}

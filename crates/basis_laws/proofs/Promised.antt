@@ -1,17 +1,16 @@
 -- The laws, as the public function of this crate states them.
-use Rattle.std.proofs.Common.{◌≡◌, ℕ, refl, sym, ap, subst, List, [], Bool, false}
+use Rattle.std.proofs.Common.{◌≡◌, ℕ, refl, sym, ap, subst, List, [], Bool}
 use Rattle.semantic_objects.specs.Environments.{Top, empty_top}
-use Rattle.unification.specs.Types.{Ty, State}
+use Rattle.unification.specs.Types.{Ty}
 use Rattle.unification.specs.Fitting.{IsFit}
 use Rattle.type_nodes.specs.declared.entry.Entry.{Entry}
 use Rattle.type_nodes.specs.Nodes.{made, born}
 use Rattle.type_nodes.specs.Tables.{Table, state, after_entries}
 use Rattle.static_semantics.specs.Inferring.{Progress}
 use Rattle.static_semantics.proofs.Holding.{has_modified}
-use Rattle.inference_laws.specs.Nodes.{EnvOf, StateOf, SchemeOf, FunctionOf, TyOf, below_number}
+use Rattle.inference_laws.specs.Nodes.{EnvOf, SchemeOf, FunctionOf, TyOf, below_number}
 use Rattle.inference_laws.proofs.WellFormed.{below_admits}
 use Rattle.unit_semantics.specs.Promises.{IsClosedScheme, IsClosedFunction, IsClosedEnv}
-use Rattle.unit_semantics.specs.UnitInference.{with_given}
 use Rattle.unit_derivations.specs.Promises.{every, IsGiven}
 use Rattle.initial_basis.specs.Basis.{basis_env}
 use Rattle.basis_laws.specs.Promises.{MayBeGiven, with_table, UnitsBeginWithTheBasis}

@@ -1,6 +1,6 @@
 -- The initial basis as a whole: what holds of its entries holds of it.
-use Rattle.std.proofs.Common.{◌≡◌, refl, List, [], ◌∷◌, Bool, true, false}
-use Rattle.std.specs.Prelude.{if◌then◌else◌, codes, ℕ}
+use Rattle.std.proofs.Common.{◌≡◌, refl, List, [], Bool, true, false}
+use Rattle.std.specs.Prelude.{if◌then◌else◌, ℕ}
 use Rattle.semantic_objects.specs.declared.entry.TypeFn.{TypeFn}
 use Rattle.semantic_objects.specs.declared.entry.VidStatus.TheVariants.{Variable}
 use Rattle.semantic_objects.specs.Tables.{Table, with_all}
@@ -36,9 +36,11 @@ pub basis_rises : (nobasis : Bool) → RisingEnv (basis_env nobasis)
 unfolding basis_env
 basis_rises nobasis = rising_of (with_all (chosen nobasis) []) (with_all (type_rows basis_types) [])
     (with_all (value_rows basis_values) [])
-    (all_kept (chosen nobasis) [] refl, rows_with_all RisingEnv (chosen nobasis) [] (structures_rise nobasis) tt)
-    (all_kept (type_rows basis_types) [] refl, rows_with_all RisingType (type_rows basis_types) []
-    (rows_hold type_rises RisingType type_rising (type_rows basis_types) types_rise) tt)
+    (all_kept (chosen nobasis) [] refl, rows_with_all RisingEnv (chosen nobasis) [] (structures_rise nobasis) tt) (
+      all_kept (type_rows basis_types) [] refl,
+      rows_with_all RisingType (type_rows basis_types) []
+          (rows_hold type_rises RisingType type_rising (type_rows basis_types) types_rise) tt,
+    )
     (all_kept (value_rows basis_values) [] refl)
 
 -- ---- what holds of fine schemes and type functions holds of the basis
@@ -48,9 +50,13 @@ module _ (S : TypeScheme → Type 0) (F : TypeFn → Type 0) (s : (σ : TypeSche
   lines_have : (lines : List (List ℕ))
       → rows_pass value_fine (value_rows (values_of basis_names Variable (rows_of lines))) ≡ true
       → EnvHas S F (env_of_lines lines)
-  lines_have lines h = (tt, tt, rows_with_all (ValueHas S) (value_rows (values_of basis_names Variable (rows_of lines))) []
-      (rows_hold value_fine (ValueHas S) (value_has S F s f)
-      (value_rows (values_of basis_names Variable (rows_of lines))) h) tt)
+  lines_have lines h = (
+    tt,
+    tt,
+    rows_with_all (ValueHas S) (value_rows (values_of basis_names Variable (rows_of lines))) []
+        (rows_hold value_fine (ValueHas S) (value_has S F s f)
+        (value_rows (values_of basis_names Variable (rows_of lines))) h) tt,
+  )
 
   structures_have : (nobasis : Bool) → AllRows (EnvHas S F) (chosen nobasis)
   unfolding basis_structures
