@@ -56,9 +56,10 @@ cons_closed (con ∷ cons) h = (
 types_closed : (rows : Table TypeStr) → All IsTypeRow rows → AllRows (TypeHas IsClosedScheme IsClosedFunction) rows
 types_closed [] h = tt
 types_closed (row ∷ rows) h =
-    let str = All-head IsTypeRow row rows h in
-    ((no_variable _ row.1.function.body str.function.body, cons_closed row.1.cons str.cons),
-    types_closed rows (All-tail IsTypeRow row rows h))
+    let str = All-head IsTypeRow row rows h in (
+      (no_variable _ row.1.function.body str.function.body, cons_closed row.1.cons str.cons),
+      types_closed rows (All-tail IsTypeRow row rows h),
+    )
 
 values_closed : (rows : Table ValueEntry) → All IsValueRow rows → AllRows (ValueHas IsClosedScheme) rows
 values_closed [] h = tt

@@ -104,10 +104,13 @@ types_may : (q : Nodes) (rows : Table TypeStr) → All IsTypeRow rows → AllIte
 types_may q [] h k = tt
 types_may q (row ∷ rows) h k =
     let str = All-head IsTypeRow row rows h in
-    let own = front (TreeOf q) (type_types row.1) (types_in_types rows) k in
-    ((record { closed = binds_below _ row.1.function.body str.function.body; body = own.0 },
-    cons_may q row.1.cons str.cons own.1),
-    types_may q rows (All-tail IsTypeRow row rows h) (back (TreeOf q) (type_types row.1) (types_in_types rows) k))
+    let own = front (TreeOf q) (type_types row.1) (types_in_types rows) k in (
+      (
+        record { closed = binds_below _ row.1.function.body str.function.body; body = own.0 },
+        cons_may q row.1.cons str.cons own.1,
+      ),
+      types_may q rows (All-tail IsTypeRow row rows h) (back (TreeOf q) (type_types row.1) (types_in_types rows) k),
+    )
 
 values_may : (q : Nodes) (rows : Table ValueEntry) → All IsValueRow rows → AllItems (TreeOf q) (types_in_values rows)
     → AllRows (ValueHas (SchemeOf q)) rows
@@ -120,10 +123,11 @@ values_may q (row ∷ rows) h k = (
 mutual
   env_of_types : (q : Nodes) (env : Env) → IsEnv env → AllItems (TreeOf q) (types_in env) → EnvOf q env
   env_of_types q (Env.MakeEnv ss ts vs) h k =
-      let rest = back (TreeOf q) (types_in_structures ss) (types_in_types ts ++ types_in_values vs) k in
-      (structures_of_types q ss h.1 (front (TreeOf q) (types_in_structures ss) (types_in_types ts ++ types_in_values vs) k),
-      types_may q ts h.0.types (front (TreeOf q) (types_in_types ts) (types_in_values vs) rest),
-      values_may q vs h.0.values (back (TreeOf q) (types_in_types ts) (types_in_values vs) rest))
+      let rest = back (TreeOf q) (types_in_structures ss) (types_in_types ts ++ types_in_values vs) k in (
+        structures_of_types q ss h.1 (front (TreeOf q) (types_in_structures ss) (types_in_types ts ++ types_in_values vs) k),
+        types_may q ts h.0.types (front (TreeOf q) (types_in_types ts) (types_in_values vs) rest),
+        values_may q vs h.0.values (back (TreeOf q) (types_in_types ts) (types_in_values vs) rest),
+      )
 
   structures_of_types : (q : Nodes) (ss : Structures) → AreEnvs ss → AllItems (TreeOf q) (types_in_structures ss)
       → StructuresHave (SchemeOf q) (FunctionOf q) ss

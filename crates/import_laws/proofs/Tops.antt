@@ -155,9 +155,10 @@ signatures_rise (row ∷ rows) h =
 functors_rise : (rows : Table Functor) → All IsFunctorRow rows → AllRows RisingFunctor rows
 functors_rise [] h = tt
 functors_rise (row ∷ rows) h =
-    let fun = All-head IsFunctorRow row rows h in
-    ((env_rises row.1.param fun.param, env_rises row.1.result fun.result),
-    functors_rise rows (All-tail IsFunctorRow row rows h))
+    let fun = All-head IsFunctorRow row rows h in (
+      (env_rises row.1.param fun.param, env_rises row.1.result fun.result),
+      functors_rise rows (All-tail IsFunctorRow row rows h),
+    )
 
 pub top_rises : (top : Top) → HasTables top → RisingTop top
 top_rises top h = record {
@@ -175,9 +176,10 @@ signatures_closed (row ∷ rows) h =
 functors_closed : (rows : Table Functor) → All IsFunctorRow rows → AllRows IsClosedFunctor rows
 functors_closed [] h = tt
 functors_closed (row ∷ rows) h =
-    let fun = All-head IsFunctorRow row rows h in
-    (record { param = env_closed row.1.param fun.param; result = env_closed row.1.result fun.result },
-    functors_closed rows (All-tail IsFunctorRow row rows h))
+    let fun = All-head IsFunctorRow row rows h in (
+      record { param = env_closed row.1.param fun.param; result = env_closed row.1.result fun.result },
+      functors_closed rows (All-tail IsFunctorRow row rows h),
+    )
 
 pub top_closed : (top : Top) → HasTables top → IsClosedTop top
 top_closed top h = record {
