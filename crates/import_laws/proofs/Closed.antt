@@ -1,15 +1,15 @@
 -- No variable of a table stands in a type that meets the rules of interfaces, and its own are below the count.
-use Rattle.std.proofs.Common.{◌≡◌, ℕ, ◌<◌, List, [], ◌∷◌, Bool, true, false, ◌||◌, eqb, refl, sym, ap, ap₂, ◌∙◌, subst, All}
+use Rattle.std.proofs.Common.{◌≡◌, ℕ, ◌<◌, List, [], ◌∷◌, Bool, true, false, ◌||◌, eqb, refl, sym, ap₂, subst, All}
+use Rattle.std.proofs.lemmas.Bool.{eqb-true}
 use Rattle.std.proofs.lemmas.List.Elements.{All-head, All-tail}
 use Rattle.semantic_objects.specs.declared.entry.ConEntry.{ConEntry}
-use Rattle.semantic_objects.specs.declared.entry.TypeFn.{TypeFn}
 use Rattle.semantic_objects.specs.declared.entry.TypeStr.{TypeStr}
 use Rattle.semantic_objects.specs.declared.entry.ValueEntry.{ValueEntry}
 use Rattle.semantic_objects.specs.Tables.{Table}
 use Rattle.semantic_objects.specs.Trees.{Tree, Trees, binds, binds_any, BindsBelow}
 use Rattle.semantic_objects.specs.Environments.{Env, Structures}
 use Rattle.env_parts.specs.Types.{holds_free, any_holds_free}
-use Rattle.static_semantics.specs.Holding.{AllItems, AllRows, ConHas, TypeHas, ValueHas, EnvHas, StructuresHave}
+use Rattle.static_semantics.specs.Holding.{AllItems, AllRows, ConHas, TypeHas, ValueHas, StructuresHave}
 use Rattle.unit_semantics.specs.Promises.{IsClosedScheme, IsClosedFunction, IsClosedEnv}
 use Rattle.interface_format.specs.Rules.{IsType, AreTypes, IsClosed, IsTypeRow, IsValueRow, IsEnv, AreEnvs}
 
@@ -28,7 +28,7 @@ mutual
       neither (holds_free t) (any_holds_free ts) (no_variable count t h.0) (no_variables count ts h.1)
 
 equal : (i j : ℕ) → eqb i j ≡ true → j ≡ i
-equal i j h = omega (arith, h)
+equal i j h = sym (eqb-true i j h)
 
 either : {P : Type 0} (a b : Bool) → (a || b) ≡ true → (a ≡ true → P) → (b ≡ true → P) → P
 either true b h f g = f refl

@@ -1,9 +1,8 @@
 -- What holds of all items of two lists together.
-use Rattle.std.proofs.Common.{◌≡◌, ℕ, List, [], ◌∷◌, ◌++◌, map, Bool, true, false, not, ◌&&◌, refl, All, filter, cond}
+use Rattle.std.proofs.Common.{◌≡◌, List, [], ◌∷◌, ◌++◌, Bool, true, false, ◌&&◌, refl, All, filter, cond}
 use Rattle.std.proofs.lemmas.List.Elements.{All-head, All-tail}
 use Rattle.std.specs.List.{list_all}
-use Rattle.semantic_objects.specs.Tables.{Table}
-use Rattle.static_semantics.specs.Holding.{AllItems, AllRows}
+use Rattle.static_semantics.specs.Holding.{AllItems}
 
 pub front : {A : Type 0} (R : A → Type 0) (xs ys : List A) → AllItems R (xs ++ ys) → AllItems R xs
 front R [] ys h = tt

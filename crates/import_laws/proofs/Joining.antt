@@ -1,18 +1,18 @@
 -- What is imported stays as the elaboration of a unit asks, name by name.
-use Rattle.std.proofs.Common.{◌≡◌, ℕ, List, [], ◌∷◌, Option, Some, None, Bool, refl, subst}
+use Rattle.std.proofs.Common.{ℕ, List, Option, Some, None}
 use Rattle.cm_base.specs.declared.record.Namespace.{Namespace}
 use Rattle.cm_base.specs.declared.record.Namespace.TheVariants as space
-use Rattle.semantic_objects.specs.Tables.{Table, entry}
-use Rattle.semantic_objects.specs.Environments.{Env, Signature, Functor, Top, structures, types, values, with_structure, empty_env, empty_top}
+use Rattle.semantic_objects.specs.Tables.{Table}
+use Rattle.semantic_objects.specs.Environments.{Env, Top, structures}
 use Rattle.static_semantics.specs.Holding.{IfSome, AllRows, EnvHas}
-use Rattle.static_semantics.proofs.Holding.{rows_with, rows_found, has_structures, has_types, has_values, has_nothing, table_structures}
+use Rattle.static_semantics.proofs.Holding.{rows_with, rows_found, has_structures, has_types, has_values, table_structures}
 use Rattle.semantic_objects.specs.declared.entry.TypeFn.{TypeFn}
 use Rattle.semantic_objects.specs.Trees.{TypeScheme}
-use Rattle.inference_laws.specs.Nodes.{Nodes, SchemeOf, FunctionOf, EnvOf, below_number}
+use Rattle.inference_laws.specs.Nodes.{Nodes, SchemeOf, FunctionOf, EnvOf}
 use Rattle.unit_semantics.specs.Promises.{IsClosedScheme, IsClosedFunction, IsClosedEnv, IsClosedSignature, IsClosedFunctor, IsClosedTop}
 use Rattle.unit_laws.specs.Parts.{SignatureOf, FunctorOf, TopOf}
 use Rattle.table_laws.specs.Rising.{TableWith, RisingEnv, RisingSignature, RisingFunctor, RisingTop}
-use Rattle.table_laws.proofs.Tables.{table_with, rising_structures, rising_nothing, rising_with_structure}
+use Rattle.table_laws.proofs.Tables.{table_with, rising_structures, rising_with_structure}
 use Rattle.imported_interfaces.specs.Imported.{with_found, with_found_structure, with_under}
 
 -- ---- of rows and of environments

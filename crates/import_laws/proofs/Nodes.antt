@@ -1,5 +1,5 @@
 -- Where no name in an environment is the unit's own, each of its nodes may stand whatever number the unit is at.
-use Rattle.std.proofs.Common.{◌≡◌, ℕ, List, [], ◌∷◌, ◌++◌, Bool, true, false, not, ◌&&◌, ◌||◌, ltb, eqb, refl, sym, ap, ◌∙◌, All}
+use Rattle.std.proofs.Common.{◌≡◌, ℕ, List, [], ◌∷◌, ◌++◌, Bool, true, false, not, ◌||◌, ltb, refl, ap, ◌∙◌, All}
 use Rattle.std.proofs.lemmas.List.Elements.{All-head, All-tail}
 use Rattle.semantic_objects.specs.declared.name.Owner.{Owner}
 use Rattle.semantic_objects.specs.declared.name.Owner.TheVariants as owner
@@ -11,9 +11,9 @@ use Rattle.semantic_objects.specs.declared.entry.TypeStr.{TypeStr}
 use Rattle.semantic_objects.specs.declared.entry.ValueEntry.{ValueEntry}
 use Rattle.semantic_objects.specs.Symbols.{same_owner}
 use Rattle.semantic_objects.specs.Tables.{Table}
-use Rattle.semantic_objects.specs.Trees.{Tree, Trees, TypeScheme}
+use Rattle.semantic_objects.specs.Trees.{Tree, Trees}
 use Rattle.semantic_objects.specs.Environments.{Env, Structures}
-use Rattle.env_parts.specs.Types.{types_in, types_in_structures, types_in_types, types_in_values, type_types, con_types, value_types}
+use Rattle.env_parts.specs.Types.{types_in, types_in_structures, types_in_types, types_in_values, type_types, con_types}
 use Rattle.realisation.specs.Names.{names_in, names_in_all, names_in_list, names_of_symbol}
 use Rattle.realisation.specs.Canonical.{is_own}
 use Rattle.static_semantics.specs.DatatypeInference.{same_as_home}

@@ -1,6 +1,5 @@
 -- The law, as the public function of this crate states it.
-use Rattle.std.proofs.Common.{◌≡◌, ℕ, List, [], ◌∷◌, Option, Some, None, Result, Ok, Err, Bool, true, false, not, ◌&&◌, refl, sym, ap, ◌∙◌, subst}
-use Rattle.std.specs.List.{list_all}
+use Rattle.std.proofs.Common.{◌≡◌, ℕ, List, [], ◌∷◌, Option, Some, None, Result, Ok, Err, Bool, true, false, not, refl, subst}
 use Rattle.cm_base.specs.declared.record.Given.{Given}
 use Rattle.semantic_objects.specs.declared.name.TyName.{TyName}
 use Rattle.semantic_objects.specs.declared.name.Owner.{Owner}
@@ -9,7 +8,7 @@ use Rattle.semantic_objects.specs.Symbols.{same_owner}
 use Rattle.semantic_objects.specs.Environments.{Top, empty_top}
 use Rattle.env_parts.specs.Types.{is_bound}
 use Rattle.realisation.specs.Names.{names_in_top}
-use Rattle.realisation.specs.Canonical.{is_own, is_bound_name}
+use Rattle.realisation.specs.Canonical.{is_own}
 use Rattle.static_semantics.specs.Inferring.{Progress}
 use Rattle.static_semantics.proofs.Holding.{has_nothing}
 use Rattle.inference_laws.specs.Nodes.{SchemeOf, FunctionOf, below_number}
@@ -20,8 +19,8 @@ use Rattle.interface_format.specs.Interfaces.{IsInterface}
 use Rattle.interface_format.specs.Rules.{is_not_bound}
 use Rattle.interface_tops.specs.Tops.{interface_top}
 use Rattle.interface_tops.proofs.Tops.{have_tops}
-use Rattle.imported_interfaces.specs.Usable.{written, has_module, is_of_another, writes_the_basis, writes_no_name_of, agree_with, names_fit, is_usable, usable_if, usable_of, usable_top}
-use Rattle.imported_interfaces.specs.Imported.{Imports, with_imported, with_import, imported_or, imported_one, then, imported_after, imported, no_imports}
+use Rattle.imported_interfaces.specs.Usable.{written, has_module, is_of_another, writes_the_basis, writes_no_name_of, is_usable, usable_if, usable_of, usable_top}
+use Rattle.imported_interfaces.specs.Imported.{Imports, with_import, imported_or, imported_one, then, imported_after, no_imports}
 use Rattle.basis_laws.specs.Promises.{MayBeGiven}
 use Rattle.import_laws.specs.Promises.{ImportsMayBeGiven}
 use Rattle.import_laws.proofs.Items.{and_left, and_right, all_picked}

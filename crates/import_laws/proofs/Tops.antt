@@ -1,20 +1,19 @@
 -- What an interface says is as the elaboration of a unit asks, if no name in it is the unit's own.
-use Rattle.std.proofs.Common.{◌≡◌, ℕ, suc, ◌+◌, List, [], ◌∷◌, ◌++◌, length, map, filter, Bool, true, false, not, ◌||◌, cond, refl, sym, ap, ◌∙◌, subst, All}
+use Rattle.std.proofs.Common.{◌≡◌, ℕ, suc, ◌+◌, List, [], ◌∷◌, ◌++◌, length, filter, Bool, true, false, not, cond, refl, arith, sym, subst, All}
 use Rattle.std.proofs.lemmas.List.Elements.{All-head, All-tail}
-use Rattle.std.specs.List.{range_with_len}
 use Rattle.semantic_objects.specs.declared.name.Owner.{Owner}
 use Rattle.semantic_objects.specs.declared.name.Owner.TheVariants as owner
 use Rattle.semantic_objects.specs.declared.name.TyName.{TyName}
-use Rattle.semantic_objects.specs.Tables.{Table, names_of}
+use Rattle.semantic_objects.specs.Tables.{Table}
 use Rattle.semantic_objects.specs.Environments.{Signature, Functor, Top}
 use Rattle.env_parts.specs.Types.{is_bound}
 use Rattle.realisation.specs.Names.{names_in_env, names_in_functor, names_in_signatures, names_in_functors, names_in_top, once, is_listed}
 use Rattle.realisation.specs.Canonical.{is_bound_name, met}
 use Rattle.static_semantics.specs.Holding.{AllItems, AllRows}
-use Rattle.inference_laws.specs.Nodes.{Nodes, below_number}
+use Rattle.inference_laws.specs.Nodes.{Nodes}
 use Rattle.unit_semantics.specs.Promises.{IsClosedSignature, IsClosedFunctor, IsClosedTop}
 use Rattle.unit_laws.specs.Parts.{allowing, AreBoundFrom, SignatureOf, FunctorOf, TopOf}
-use Rattle.table_laws.specs.Rising.{TableWith, RisingSignature, RisingFunctor, RisingTop}
+use Rattle.table_laws.specs.Rising.{RisingSignature, RisingFunctor, RisingTop}
 use Rattle.interface_format.specs.Rules.{AreNumbered, is_beyond, IsSignature, IsFunctor, IsSignatureRow, IsFunctorRow, HasTables}
 use Rattle.import_laws.proofs.Items.{front, back, and_left}
 use Rattle.import_laws.proofs.Rising.{is_table, env_rises}
