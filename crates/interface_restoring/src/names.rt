@@ -7,8 +7,8 @@ ghost use Rattle.realisation.specs.Names.{names_in_env};
 ghost use Rattle.realisation.specs.Canonical.{is_own, is_bound_name};
 ghost use Rattle.interface_format.specs.Rules.{AreNumbered, Agree, HasNames};
 ghost use Rattle.canonical_interfaces.specs.Fair.{is_other};
-ghost use Rattle.imported_interfaces.specs.Known.{AreKept};
-ghost use Rattle.interface_restoring.specs.Names.{NotesName};
+ghost use Rattle.imported_interfaces.specs.Known.{AreKept, standing, with_new};
+ghost use Rattle.interface_restoring.specs.Names.{is_one};
 
 use canonical_types::{bound_names, own_names};
 use canonical_walks::envs_of;
@@ -56,7 +56,9 @@ fn other_names(alloc: Global, names: &List<TyName>, home: &Text) -> Result<List<
 fn note(known: &mut KnownNames, name: &TyName) -> Result<bool, NoMemory>
     requires { AreKept known.old }
     ensures kept { OnOk result (AreKept known.new) }
-    ensures notes { IfOk result (NotesName known.old.names name.now known.new.names) }
+    ensures names { OnOk result
+        (known.new.names ≡ with_new (standing name.now known.old.names) known.old.names name.now) }
+    ensures one { IfOk result (λ one. one ≡ is_one (standing name.now known.old.names)) }
 {
     match known.standing(name)? {
         Standing::New => {

@@ -23,7 +23,7 @@ fn behind_mark(bytes: &[u8]) -> Option<&[u8]>
         return None;
     }
     let (mark, rest) = bytes.split_at(4);
-    if mark != b"CMI1" {
+    if mark != b"CMI1".as_slice() {
         return None;
     }
     Some(rest)

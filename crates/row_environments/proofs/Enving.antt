@@ -110,7 +110,7 @@ values_hold home [] (x ∷ xs) h = absurd h
 values_hold home (r ∷ rows) [] h = absurd h
 values_hold home (r ∷ rows) (x ∷ xs) h = All-cons IsValueRow x xs h.0.scheme.rules (values_hold home rows xs h.1)
 
-table_back : (xs : Table Env) → table_of (structures_of xs) ≡ xs
+pub table_back : (xs : Table Env) → table_of (structures_of xs) ≡ xs
 table_back [] = refl
 table_back (x ∷ xs) = ap (λ z. x ∷ z) (table_back xs)
 

@@ -49,7 +49,7 @@ use Rattle.row_environments.proofs.Staying.{placed_more}
 same_names : (m n : List ℕ) (ms ns : List (List ℕ)) → m ≡ n → ms ≡ ns → m ∷ ms ≡ n ∷ ns
 same_names m n ms ns e f = cc
 
-row_names : {A : Type 0} (Is : Node → A → Type 0) (made : List Node) (table : List NamedPlace) (xs : Table A)
+pub row_names : {A : Type 0} (Is : Node → A → Type 0) (made : List Node) (table : List NamedPlace) (xs : Table A)
     → RowsAre Is (rows_at made table) xs → map name_of table ≡ names_of xs
 row_names Is made table xs h = sym (table_names made table) ∙ rows_names Is (rows_at made table) xs h
 
