@@ -27,12 +27,14 @@ use Rattle.row_forms.specs.declared.modules.FunctorForm.{FunctorForm}
 use Rattle.row_forms.specs.Forms.{IsForm, NeverForm, with_counted, FitsCounted, counted_at, with_functor, FitsFunctor, functor_at}
 use Rattle.row_entries.specs.Told.{ToldAt}
 use Rattle.row_entries.proofs.Found.{row_is}
-use Rattle.row_environments.specs.Placed.{IsEnvOf, StandsFor, PlaceOrNone, AreAllPlaced, ArePlaced}
+use Rattle.row_environments.specs.Placed.{IsEnvOf, StandsFor, PlaceOrNone, AreAllPlaced, ArePlaced, HavePlaces}
 use Rattle.row_environments.specs.Answers.{PlacesRow}
+use Rattle.sml_modules.proofs.Unfolding.{Never}
 use Rattle.row_environments.proofs.Placing.{placed_at}
+use Rattle.row_environments.proofs.Valued.{values_kept}
 use Rattle.row_environments.proofs.Staying.{place_more, all_more, all_push, placed_more}
 use Rattle.row_binders.specs.declared.rows.BinderRows.{BinderRows}
-use Rattle.row_binders.specs.Binders.{IsSignatureOf, IsFunctorOf, AreCounted, FindsSignature, FindsFunctor, AreEnvsPlaced, FormsSignature, FormsFunctor, PlacesSignature, PlacesFunctor, AreBound, PlacesBinder}
+use Rattle.row_binders.specs.Binders.{IsSignatureOf, IsFunctorOf, AreCounted, FindsSignature, FindsFunctor, AreEnvsPlaced, FormsSignature, FormsFunctor, PlacesSignature, PlacesFunctor, HaveEnvs, AreBound, HaveBound, PlacesBinder}
 
 content_same : (s t : ℕ) (c d : Content) → Node.node s c ≡ Node.node t d → c ≡ d
 content_same s t c d e = cc
@@ -357,9 +359,32 @@ binder_placed home a b c d old new row signature functor e f g s k t m n made h 
           (place_more IsFunctor as_functor (IsFunctorOf home x) (λ z. z) c d functor g (k home made at_b.envs)) n;
     }
   where
-    more : {A : Type 0} (Kind : Item → Type 0) (read : Item → A) (Is : Node → A → Type 0)
-        → Rattle.sml_modules.proofs.Unfolding.Never Kind → (told : List (Option ℕ))
-        → AreAllPlaced Kind read Is a.items made told → AreAllPlaced Kind read Is d.items made told
+    more : {A : Type 0} (Kind : Item → Type 0) (read : Item → A) (Is : Node → A → Type 0) → Never Kind
+        → (told : List (Option ℕ)) → AreAllPlaced Kind read Is a.items made told
+        → AreAllPlaced Kind read Is d.items made told
     more Kind read Is none told all =
         all_more Kind read Is none c d made told g
         (all_more Kind read Is none b c made told f (all_more Kind read Is none a b made told e all))
+
+-- ---- what is asked
+
+pub bound_more : (home : List ℕ) (a b : Graph) (rows : BinderRows) → Extends a b → HaveBound home a.items rows
+    → HaveBound home b.items rows
+bound_more home a b rows e h = record {
+  made = h.made;
+  bound = record {
+    told = placed_more home a b h.made rows.envs.told e h.bound.told;
+    signatures = all_more IsSignature as_signature (IsSignatureOf home) (λ z. z) a b h.made rows.signatures e
+        h.bound.signatures;
+    functors = all_more IsFunctor as_functor (IsFunctorOf home) (λ z. z) a b h.made rows.functors e h.bound.functors;
+  };
+  values = values_kept rows.envs.told.entries.schemes a b rows.envs.values e h.values;
+}
+
+pub envs_have : (home : List ℕ) (items : List Item) (rows : BinderRows) → HaveBound home items rows
+    → HaveEnvs home items rows.envs.told.envs
+envs_have home items rows h = record { made = h.made; placed = h.bound.told.envs }
+
+pub places_have : (home : List ℕ) (items : List Item) (rows : BinderRows) → HaveBound home items rows
+    → HavePlaces home items rows.envs.told rows.envs.values
+places_have home items rows h = record { made = h.made; placed = h.bound.told; values = h.values }

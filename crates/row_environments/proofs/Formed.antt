@@ -34,10 +34,10 @@ use Rattle.row_forms.specs.Forms.{IsForm, NeverForm, with_env, FitsEnv, env_at}
 use Rattle.row_entries.specs.declared.rows.EntryRows.{EntryRows}
 use Rattle.row_entries.specs.Told.{IsSchemeOf, IsStructureOf, RowsAre, AreEntries, ToldAt}
 use Rattle.row_entries.proofs.Found.{row_is}
-use Rattle.row_entries.proofs.Cons.{is_at, rows_names, table_names, names_fit, name_number}
+use Rattle.row_entries.proofs.Cons.{is_at, rows_names, table_names, names_fit}
 use Rattle.row_environments.specs.declared.rows.ToldRows.{ToldRows}
 use Rattle.row_environments.specs.Placed.{IsEnvOf, IsValueOf, ValuesAre, AreLists, PlaceOrNone, ArePlaced}
-use Rattle.row_environments.specs.Answers.{RowsPlaced, ValuesPlaced, LacksPlace, places_in, value_name_of, value_names_of, value_places_in, AreNamed, TablesPlaced, LacksRow, node_of_form, FindsEnv, PlacesEnv}
+use Rattle.row_environments.specs.Answers.{RowsPlaced, ValuesPlaced, LacksPlace, places_in, value_name_of, value_names_of, value_places_in, AreNamed, TablesPlaced, LacksRow, FindsTables, node_of_form, FindsEnv, PlacesEnv}
 use Rattle.row_environments.proofs.Tabled.{placed_names}
 use Rattle.row_environments.proofs.Valued.{values_names}
 use Rattle.row_environments.proofs.Placing.{rows_are, rows_there, lacking, values_are, values_there}
@@ -171,11 +171,14 @@ fields_of home ss ts vs = (structure_rows home ss, (rows_by (node_of_type home) 
 abbrev content_of_env : List ℕ → Structures → Table TypeStr → Table ValueEntry → Content
 content_of_env home ss ts vs = with_env (fields_of home ss ts vs) Content.nothing
 
+text_fits : (name : List ℕ) → IsName name → IsNumber (length name)
+text_fits name h = let s = h.short in record { below = omega (arith, s) }
+
 structures_fit : (home : List ℕ) (ss : Structures) → All IsName (names_of (table_of ss))
     → AllByRecursion HasName (structure_rows home ss)
 structures_fit home Structures.Nil h = tt
 structures_fit home (Structures.Cons name env rest) h = (
-  name_number name (All-head IsName name (names_of (table_of rest)) h),
+  text_fits name (All-head IsName name (names_of (table_of rest)) h),
   structures_fit home rest (All-tail IsName name (names_of (table_of rest)) h),
 )
 
@@ -183,7 +186,7 @@ values_fit : (home : List ℕ) (vs : Table ValueEntry) → All IsName (names_of 
     → AllByRecursion IsValueName (map (row_of_value home) vs)
 values_fit home [] h = tt
 values_fit home (v ∷ vs) h = (
-  name_number v.0 (All-head IsName v.0 (names_of vs) h),
+  text_fits v.0 (All-head IsName v.0 (names_of vs) h),
   values_fit home vs (All-tail IsName v.0 (names_of vs) h),
 )
 
@@ -236,3 +239,14 @@ env_formed told old items row slice form found t e h k home made placed =
     subst (λ x. PlaceOrNone IsEnv as_env (IsEnvOf home x) items found)
     (row_is made row 8 slice (with_env (env_at made form) Content.nothing) t e ((h made).is))
     (k home made placed ((h made).fits))
+
+-- ---- answers of calls
+
+pub tables_none : (told : ToldRows) (items : List Item) (form : EnvForm) (found : Option EnvTables)
+    → FindsTables told items form found → ((tables : EnvTables) → found ≡ Some tables → ⊥) → LacksRow told form
+tables_none told items form (Some tables) h never = absurd (never tables refl)
+tables_none told items form None h never = h
+
+pub tables_some : (told : ToldRows) (items : List Item) (form : EnvForm) (found : Option EnvTables) (tables : EnvTables)
+    → FindsTables told items form found → found ≡ Some tables → TablesPlaced told items form tables
+tables_some told items form found tables h e = subst (FindsTables told items form) e h

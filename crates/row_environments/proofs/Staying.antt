@@ -19,8 +19,9 @@ use Rattle.row_entries.specs.Told.{IsOrNone, IsSchemeOf, IsStructureOf, AreEntri
 use Rattle.row_entries.proofs.Cons.{is_at}
 use Rattle.row_environments.specs.declared.rows.ToldRows.{ToldRows}
 use Rattle.row_environments.specs.declared.values.ValuePlaces.{ValuePlaces}
-use Rattle.row_environments.specs.Placed.{IsEnvOf, StandsFor, PlaceOrNone, AreAllPlaced, ArePlaced, HasValue, AreValues, images_for}
+use Rattle.row_environments.specs.Placed.{IsEnvOf, StandsFor, PlaceOrNone, AreAllPlaced, ArePlaced, HasValue, AreValues, HavePlaces, images_for}
 use Rattle.row_environments.specs.Answers.{PlacesType, PlacesEnv, PlacesRow}
+use Rattle.row_environments.proofs.Valued.{values_kept}
 
 -- ---- more nodes
 
@@ -142,3 +143,11 @@ row_placed home before mid after old new row type_place env_place e f t k n a b 
       envs = all_push IsEnv as_env (IsEnvOf home) after.items made old.envs new.envs (row_node made row) env_place all.envs
           (k home made m) b;
     }
+
+pub have_more : (home : List ℕ) (old new : Graph) (told : ToldRows) (places : ValuePlaces) → Extends old new
+    → HavePlaces home old.items told places → HavePlaces home new.items told places
+have_more home old new told places e h = record {
+  made = h.made;
+  placed = placed_more home old new h.made told e h.placed;
+  values = values_kept told.entries.schemes old new places e h.values;
+}

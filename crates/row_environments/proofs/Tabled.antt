@@ -3,6 +3,7 @@ use Rattle.std.proofs.Common.{◌≡◌, ℕ, zero, suc, ◌+◌, ◌<◌, refl,
 use Rattle.std.proofs.lemmas.List.{take_more}
 use Rattle.semantic_objects.specs.Symbols.{AreRising}
 use Rattle.semantic_objects.specs.Tables.{Table, with_entry, names_of}
+use Rattle.interface_format.specs.Rules.{AreNames}
 use Rattle.interface_nodes.specs.declared.fields.NamedPlace.{NamedPlace}
 use Rattle.environment_walks.proofs.Ordering.{IsAfter, rising_after, set_last}
 use Rattle.row_types.specs.Told.{name_of}
@@ -86,3 +87,21 @@ placed_none told table i row d found e lt k f = record {
 pub placed_all : (told : List (Option ℕ)) (table front : List NamedPlace) (rows : Table ℕ) → front ≡ table
     → RowsPlaced told front rows → PlacesRows told table (Some rows)
 placed_all told table front rows e h = subst (λ (z : List NamedPlace). RowsPlaced told z rows) e h
+
+-- ---- answers of calls
+
+-- a row of a table has no place, where none are given
+pub rows_none : (told : List (Option ℕ)) (slice table : List NamedPlace) (found : Option (Table ℕ))
+    → PlacesRows told slice found → slice ≡ table → ((rows : Table ℕ) → found ≡ Some rows → ⊥)
+    → LacksPlace told (places_in table)
+rows_none told slice table (Some rows) h e never = absurd (never rows refl)
+rows_none told slice table None h e never = subst (λ (z : List NamedPlace). LacksPlace told (places_in z)) e h
+
+pub rows_some : (told : List (Option ℕ)) (slice table : List NamedPlace) (found : Option (Table ℕ)) (rows : Table ℕ)
+    → PlacesRows told slice found → slice ≡ table → found ≡ Some rows → RowsPlaced told table rows
+rows_some told slice table found rows h e f =
+    subst (λ (z : List NamedPlace). RowsPlaced told z rows) e (subst (PlacesRows told slice) f h)
+
+pub rising_names : (slice table : List NamedPlace) → slice ≡ table → AreNames (map name_of table)
+    → AreRising (map name_of slice)
+rising_names slice table e h = subst (λ (z : List NamedPlace). AreRising (map name_of z)) (sym e) h.rising

@@ -7,6 +7,7 @@ use Rattle.semantic_objects.specs.declared.entry.VidStatus.{VidStatus}
 use Rattle.semantic_objects.specs.declared.entry.VidStatus.TheVariants as status
 use Rattle.semantic_objects.specs.Symbols.{AreRising}
 use Rattle.semantic_objects.specs.Tables.{Table, with_entry, names_of}
+use Rattle.interface_format.specs.Rules.{AreNames}
 use Rattle.semantic_objects.specs.Trees.{TypeScheme}
 use Rattle.interface_nodes.specs.declared.fields.ValuePlace.{ValuePlace}
 use Rattle.environment_walks.specs.Changing.{image_in}
@@ -170,3 +171,22 @@ values_none schemes items places h = record { each = λ s row p i. absurd (nothi
   where
     nothing : (p : ℕ) → None ≡ Some p → ⊥
     nothing p e = cc
+
+-- ---- answers of calls
+
+pub values_none_placed : (entries : EntryRows) (items : List Item) (slice table : List ValuePlace)
+    (found : Option (Table ℕ)) → PlacesValues entries items slice found → slice ≡ table
+    → ((rows : Table ℕ) → found ≡ Some rows → ⊥) → LacksPlace entries.schemes (value_places_in table)
+values_none_placed entries items slice table (Some rows) h e never = absurd (never rows refl)
+values_none_placed entries items slice table None h e never =
+    subst (λ (z : List ValuePlace). LacksPlace entries.schemes (value_places_in z)) e h
+
+pub values_some_placed : (entries : EntryRows) (items : List Item) (slice table : List ValuePlace)
+    (found : Option (Table ℕ)) (rows : Table ℕ) → PlacesValues entries items slice found → slice ≡ table
+    → found ≡ Some rows → ValuesPlaced entries items table rows
+values_some_placed entries items slice table found rows h e f =
+    subst (λ (z : List ValuePlace). ValuesPlaced entries items z rows) e (subst (PlacesValues entries items slice) f h)
+
+pub rising_values : (slice table : List ValuePlace) → slice ≡ table → AreNames (value_names_of table)
+    → AreRising (value_names_of slice)
+rising_values slice table e h = subst (λ (z : List ValuePlace). AreRising (value_names_of z)) (sym e) h.rising
