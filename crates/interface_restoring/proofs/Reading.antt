@@ -1,6 +1,10 @@
 -- Bytes behind the mark, as rows, and the unit that the last row is.
-use Rattle.std.proofs.Common.{◌≡◌, ◌≢◌, ℕ, ◌+◌, ◌-◌, ◌≤◌, ◌^◌, refl, sym, ap, subst, ◌∙◌, arith, List, [], ◌∷◌, ◌++◌, length, get_or, Option, Some, None}
-use Rattle.std.proofs.lemmas.List.{length-append}
+use Rattle.std.proofs.Common.{◌≡◌, ◌≢◌, ℕ, ◌+◌, ◌-◌, ◌<◌, ◌≤◌, ◌^◌, refl, sym, ap, ap₂, subst, ◌∙◌, arith, List, [], ◌∷◌, ◌++◌, length, take, drop, get_or, Option, Some, None, true, false, MatchOption}
+use Rattle.std.specs.Prelude.{nat_eq}
+use Rattle.std.specs.Cmp.Lexicographic.{same_text, other_text}
+use Rattle.std.proofs.lemmas.List.{length-append, take_more, take-append-drop}
+use lib.Pointwise.{pointwise}
+use denote.Ref.{Bor}
 use Rattle.cm_bytes.specs.Fields.{IsBytes}
 use Rattle.node_bytes.specs.Nodes.{Node}
 use Rattle.node_bytes.specs.Spelling.{spelling}
@@ -16,8 +20,14 @@ use Rattle.interface_reading.specs.Remaining.{last_node}
 use Rattle.interface_reading.specs.Rows.{SpellRows, SpellNone}
 use Rattle.restoring_laws.specs.Promises.{AreOf}
 use Rattle.restoring_laws.proofs.Reading.{are_read}
+use Rattle.sml_modules.specs.Items.{Item, as_top, IsTop}
+use Rattle.sml_modules.specs.Graphs.{Graph}
 use Rattle.row_types.proofs.Added.{last_item}
-use Rattle.interface_restoring.specs.Tops.{IsTopOf}
+use Rattle.row_environments.specs.Placed.{PlaceOrNone, AreValues}
+use Rattle.row_binders.specs.declared.rows.BinderRows.{BinderRows}
+use Rattle.row_binders.specs.Binders.{AreBound, HaveBound, PlacesBinder}
+use Rattle.interface_restoring.specs.Tops.{IsTopOf, PlacesTop}
+use Rattle.interface_restoring.specs.Restored.{HasRest, Notes, Builds}
 
 -- ---- rows
 
@@ -79,3 +89,55 @@ pub is_interface : (home bytes : List ℕ) (x : Node) (made : Top) → IsBytes b
     → IsTopOf home x made → HasNames home made → IsInterface home bytes made
 is_interface home bytes x made b l of is names =
     are_read.is home bytes made b l (subst (AreOf bytes) is.node of) is.tables names
+
+-- ---- the mark
+
+abbrev Strips : List ℕ → Option (Bor (List ℕ)) → Type 0
+Strips bytes result = MatchOption result (pointwise nat_eq (take 4 bytes) mark ≡ false)
+    (λ x. (pointwise nat_eq (take 4 bytes) mark ≡ true) × (x.now ≡ drop 4 bytes) × (length x.now + 4 ≡ length bytes))
+
+pub stripped : (bytes : List ℕ) (result : Option (Bor (List ℕ))) → Strips bytes result → HasRest bytes result
+stripped bytes (Some rest) h =
+    sym (take-append-drop 4 bytes) ∙ ap₂ (λ x y. x ++ y) (same_text (take 4 bytes) mark (sym h.0)) (sym h.1)
+stripped bytes None h = λ rest e. other_text (take 4 bytes) mark (sym h) (ap (take 4) e)
+
+-- ---- rows that are told
+
+pub notes_have : (home : List ℕ) (table : List Row) (items : List Item) (rows : BinderRows) → Notes home table items rows
+    → HaveBound home items rows
+notes_have home table items rows h = record { made = table_nodes table; bound = h.bound; values = h.values }
+
+-- one row more
+pub notes_more : (home : List ℕ) (table : List Row) (i : ℕ) (row d : Row) (old new : List Item) (rows told : BinderRows)
+    → row ≡ get_or table i d → i < length table → Notes home (take i table) old rows
+    → PlacesBinder home old new rows row told → AreValues told.envs.told.entries.schemes new told.envs.values
+    → Notes home (take (i + 1) table) new told
+notes_more home table i row d old new rows told e lt h p v = record {
+  bound = subst (λ (z : List Node). AreBound home new z told) (sym nodes) (p (table_nodes (take i table)) h.bound);
+  values = v;
+}
+  where
+    nodes : table_nodes (take (i + 1) table)
+        ≡ table_nodes (take i table) ++ row_node (table_nodes (take i table)) row ∷ []
+    nodes = ap table_nodes (take_more table i d lt ∙ ap (λ (z : Row). take i table ++ z ∷ []) (sym e))
+        ∙ nodes_more (take i table) row
+
+-- ---- the last row
+
+abbrev IsUnitAt : List ℕ → List Row → List Item → Option ℕ → Type 0
+IsUnitAt home table items found = PlaceOrNone IsTop as_top (IsTopOf home (last_node (table_nodes table))) items found
+
+pub last_placed : (home : List ℕ) (before table : List Row) (last : Row) (old new : List Item) (rows : BinderRows)
+    (found : Option ℕ) → table ≡ before ++ last ∷ [] → Notes home before old rows → PlacesTop rows old last new found
+    → IsUnitAt home table new found
+last_placed home before table last old new rows found e h p =
+    subst (λ x. PlaceOrNone IsTop as_top (IsTopOf home x) new found)
+    (sym (ap (λ (z : List Row). last_node (table_nodes z)) e ∙ last_row before last))
+    (p home (table_nodes before) h.bound)
+
+top_at_none : (home : List ℕ) (top : Top) → IsTopOf home nowhere top → ⊥
+top_at_none home top h = absurd (let t : nowhere ≡ top_node home top = h.node in cc)
+
+pub no_rows : (home : List ℕ) (table : List Row) (new : Graph) → table ≡ [] → Builds home table new None
+no_rows home table new e top h =
+    top_at_none home top (subst (λ (z : List Row). IsTopOf home (last_node (table_nodes z)) top) e h)

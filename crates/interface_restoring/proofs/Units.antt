@@ -29,6 +29,7 @@ use Rattle.row_entries.specs.Told.{RowsAre}
 use Rattle.row_entries.proofs.Found.{row_is}
 use Rattle.row_entries.proofs.Cons.{names_fit}
 use Rattle.row_environments.specs.Placed.{IsEnvOf, PlaceOrNone, AreAllPlaced}
+use Rattle.row_environments.specs.Answers.{PlacesRows}
 use Rattle.row_environments.proofs.Tabled.{placed_names}
 use Rattle.row_environments.proofs.Placing.{rows_are, rows_there, lacking}
 use Rattle.row_environments.proofs.Enving.{envs_hold, table_back}
@@ -36,7 +37,7 @@ use Rattle.row_environments.proofs.Formed.{row_names}
 use Rattle.row_binders.specs.declared.rows.BinderRows.{BinderRows}
 use Rattle.row_binders.specs.Binders.{IsSignatureOf, IsFunctorOf, AreBound}
 use Rattle.interface_restoring.specs.declared.tops.UnitTables.{UnitTables}
-use Rattle.interface_restoring.specs.Tops.{IsTopOf, TableIs, LacksTable, UnitPlaced, node_of_unit, LacksUnit, AreUnitTables, unit_of, unit_item, FormsTop, PlacesTop}
+use Rattle.interface_restoring.specs.Tops.{IsTopOf, TableIs, LacksTable, FindsTable, FindsUnit, UnitPlaced, node_of_unit, LacksUnit, AreUnitTables, unit_of, unit_item, FormsTop, PlacesTop}
 
 -- ---- tables of what meets the rules, and their nodes
 
@@ -336,3 +337,30 @@ top_formed rows old items row slice form found t e h k home made bound =
     subst (λ x. PlaceOrNone IsTop as_top (IsTopOf home x) items found)
     (row_is made row 11 slice (with_unit (unit_at made form) Content.nothing) t e ((h made).is))
     (k home made bound ((h made).fits))
+
+-- ---- answers of calls
+
+pub table_found : (told : List (Option ℕ)) (table : List NamedPlace) (found : Option (Table ℕ))
+    → AreNames (map name_of table) → PlacesRows told table found → FindsTable told table found
+table_found told table (Some rows) n h = record { named = n; placed = h }
+table_found told table None n h = inr h
+
+pub table_none : (told : List (Option ℕ)) (slice table : List NamedPlace) (found : Option (Table ℕ))
+    → FindsTable told slice found → slice ≡ table → ((rows : Table ℕ) → found ≡ Some rows → ⊥)
+    → LacksTable told table
+table_none told slice table (Some rows) h e never = absurd (never rows refl)
+table_none told slice table None h e never = subst (λ (z : List NamedPlace). LacksTable told z) e h
+
+pub table_some : (told : List (Option ℕ)) (slice table : List NamedPlace) (found : Option (Table ℕ)) (rows : Table ℕ)
+    → FindsTable told slice found → slice ≡ table → found ≡ Some rows → TableIs told table rows
+table_some told slice table found rows h e f =
+    subst (λ (z : List NamedPlace). TableIs told z rows) e (subst (FindsTable told slice) f h)
+
+pub unit_none : (rows : BinderRows) (form : UnitForm) (found : Option UnitTables) → FindsUnit rows form found
+    → ((tables : UnitTables) → found ≡ Some tables → ⊥) → LacksUnit rows form
+unit_none rows form (Some tables) h never = absurd (never tables refl)
+unit_none rows form None h never = h
+
+pub unit_some : (rows : BinderRows) (form : UnitForm) (found : Option UnitTables) (tables : UnitTables)
+    → FindsUnit rows form found → found ≡ Some tables → UnitPlaced rows form tables
+unit_some rows form found tables h e = subst (FindsUnit rows form) e h

@@ -19,14 +19,7 @@ use sml_modules::{EnvGraph, TopId};
 fn behind_mark(bytes: &[u8]) -> Option<&[u8]>
     ensures { HasRest bytes.now result }
 {
-    if bytes.len() < 4 {
-        return None;
-    }
-    let (mark, rest) = bytes.split_at(4);
-    if mark != b"CMI1".as_slice() {
-        return None;
-    }
-    Some(rest)
+    bytes.strip_prefix(b"CMI1".as_slice())
 }
 
 /// Tells of each row what it is in the interface of `home`, and adds to the graph what stands there.
