@@ -4,7 +4,12 @@ use Rattle.std.proofs.lemmas.List.{take_more}
 use Rattle.unification.proofs.Walking.{either_way, or_left, or_right, or_either}
 use Rattle.semantic_objects.specs.declared.name.TyName.{TyName}
 use Rattle.semantic_objects.specs.Symbols.{same_name}
-use Rattle.semantic_objects.specs.Environments.{Top}
+use Rattle.semantic_objects.specs.Environments.{Env, Top}
+use Rattle.env_parts.specs.declared.tables.TopTables.{TopTables}
+use Rattle.sml_modules.specs.declared.id.EnvId.{EnvId}
+use Rattle.sml_modules.specs.Graphs.{Graph}
+use Rattle.sml_modules.specs.Nodes.{top_of_tables}
+use Rattle.name_walks.specs.Places.{names_in_all}
 use Rattle.realisation.specs.Names.{is_listed, once, names_in_env, names_in_top}
 use Rattle.realisation.specs.Canonical.{met, is_own, is_bound_name}
 use Rattle.realisation.proofs.Listing.{name_is, name_same, listed_left, listed_right}
@@ -228,3 +233,37 @@ names_are home top names others e f own agree inside =
           (once_agrees home xs (subst Agree (f ∙ ap (filter (is_other home)) e) agree));
       inside = inside;
     }
+
+-- ---- what is decided of a unit
+
+pub names_of_top : (g : Graph) (top : Top) (tables : TopTables) (envs : List EnvId) (names : List TyName)
+    → top ≡ top_of_tables g.items tables → names_in_all g envs ≡ names_in_top (top_of_tables g.items tables)
+    → names ≡ once (names_in_all g envs) → names ≡ once (names_in_top top)
+names_of_top g top tables envs names a b c = c ∙ ap once (b ∙ ap names_in_top (sym a))
+
+no_truth : IsTrue false → ⊥
+no_truth t = cc
+
+pub own_decides : (home : List ℕ) (top : Top) (names : List TyName) → names ≡ once (names_in_top top)
+    → (AreNumbered 0 (filter (is_own home) names) → ⊥) → IsTrue false ↔ HasNames home top
+own_decides home top names e bad = (
+  λ t. absurd (no_truth t),
+  λ h. absurd (bad (is_own_numbered home (names_in_top top) names e h.own)),
+)
+
+pub others_decide : (home : List ℕ) (top : Top) (names others : List TyName) → names ≡ once (names_in_top top)
+    → others ≡ filter (is_other home) names → (Agree others → ⊥) → IsTrue false ↔ HasNames home top
+others_decide home top names others e f bad = (
+  λ t. absurd (no_truth t),
+  λ h. absurd (bad (others_agree home (names_in_top top) names others e f h.agree)),
+)
+
+pub inside_decides : (home : List ℕ) (top : Top) (names others : List TyName) (env : Env) (r : Bool)
+    → names ≡ once (names_in_top top) → others ≡ filter (is_other home) names
+    → AreNumbered 0 (filter (is_own home) names) → Agree others → top.env ≡ env
+    → IsTrue r ↔ (filter is_bound_name (names_in_env env) ≡ []) → IsTrue r ↔ HasNames home top
+inside_decides home top names others env r e f own agree same h = (
+  λ t. names_are home top names others e f own agree
+      (ap (λ z. filter is_bound_name (names_in_env z)) same ∙ h.0 t),
+  λ k. h.1 (ap (λ z. filter is_bound_name (names_in_env z)) (sym same) ∙ k.inside),
+)
