@@ -1,33 +1,38 @@
 -- Bytes behind the mark, as rows, and the unit that the last row is.
 use Rattle.std.proofs.Common.{◌≡◌, ◌≢◌, ℕ, ◌+◌, ◌-◌, ◌<◌, ◌≤◌, ◌^◌, refl, sym, ap, ap₂, subst, ◌∙◌, arith, List, [], ◌∷◌, ◌++◌, length, take, drop, get_or, Option, Some, None, true, false, MatchOption}
+use Rattle.std.specs.Prelude.{Result, Ok, Err}
 use Rattle.std.specs.Prelude.{nat_eq}
 use Rattle.std.specs.Cmp.Lexicographic.{same_text, other_text}
 use Rattle.std.proofs.lemmas.List.{length-append, take_more, take-append-drop}
 use lib.Pointwise.{pointwise}
 use denote.Ref.{Bor}
 use Rattle.cm_bytes.specs.Fields.{IsBytes}
-use Rattle.node_bytes.specs.Nodes.{Node}
+use Rattle.node_bytes.specs.Nodes.{Node, Content}
 use Rattle.node_bytes.specs.Spelling.{spelling}
 use Rattle.node_bytes.specs.Reading.{alone_at}
 use Rattle.node_bytes.specs.Interfaces.{interfaces}
 use Rattle.node_bytes.specs.Tables.{nowhere, row_node, nodes_after, table_nodes}
 use Rattle.node_bytes.specs.declared.table.Row.{Row}
-use Rattle.semantic_objects.specs.Environments.{Top}
-use Rattle.interface_format.specs.Trees.{top_node}
+use Rattle.semantic_objects.specs.Environments.{Top, structures}
+use Rattle.interface_format.specs.Trees.{rows_by, env_node, node_of_signature, node_of_functor, top_node}
+use Rattle.row_forms.specs.Forms.{with_unit}
 use Rattle.interface_format.specs.Rules.{HasNames}
 use Rattle.interface_format.specs.Interfaces.{mark, IsInterface}
 use Rattle.interface_reading.specs.Remaining.{last_node}
-use Rattle.interface_reading.specs.Rows.{SpellRows, SpellNone}
+use Rattle.interface_reading.specs.declared.fault.RestoreFault.{RestoreFault}
+use Rattle.interface_reading.specs.declared.fault.RestoreFault.TheVariants as fault
+use Rattle.sml_modules.specs.declared.id.TopId.{TopId}
+use Rattle.interface_reading.specs.Rows.{SpellRows, SpellNone, ReadsRows}
 use Rattle.restoring_laws.specs.Promises.{AreOf}
 use Rattle.restoring_laws.proofs.Reading.{are_read}
 use Rattle.sml_modules.specs.Items.{Item, as_top, IsTop}
 use Rattle.sml_modules.specs.Graphs.{Graph}
 use Rattle.row_types.proofs.Added.{last_item}
-use Rattle.row_environments.specs.Placed.{PlaceOrNone, AreValues}
+use Rattle.row_environments.specs.Placed.{StandsFor, PlaceOrNone, AreValues}
 use Rattle.row_binders.specs.declared.rows.BinderRows.{BinderRows}
 use Rattle.row_binders.specs.Binders.{AreBound, HaveBound, PlacesBinder}
 use Rattle.interface_restoring.specs.Tops.{IsTopOf, PlacesTop}
-use Rattle.interface_restoring.specs.Restored.{HasRest, Notes, Builds}
+use Rattle.interface_restoring.specs.Restored.{HasRest, Notes, Builds, Reads}
 
 -- ---- rows
 
@@ -135,9 +140,39 @@ last_placed home before table last old new rows found e h p =
     (sym (ap (λ (z : List Row). last_node (table_nodes z)) e ∙ last_row before last))
     (p home (table_nodes before) h.bound)
 
+tag_same : (s t : ℕ) (c d : Content) → Node.node s c ≡ Node.node t d → s ≡ t
+tag_same s t c d e = cc
+
 top_at_none : (home : List ℕ) (top : Top) → IsTopOf home nowhere top → ⊥
-top_at_none home top h = absurd (let t : nowhere ≡ top_node home top = h.node in cc)
+top_at_none home top h =
+    let t : 0 ≡ 11 = tag_same 0 11 Content.nothing
+    (with_unit (rows_by (env_node home) (structures top.env), (rows_by (node_of_signature home) top.signatures,
+    (rows_by (node_of_functor home) top.functors, rows_by (node_of_functor home) top.funsigs))) Content.nothing) h.node in
+    omega (arith, t)
 
 pub no_rows : (home : List ℕ) (table : List Row) (new : Graph) → table ≡ [] → Builds home table new None
 no_rows home table new e top h =
     top_at_none home top (subst (λ (z : List Row). IsTopOf home (last_node (table_nodes z)) top) e h)
+
+-- ---- answers of calls
+
+pub no_rest : (bytes : List ℕ) (found : Option (Bor (List ℕ))) → HasRest bytes found
+    → ((rest : Bor (List ℕ)) → found ≡ Some rest → ⊥) → (rest : List ℕ) → bytes ≢ mark ++ rest
+no_rest bytes (Some rest) h never = absurd (never rest refl)
+no_rest bytes None h never = h
+
+pub not_built : (home : List ℕ) (table : List Row) (new : Graph) (found : Option TopId) → Builds home table new found
+    → ((id : TopId) → found ≡ Some id → ⊥) → (top : Top) → IsTopOf home (last_node (table_nodes table)) top → ⊥
+not_built home table new (Some id) h never = absurd (never id refl)
+not_built home table new None h never = h
+
+pub built : (home : List ℕ) (table : List Row) (new : Graph) (found : Option TopId) (id : TopId)
+    → Builds home table new found → found ≡ Some id
+    → StandsFor IsTop as_top (IsTopOf home (last_node (table_nodes table))) new.items id.place
+built home table new found id h e = subst (Builds home table new) e h
+
+-- bytes behind the mark that aren't read
+pub reads_none : (home bytes rest : List ℕ) (new : Graph) (why : RestoreFault) → bytes ≡ mark ++ rest
+    → ReadsRows {S = Unit {0}} rest (Err why) → Reads home bytes new (Err why)
+reads_none home bytes rest new fault.BadInterface e h = unspelled home bytes rest e h
+reads_none home bytes rest new fault.NoMemory e h = tt

@@ -34,7 +34,9 @@ at_rest : (xs : List TyName) (i : ℕ) (x d : TyName) → x ≡ get_or xs i d �
     → drop i xs ≡ x ∷ drop (i + 1) xs
 at_rest [] i x d e lt = absurd (omega (arith, lt))
 at_rest (y ∷ ys) zero x d e lt = ap (λ (z : TyName). z ∷ ys) (sym e)
-at_rest (y ∷ ys) (suc i) x d e lt = at_rest ys i x d e (omega (arith, lt))
+at_rest (y ∷ ys) (suc i) x d e lt =
+    let more : suc (i + 1) ≡ suc i + 1 = omega arith in
+    at_rest ys i x d e (omega (arith, lt)) ∙ ap (λ n. x ∷ drop n (y ∷ ys)) more
 
 -- the name at a place has the next number
 pub numbered_on : (first next : ℕ) (xs : List TyName) (i : ℕ) (x d : TyName) → x ≡ get_or xs i d → i < length xs
