@@ -1,6 +1,7 @@
 use Rattle.row_entries.proofs.Found.{not_so, is_so}
 use Rattle.row_environments.proofs.Formed.{env_unnamed, env_lacks, env_found, tables_stand, tables_none, tables_some}
 use Rattle.row_environments.proofs.Staying.{placed_more}
+use Rattle.row_environments.proofs.Valued.{values_kept}
 use Rattle.row_environments.proofs.environments.env_over.Goals as goal
 
 pub tables_of-requires-clause-values : goal.tables_of-requires-clause-values
@@ -37,3 +38,8 @@ returns-clause-is c =
     (tables_some c.args.told.now c.tables_of.new.graph.items c.args.form.now c.in_ok-tables.field-0 c.in-Some.tables
     c.in_ok-tables.ensures.tables c.in-Some.is)
     c.in_ok-env.ensures.ok
+
+pub returns-clause-values : goal.returns-clause-values
+returns-clause-values c =
+    values_kept c.args.told.now.entries.schemes c.tables_of.new.graph c.add_env.new.self c.tables_of.new.places
+    c.in_ok-env.ensures.ok.extends c.in_ok-tables.ensures.values
