@@ -1,5 +1,5 @@
 -- Environments by their tables, whose rows are told one by one.
-use Rattle.std.proofs.Common.{◌≡◌, ℕ, suc, refl, sym, ap, ap₂, subst, ◌∙◌, List, [], ◌∷◌, length, map}
+use Rattle.std.proofs.Common.{◌≡◌, ℕ, suc, refl, sym, ap, ap₂, subst, List, [], ◌∷◌, length, map}
 use Rattle.std.specs.Prelude.{All}
 use Rattle.std.proofs.lemmas.List.Elements.{All-nil, All-cons, All-head, All-tail}
 use Rattle.node_bytes.specs.Nodes.{Node, Content}
@@ -10,7 +10,7 @@ use Rattle.semantic_objects.specs.declared.entry.VidStatus.{VidStatus}
 use Rattle.semantic_objects.specs.Environments.{Env, Structures, structures_of, table_of}
 use Rattle.semantic_objects.specs.Tables.{Table, names_of}
 use Rattle.interface_format.specs.Tags.{ValueRow, with_named, with_value, environment_node}
-use Rattle.interface_format.specs.Trees.{rows_by, structure_rows, env_node, node_of_type, node_of_scheme, row_of_value}
+use Rattle.interface_format.specs.Trees.{rows_by, structure_rows, node_of_type, node_of_scheme, row_of_value}
 use Rattle.interface_format.specs.Rules.{IsNumber, AreNames, IsTypeRow, IsValueRow, AreEnvs, AreTables}
 use Rattle.interface_format.proofs.Told.{list_told, named_told, value_told}
 use Rattle.interface_format.proofs.Entries.{rows_counted}

@@ -1,20 +1,19 @@
 -- Environments over tables of places, and the rows that are environments.
-use Rattle.std.proofs.Common.{◌≡◌, ◌≢◌, ℕ, zero, suc, ◌<◌, refl, sym, ap, ap₂, subst, ◌∙◌, arith, List, [], ◌∷◌, length, map, get_or, Option, Some, None, inl, inr, ◌⊎◌}
+use Rattle.std.proofs.Common.{◌≡◌, ◌≢◌, ℕ, zero, suc, ◌<◌, refl, sym, ap, subst, ◌∙◌, arith, List, [], ◌∷◌, length, map, get_or, Option, Some, None, inl, inr}
 use Rattle.std.specs.List.{AllByRecursion}
 use Rattle.std.specs.Prelude.{All}
 use Rattle.std.proofs.lemmas.List.Elements.{All-head, All-tail}
 use Rattle.node_bytes.specs.Nodes.{Node, Content}
-use Rattle.node_bytes.specs.Shapes.{with_list}
 use Rattle.node_bytes.specs.Tables.{content_of, row_node}
 use Rattle.node_bytes.specs.declared.table.Item as part
 use Rattle.node_bytes.specs.declared.table.Row.{Row}
 use Rattle.semantic_objects.specs.declared.entry.TypeStr.{TypeStr}
 use Rattle.semantic_objects.specs.declared.entry.ValueEntry.{ValueEntry}
-use Rattle.semantic_objects.specs.Environments.{Env, Structures, structures, types, values, table_of, structures_of}
+use Rattle.semantic_objects.specs.Environments.{Env, Structures, structures, types, values, table_of}
 use Rattle.semantic_objects.specs.Tables.{Table, names_of}
 use Rattle.semantic_objects.specs.Trees.{TypeScheme}
 use Rattle.env_parts.specs.declared.tables.EnvTables.{EnvTables}
-use Rattle.interface_format.specs.Tags.{ValueRow, with_named, with_value, environment_node}
+use Rattle.interface_format.specs.Tags.{ValueRow}
 use Rattle.interface_format.specs.Trees.{rows_by, structure_rows, node_of_type, row_of_value}
 use Rattle.interface_format.specs.Rules.{IsNumber, IsName, AreNames}
 use Rattle.interface_format.specs.Rules as rules
@@ -27,17 +26,17 @@ use Rattle.sml_modules.specs.Graphs.{Graph}
 use Rattle.sml_modules.specs.Nodes.{AreEnvTables, env_of_tables}
 use Rattle.sml_modules.specs.Adding.{Extends, Adds}
 use Rattle.sml_modules.proofs.Setting.{names_map}
-use Rattle.row_fields.specs.Listing.{AreItems, HasName, IsValueName}
+use Rattle.row_fields.specs.Listing.{HasName, IsValueName}
 use Rattle.row_types.specs.Told.{name_of}
 use Rattle.row_forms.specs.declared.modules.EnvForm.{EnvForm}
 use Rattle.row_forms.specs.Forms.{IsForm, NeverForm, with_env, FitsEnv, env_at}
 use Rattle.row_entries.specs.declared.rows.EntryRows.{EntryRows}
-use Rattle.row_entries.specs.Told.{IsSchemeOf, IsStructureOf, RowsAre, AreEntries, ToldAt}
+use Rattle.row_entries.specs.Told.{IsSchemeOf, IsStructureOf, RowsAre, AreEntries}
 use Rattle.row_entries.proofs.Found.{row_is}
 use Rattle.row_entries.proofs.Cons.{is_at, rows_names, table_names, names_fit}
 use Rattle.row_environments.specs.declared.rows.ToldRows.{ToldRows}
-use Rattle.row_environments.specs.Placed.{IsEnvOf, IsValueOf, ValuesAre, AreLists, PlaceOrNone, ArePlaced}
-use Rattle.row_environments.specs.Answers.{RowsPlaced, ValuesPlaced, LacksPlace, places_in, value_name_of, value_names_of, value_places_in, AreNamed, TablesPlaced, LacksRow, FindsTables, node_of_form, FindsEnv, PlacesEnv}
+use Rattle.row_environments.specs.Placed.{IsEnvOf, ValuesAre, AreLists, PlaceOrNone, ArePlaced}
+use Rattle.row_environments.specs.Answers.{LacksPlace, value_names_of, value_places_in, AreNamed, TablesPlaced, LacksRow, FindsTables, node_of_form, FindsEnv, PlacesEnv}
 use Rattle.row_environments.proofs.Tabled.{placed_names}
 use Rattle.row_environments.proofs.Valued.{values_names}
 use Rattle.row_environments.proofs.Placing.{rows_are, rows_there, lacking, values_are, values_there}

@@ -1,13 +1,9 @@
 -- Rows of a graph, and what they stand for.
-use Rattle.std.proofs.Common.{◌≡◌, ℕ, zero, suc, ◌+◌, ◌<◌, refl, sym, ap, ap₂, subst, ◌∙◌, arith, List, [], ◌∷◌, length, map, get_or, Option, Some, None}
+use Rattle.std.proofs.Common.{◌≡◌, ℕ, zero, suc, ◌<◌, refl, sym, ap, subst, arith, List, [], ◌∷◌, length, get_or, Option, Some, None}
 use Rattle.node_bytes.specs.Nodes.{Node}
 use Rattle.semantic_objects.specs.declared.entry.TypeStr.{TypeStr}
 use Rattle.semantic_objects.specs.declared.entry.ValueEntry.{ValueEntry}
-use Rattle.semantic_objects.specs.Environments.{Env, Structures, structures_of, table_of}
 use Rattle.semantic_objects.specs.Tables.{Table}
-use Rattle.interface_format.specs.Tags.{ValueRow}
-use Rattle.interface_format.specs.Trees.{rows_by, structure_rows, env_node, node_of_type, row_of_value}
-use Rattle.interface_format.specs.Rules.{IsTypeRow, IsValueRow, AreEnvs}
 use Rattle.interface_nodes.specs.declared.fields.NamedPlace.{NamedPlace}
 use Rattle.interface_nodes.specs.declared.fields.ValuePlace.{ValuePlace}
 use Rattle.interface_nodes.specs.Fields.{node_at, rows_at, values_at}
@@ -16,7 +12,7 @@ use Rattle.sml_modules.specs.Nodes.{AreAll}
 use Rattle.row_entries.specs.declared.rows.EntryRows.{EntryRows}
 use Rattle.row_entries.specs.Told.{IsOrNone, IsSchemeOf, IsStructureOf, RowsAre, AreEntries, ToldAt}
 use Rattle.row_entries.proofs.Cons.{is_at}
-use Rattle.row_environments.specs.Placed.{IsEnvOf, IsValueOf, ValuesAre, PlaceOrNone, AreAllPlaced, HasValue}
+use Rattle.row_environments.specs.Placed.{ValuesAre, PlaceOrNone, AreAllPlaced}
 use Rattle.row_environments.specs.Answers.{RowsPlaced, LacksPlace, places_in, ValuesPlaced}
 
 -- ---- a row that is placed

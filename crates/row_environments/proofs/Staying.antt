@@ -5,10 +5,8 @@ use Rattle.node_bytes.specs.Nodes.{Node}
 use Rattle.node_bytes.specs.Tables.{nowhere, row_node}
 use Rattle.node_bytes.specs.declared.table.Row.{Row}
 use Rattle.semantic_objects.specs.Trees.{TypeScheme}
-use Rattle.semantic_objects.specs.declared.entry.VidStatus.{VidStatus}
 use Rattle.interface_format.proofs.Entries.{scheme_told}
 use Rattle.interface_nodes.specs.Fields.{node_at}
-use Rattle.environment_walks.specs.Changing.{image_in}
 use Rattle.sml_modules.specs.Items.{Item, at, as_type, as_env, IsType, IsEnv}
 use Rattle.sml_modules.specs.Graphs.{Graph}
 use Rattle.sml_modules.specs.Adding.{Extends}
@@ -19,7 +17,7 @@ use Rattle.row_entries.specs.Told.{IsOrNone, IsSchemeOf, IsStructureOf, AreEntri
 use Rattle.row_entries.proofs.Cons.{is_at}
 use Rattle.row_environments.specs.declared.rows.ToldRows.{ToldRows}
 use Rattle.row_environments.specs.declared.values.ValuePlaces.{ValuePlaces}
-use Rattle.row_environments.specs.Placed.{IsEnvOf, StandsFor, PlaceOrNone, AreAllPlaced, ArePlaced, HasValue, AreValues, HavePlaces, images_for}
+use Rattle.row_environments.specs.Placed.{IsEnvOf, StandsFor, PlaceOrNone, AreAllPlaced, ArePlaced, AreValues, HavePlaces}
 use Rattle.row_environments.specs.Answers.{PlacesType, PlacesEnv, PlacesRow}
 use Rattle.row_environments.proofs.Valued.{values_kept}
 

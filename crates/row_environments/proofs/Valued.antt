@@ -2,7 +2,6 @@
 use Rattle.std.proofs.Common.{◌≡◌, ◌≢◌, ℕ, zero, suc, ◌+◌, ◌<◌, refl, sym, ap, subst, ◌∙◌, arith, List, [], ◌∷◌, ◌++◌, length, take, get_or, slice_get, Option, Some, None, Bool, true, false, cond, nat_eq}
 use Rattle.std.proofs.lemmas.Bool.{eqb-true}
 use Rattle.std.proofs.lemmas.List.{take_more}
-use Rattle.unification.proofs.Walking.{either_way}
 use Rattle.semantic_objects.specs.declared.entry.VidStatus.{VidStatus}
 use Rattle.semantic_objects.specs.declared.entry.VidStatus.TheVariants as status
 use Rattle.semantic_objects.specs.Symbols.{AreRising}
@@ -12,7 +11,7 @@ use Rattle.semantic_objects.specs.Trees.{TypeScheme}
 use Rattle.interface_nodes.specs.declared.fields.ValuePlace.{ValuePlace}
 use Rattle.environment_walks.specs.Changing.{image_in}
 use Rattle.environment_walks.proofs.Ordering.{IsAfter, rising_after, set_last}
-use Rattle.sml_modules.specs.Items.{Item, at, IsValue}
+use Rattle.sml_modules.specs.Items.{Item, IsValue}
 use Rattle.sml_modules.specs.Graphs.{Graph}
 use Rattle.sml_modules.specs.Adding.{Extends}
 use Rattle.sml_modules.proofs.Unfolding.{at_more}

@@ -1,4 +1,4 @@
-use Rattle.std.proofs.Common.{Some, subst}
+use Rattle.std.proofs.Common.{subst}
 use Rattle.row_entries.specs.Told.{ToldAt}
 use Rattle.row_environments.proofs.Valued.{values_kept, value_set}
 use Rattle.row_environments.proofs.values.value_place.Goals as goal
