@@ -47,9 +47,11 @@ numbered_on first next xs i x d e lt n h =
 -- .. or another one
 pub numbered_not : (first next : ℕ) (xs : List TyName) (i : ℕ) (x d : TyName) → x ≡ get_or xs i d → i < length xs
     → x.number ≢ next → NumberedAlike first xs next (drop i xs) → IsTrue false ↔ AreNumbered first xs
-numbered_not first next xs i x d e lt n h =
-    (λ t. absurd (cc), λ k. absurd (n (numbered_head next x (drop (i + 1) xs)
-    ((subst (NumberedAlike first xs next) (at_rest xs i x d e lt) h).to k))))
+numbered_not first next xs i x d e lt n h = (
+  λ t. absurd (cc),
+  λ k. absurd (n (numbered_head next x (drop (i + 1) xs)
+      ((subst (NumberedAlike first xs next) (at_rest xs i x d e lt) h).to k))),
+)
 
 all_dropped : (xs : List TyName) (i : ℕ) → length xs ≤ i → drop i xs ≡ []
 all_dropped [] zero h = refl

@@ -58,14 +58,14 @@ abbrev pub FormsSignature : List (Option ℕ) → List Item → CountedForm → 
 FormsSignature envs old form items found = (home : List ℕ) (made : List Node) → AreEnvsPlaced home old made envs
     → IsNumber form.count
     → PlaceOrNone IsSignature as_signature (IsSignatureOf home (signature_node form.count (node_at made form.place)))
-        items found
+    items found
 
 abbrev pub FormsFunctor : List (Option ℕ) → List Item → FunctorForm → List Item → Option ℕ → Type 0
 FormsFunctor envs old form items found = (home : List ℕ) (made : List Node) → AreEnvsPlaced home old made envs
     → IsNumber form.bound → IsNumber form.further
     → PlaceOrNone IsFunctor as_functor
-        (IsFunctorOf home (functor_node form.bound (node_at made form.param) form.further (node_at made form.body)))
-        items found
+    (IsFunctorOf home (functor_node form.bound (node_at made form.param) form.further (node_at made form.body)))
+    items found
 
 -- where a row stands
 abbrev pub PlacesSignature : List (Option ℕ) → List Item → Row → List Item → Option ℕ → Type 0

@@ -44,11 +44,7 @@ fn names_beyond(
 }
 
 /// The place of a signature over an environment, if its bound names are numbered, and so many.
-fn signature_over(
-    graph: &mut EnvGraph,
-    env: usize,
-    count: u32,
-) -> Result<Option<usize>, NoMemory>
+fn signature_over(graph: &mut EnvGraph, env: usize, count: u32) -> Result<Option<usize>, NoMemory>
     requires { IsEnv (at graph.old.items env) }
     ensures extends { Extends graph.old graph.new }
     ensures is { IfOk result (FindsSignature (as_env (at graph.old.items env)) count graph.new.items) }
