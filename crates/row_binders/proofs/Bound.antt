@@ -1,5 +1,5 @@
 -- Signatures and functors over environments, and the rows that are signatures and functors.
-use Rattle.std.proofs.Common.{◌≡◌, ◌≢◌, ℕ, refl, sym, ap, ap₂, subst, ◌∙◌, List, [], ◌∷◌, ◌++◌, length, filter, Option, Some, None, Bool, true, false, ◌&&◌, not}
+use Rattle.std.proofs.Common.{◌≡◌, ◌≢◌, ℕ, sym, ap, ap₂, subst, ◌∙◌, List, [], ◌∷◌, ◌++◌, length, filter, Option, Some, None, false}
 use Rattle.node_bytes.specs.Nodes.{Node, Content}
 use Rattle.node_bytes.specs.Shapes.{with_number}
 use Rattle.node_bytes.specs.Tables.{content_of, row_node}
@@ -12,7 +12,7 @@ use Rattle.realisation.specs.Canonical.{met, is_bound_name}
 use Rattle.canonical_types.specs.Orders.{is_of}
 use Rattle.canonical_types.proofs.Ordered.{both_filters, filter_once}
 use Rattle.interface_format.specs.Tags.{signature_node, functor_node}
-use Rattle.interface_format.specs.Trees.{env_node, node_of_signature, node_of_functor}
+use Rattle.interface_format.specs.Trees.{env_node}
 use Rattle.interface_format.specs.Rules.{IsNumber, AreNumbered, is_beyond}
 use Rattle.interface_format.specs.Rules as rules
 use Rattle.interface_format.proofs.Told.{part_told, number_then_told}
@@ -21,20 +21,20 @@ use Rattle.restoring_laws.proofs.Numbered.{names_agree}
 use Rattle.interface_nodes.specs.Fields.{node_at}
 use Rattle.sml_modules.specs.Items.{Item, at, as_env, as_signature, as_functor, IsEnv, IsSignature, IsFunctor}
 use Rattle.sml_modules.specs.Graphs.{Graph}
-use Rattle.sml_modules.specs.Adding.{Extends, Adds}
+use Rattle.sml_modules.specs.Adding.{Extends}
 use Rattle.row_forms.specs.declared.entries.CountedForm.{CountedForm}
 use Rattle.row_forms.specs.declared.modules.FunctorForm.{FunctorForm}
 use Rattle.row_forms.specs.Forms.{IsForm, NeverForm, with_counted, FitsCounted, counted_at, with_functor, FitsFunctor, functor_at}
 use Rattle.row_entries.specs.Told.{ToldAt}
 use Rattle.row_entries.proofs.Found.{row_is}
-use Rattle.row_environments.specs.Placed.{IsEnvOf, StandsFor, PlaceOrNone, AreAllPlaced, ArePlaced, HavePlaces}
+use Rattle.row_environments.specs.Placed.{IsEnvOf, StandsFor, PlaceOrNone, AreAllPlaced, HavePlaces}
 use Rattle.row_environments.specs.Answers.{PlacesRow}
 use Rattle.sml_modules.proofs.Unfolding.{Never}
 use Rattle.row_environments.proofs.Placing.{placed_at}
 use Rattle.row_environments.proofs.Valued.{values_kept}
 use Rattle.row_environments.proofs.Staying.{place_more, all_more, all_push, placed_more}
 use Rattle.row_binders.specs.declared.rows.BinderRows.{BinderRows}
-use Rattle.row_binders.specs.Binders.{IsSignatureOf, IsFunctorOf, AreCounted, FindsSignature, FindsFunctor, AreEnvsPlaced, FormsSignature, FormsFunctor, PlacesSignature, PlacesFunctor, HaveEnvs, AreBound, HaveBound, PlacesBinder}
+use Rattle.row_binders.specs.Binders.{IsSignatureOf, IsFunctorOf, AreCounted, FindsSignature, FindsFunctor, AreEnvsPlaced, FormsSignature, FormsFunctor, PlacesSignature, PlacesFunctor, HaveEnvs, HaveBound, PlacesBinder}
 
 content_same : (s t : ℕ) (c d : Content) → Node.node s c ≡ Node.node t d → c ≡ d
 content_same s t c d e = cc

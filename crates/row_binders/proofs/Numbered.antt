@@ -1,5 +1,5 @@
 -- Names that have the numbers from a first one on.
-use Rattle.std.proofs.Common.{◌≡◌, ◌≢◌, ℕ, zero, suc, ◌+◌, ◌<◌, ◌≤◌, refl, ap, ap₂, sym, subst, ◌∙◌, arith, List, [], ◌∷◌, length, map, drop, get_or, Bool, true, false, IsTrue, ◌↔◌}
+use Rattle.std.proofs.Common.{◌≡◌, ◌≢◌, ℕ, zero, suc, ◌+◌, ◌<◌, ◌≤◌, refl, ap, ap₂, sym, subst, ◌∙◌, arith, List, [], ◌∷◌, length, map, drop, get_or, true, false, IsTrue, ◌↔◌}
 use Rattle.std.specs.List.{range_with_len}
 use Rattle.semantic_objects.specs.declared.name.TyName.{TyName}
 use Rattle.interface_format.specs.Rules.{AreNumbered}

@@ -1,4 +1,4 @@
-use Rattle.std.proofs.Common.{subst, Some}
+use Rattle.std.proofs.Common.{subst}
 use Rattle.type_walks.proofs.Imaging.{if_ok}
 use Rattle.row_entries.specs.Told.{ToldAt}
 use Rattle.row_binders.proofs.Bound.{env_stands, signature_formed, signature_lacks}
