@@ -1,4 +1,4 @@
 pub mod Agreeing
 pub mod Units
 pub mod Reading
-pub mod Laws
+pub mod Back

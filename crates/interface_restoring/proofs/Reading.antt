@@ -146,8 +146,13 @@ tag_same s t c d e = cc
 top_at_none : (home : List ℕ) (top : Top) → IsTopOf home nowhere top → ⊥
 top_at_none home top h =
     let t : 0 ≡ 11 = tag_same 0 11 Content.nothing
-    (with_unit (rows_by (env_node home) (structures top.env), (rows_by (node_of_signature home) top.signatures,
-    (rows_by (node_of_functor home) top.functors, rows_by (node_of_functor home) top.funsigs))) Content.nothing) h.node in
+    (with_unit (
+      rows_by (env_node home) (structures top.env),
+      (
+        rows_by (node_of_signature home) top.signatures,
+        (rows_by (node_of_functor home) top.functors, rows_by (node_of_functor home) top.funsigs),
+      ),
+    ) Content.nothing) h.node in
     omega (arith, t)
 
 pub no_rows : (home : List ℕ) (table : List Row) (new : Graph) → table ≡ [] → Builds home table new None

@@ -313,9 +313,13 @@ items_fit {A} node xs h = record {
 pub top_never : (rows : BinderRows) (old items : List Item) (row : Row) (slice : List part.Item) → slice ≡ row.items
     → NeverForm FitsUnit with_unit slice → PlacesTop rows old row items None
 top_never rows old items row slice e h home made bound top is =
-    h.never made
-    (rows_by (env_node home) (structures top.env), (rows_by (node_of_signature home) top.signatures,
-    (rows_by (node_of_functor home) top.functors, rows_by (node_of_functor home) top.funsigs)))
+    h.never made (
+      rows_by (env_node home) (structures top.env),
+      (
+        rows_by (node_of_signature home) top.signatures,
+        (rows_by (node_of_functor home) top.functors, rows_by (node_of_functor home) top.funsigs),
+      ),
+    )
     (record {
       first = items_fit (env_node home) (structures top.env) (env_names top.env is.tables.env);
       second = record {
