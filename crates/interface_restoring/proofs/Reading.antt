@@ -181,3 +181,7 @@ pub reads_none : (home bytes rest : List ℕ) (new : Graph) (why : RestoreFault)
     → ReadsRows {S = Unit {0}} rest (Err why) → Reads home bytes new (Err why)
 reads_none home bytes rest new fault.BadInterface e h = unspelled home bytes rest e h
 reads_none home bytes rest new fault.NoMemory e h = tt
+
+pub none_left : (table : List Row) → length table ≡ 0 → table ≡ []
+none_left [] e = refl
+none_left (row ∷ table) e = absurd (omega (arith, e))
