@@ -5,12 +5,10 @@
 pub enum Kind {
     /// `nodes`: a table of nodes, by steps.
     Nodes,
-    /// `restored`: bytes that are read back as interfaces, by steps.
-    Restored,
 }
 
 /// The kinds with their names.
-const KINDS: [(&[u8], Kind); 2] = [(b"nodes", Kind::Nodes), (b"restored", Kind::Restored)];
+const KINDS: [(&[u8], Kind); 1] = [(b"nodes", Kind::Nodes)];
 
 /// The kind of a name.
 pub fn kind_of(name: &[u8]) -> Option<Kind> {

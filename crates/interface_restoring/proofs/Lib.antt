@@ -1,4 +1,0 @@
-pub mod Agreeing
-pub mod Units
-pub mod Reading
-pub mod Back

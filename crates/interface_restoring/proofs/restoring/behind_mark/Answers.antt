@@ -1,5 +1,0 @@
-use Rattle.interface_restoring.proofs.Reading.{stripped}
-use Rattle.interface_restoring.proofs.restoring.behind_mark.Goals as goal
-
-pub returns : goal.returns
-returns c = stripped c.args.bytes.now c.strip_prefix.result c.strip_prefix.ensures

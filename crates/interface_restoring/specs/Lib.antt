@@ -1,4 +1,0 @@
-pub mod Names
-pub mod Tops
-pub mod Restored
-pub mod Promises
