@@ -97,10 +97,13 @@ unit_as g h t basis top given env scope sealing tops reads r has b e s k =
 pub unit_made : (mid new : Graph) (t : Table) (want : Answer (Top × Progress)) (made : Top) (id : TopId)
     → want ≡ gives (made, progress t mid) → GivesTop mid new made id → want ≡ gives (top_at new id, progress t new)
 unit_made mid new t want made id h given =
-    h ∙ ap₂ (λ (x : Top) (n : ℕ). gives {A = Top × Progress} (x, (let st : Progress = record {
-      types = state t;
-      names = n;
-    } in st))) (sym given.stands) (sym (ap length given.made))
+    h ∙ ap₂ (λ (x : Top) (n : ℕ). gives {A = Top × Progress} (
+      x,
+      (let st : Progress = record {
+        types = state t;
+        names = n;
+      } in st),
+    )) (sym given.stands) (sym (ap length given.made))
 
 -- ---- what a unit defines by itself, and by the rules
 
