@@ -85,9 +85,9 @@ structures_at : (home : List ℕ) (top : Top) (binds : ModuleBinds) (made : Env)
     → IsAtTop every home top st → Given (λ r. IsAtTop every home top r.1) (infer_structures depth home top binds made st)
 structures_at home top ModuleBinds.EndOfBinds made st h = h
 structures_at home top (ModuleBinds.Bind name str rest) made st h =
-    always (λ r. IsAtTop every home top r.1) _ _ (λ u.
-    regrouped (λ r. IsAtTop every home top r.1) _ _ _
-    (given_then (λ r. IsAtTop every home top r.1) (λ r. IsAtTop every home top r.1) _ _
+    always (λ (r : Env × Progress). IsAtTop every home top r.1) _ _ (λ u.
+    regrouped (λ (r : Env × Progress). IsAtTop every home top r.1) _ _ _
+    (given_then (λ r. IsAtTop every home top r.1) (λ (r : Env × Progress). IsAtTop every home top r.1) _ _
     (structure_at_top home top name str st h) (λ e k. structures_at home top rest _ e.1 k)))
 
 signatures_at : (home : List ℕ) (top : Top) (binds : SigBinds) (made : Named Signature) (st : Progress)
@@ -102,18 +102,18 @@ functors_at : (home : List ℕ) (top : Top) (binds : List FunPhrase) (made : Nam
     → IsAtTop every home top st → Given (λ r. IsAtTop every home top r.1) (infer_functors depth home top binds made st)
 functors_at home top [] made st h = h
 functors_at home top (bind ∷ binds) made st h =
-    always (λ r. IsAtTop every home top r.1) _ _ (λ u.
-    regrouped (λ r. IsAtTop every home top r.1) _ _ _
-    (given_then (λ r. IsAtTop every home top r.1) (λ r. IsAtTop every home top r.1) _ _
+    always (λ (r : Named Functor × Progress). IsAtTop every home top r.1) _ _ (λ u.
+    regrouped (λ (r : Named Functor × Progress). IsAtTop every home top r.1) _ _ _
+    (given_then (λ r. IsAtTop every home top r.1) (λ (r : Named Functor × Progress). IsAtTop every home top r.1) _ _
     (functor_at_top home top bind st h) (λ r k. functors_at home top binds _ r.1 k)))
 
 funsigs_at : (home : List ℕ) (top : Top) (binds : List FunsigPhrase) (made : Named Functor) (st : Progress)
     → IsAtTop every home top st → Given (λ r. IsAtTop every home top r.1) (infer_funsigs home top binds made st)
 funsigs_at home top [] made st h = h
 funsigs_at home top (bind ∷ binds) made st h =
-    always (λ r. IsAtTop every home top r.1) _ _ (λ u.
-    regrouped (λ r. IsAtTop every home top r.1) _ _ _
-    (given_then (λ r. IsAtTop every home top r.1) (λ r. IsAtTop every home top r.1) _ _
+    always (λ (r : Named Functor × Progress). IsAtTop every home top r.1) _ _ (λ u.
+    regrouped (λ (r : Named Functor × Progress). IsAtTop every home top r.1) _ _ _
+    (given_then (λ r. IsAtTop every home top r.1) (λ (r : Named Functor × Progress). IsAtTop every home top r.1) _ _
     (funsig_at_top home top bind st h) (λ r k. funsigs_at home top binds _ r.1 k)))
 
 top_fit : (home : List ℕ) (top : Top) (dec : TopPhrase) (st : Progress) → IsAtTop every home top st

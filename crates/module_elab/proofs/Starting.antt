@@ -130,10 +130,10 @@ sound_from g t nobasis given sealing tops r may k has e =
     (units_begin_with_the_basis.given g.home nobasis (top_at g given) (progress t g) may k.fit))
 
 -- the declarations of a unit as a slice
-pub of_decs : {R : Type 0} {home : List ℕ} {top : Top} {st : Progress} {reads : R → Top × Progress} {r : Result R Fault}
-    {decs all : List TopDec} (sealing : Bool) → decs ≡ all
+pub of_decs : {R : Type 0} (home : List ℕ) (top : Top) (st : Progress) (reads : R → Top × Progress) (r : Result R Fault)
+    (decs all : List TopDec) (sealing : Bool) → decs ≡ all
     → Answers (infer_tops depth home top (map (read_top sealing) (map top_phrase decs)) st) reads r
     → Answers (infer_tops depth home top (read_unit sealing (map top_phrase all)) st) reads r
-of_decs {R} {home} {top} {st} {reads} {r} {decs} {all} sealing e h =
+of_decs home top st reads r decs all sealing e h =
     subst (λ (z : List TopDec). Answers (infer_tops depth home top (map (read_top sealing) (map top_phrase z)) st) reads r)
     e h

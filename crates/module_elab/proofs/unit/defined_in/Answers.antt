@@ -1,5 +1,5 @@
 use Rattle.std.proofs.Common.{◌∙◌}
-use Rattle.std.specs.Prelude.{Ok}
+use Rattle.std.specs.Prelude.{Ok, Err}
 use Rattle.cm_base.specs.declared.fault.Fault.TheVariants as fault
 use Rattle.unification.specs.Unification.{depth}
 use Rattle.sml_modules.specs.Graphs.{top_at}
@@ -88,9 +88,11 @@ returns-in_err-elab_tops-clause-infers c =
     (λ (id : TopId). (top_at c.elab_tops.new.g id, progress c.elab_tops.new.t c.elab_tops.new.g))
     c.in_err-elab_tops.field-0.0
     (unit_as c.args.g.now c.basis.new.g c.args.t.now (basis_top c.args.options.nobasis) c.in_ok-top.top c.args.given
-    c.in_ok-env.env c.in_ok-scope.scope c.args.options.opaque (unit_phrases c.args.unit.now) _ _ c.requires.given
+    c.in_ok-env.env c.in_ok-scope.scope c.args.options.opaque (unit_phrases c.args.unit.now)
+    (λ (u : Unit {0}). (defined_top c.elab_tops.new.g c.elab_tops.new.top.defined, progress c.elab_tops.new.t c.elab_tops.new.g))
+    (Err c.in_err-elab_tops.field-0.0) c.requires.given
     c.in_ok-top.ensures.ok c.in_ok-env.ensures c.in_ok-scope.ensures.seen
-    (of_decs c.args.options.opaque c.as_slice.ensures c.in_err-elab_tops.ensures.infers)))
+    (of_decs _ _ _ _ _ _ _ c.args.options.opaque c.as_slice.ensures c.in_err-elab_tops.ensures.infers)))
 
 pub returns-in_err-elab_tops-clause-ids : goal.returns-in_err-elab_tops-clause-ids
 returns-in_err-elab_tops-clause-ids c = c.in_err-elab_tops.ensures.goes.ids
@@ -135,7 +137,7 @@ returns-clause-infers c =
     c.in_ok-env.env c.in_ok-scope.scope c.args.options.opaque (unit_phrases c.args.unit.now)
     (λ (u : Unit {0}). (defined_top c.elab_tops.new.g c.elab_tops.new.top.defined, progress c.elab_tops.new.t c.elab_tops.new.g))
     (Ok tt) c.requires.given c.in_ok-top.ensures.ok c.in_ok-env.ensures c.in_ok-scope.ensures.seen
-    (of_decs c.args.options.opaque c.as_slice.ensures c.in_ok-elab_tops.ensures.infers))
+    (of_decs _ _ _ _ _ _ _ c.args.options.opaque c.as_slice.ensures c.in_ok-elab_tops.ensures.infers))
     c.in_ok-made.ensures.ok
 
 pub returns-clause-there : goal.returns-clause-there
