@@ -98,8 +98,13 @@ of_structures table = top_of_env (alone table)
 abbrev as_alone : Named Env × Progress → Answer (Env × Progress)
 as_alone q = gives (alone q.0, q.1)
 
-then_alone : (m : Answer (Named Env × Progress))
-    → ((m >>= as_alone) >>= λ r. gives (top_of_env r.0, r.1)) ≡ (m >>= λ q. gives (of_structures q.0, q.1))
+abbrev as_top_of : Env × Progress → Answer (Top × Progress)
+as_top_of r = gives (top_of_env r.0, r.1)
+
+abbrev as_structures : Named Env × Progress → Answer (Top × Progress)
+as_structures q = gives (of_structures q.0, q.1)
+
+then_alone : (m : Answer (Named Env × Progress)) → ((m >>= as_alone) >>= as_top_of) ≡ (m >>= as_structures)
 then_alone Rattle.std.specs.Prelude.None = refl
 then_alone (Rattle.std.specs.Prelude.Some (Err d)) = refl
 then_alone (Rattle.std.specs.Prelude.Some (Ok q)) = refl
