@@ -31,7 +31,7 @@ use Rattle.module_scopes.specs.Stays.{Defines}
 use Rattle.structure_elab.specs.Moments.{Moment, moment, seen_at, progress_at, Passes}
 use Rattle.structure_elab.proofs.Chains.{passes_over}
 use Rattle.top_bindings.specs.Bindings.{infer_bound, table_at, BindsRows, read_bind, structure_name, infer_structure, sig_name, infer_sig_bind, fun_name, infer_functor, funsig_name, infer_funsig, AreStructureRows, AreSignatureRows, AreFunctorRows, AreFunsigRows}
-use Rattle.top_bindings.proofs.Sorts.{binds_of, alone, alone_then, structures_bound, signatures_bound, functors_bound, funsigs_bound}
+use Rattle.top_bindings.proofs.Sorts.{binds_of, alone, structures_bound, signatures_bound, functors_bound, funsigs_bound}
 use Rattle.module_elab.specs.Tops.{IsDefined}
 use Rattle.module_elab.proofs.Turns.{top_is}
 use Rattle.module_elab.proofs.Defining.{IsAlone}
@@ -95,8 +95,16 @@ structures_phrase sealing binds at =
 abbrev of_structures : Named Env → Top
 of_structures table = top_of_env (alone table)
 
-then_alone : (m : Answer (Named Env × Progress))
-    → ((m >>= alone_then) >>= λ r. gives (top_of_env r.0, r.1)) ≡ (m >>= λ q. gives (of_structures q.0, q.1))
+abbrev as_alone : Named Env × Progress → Answer (Env × Progress)
+as_alone q = gives (alone q.0, q.1)
+
+abbrev as_top_of : Env × Progress → Answer (Top × Progress)
+as_top_of r = gives (top_of_env r.0, r.1)
+
+abbrev as_structures : Named Env × Progress → Answer (Top × Progress)
+as_structures q = gives (of_structures q.0, q.1)
+
+then_alone : (m : Answer (Named Env × Progress)) → ((m >>= as_alone) >>= as_top_of) ≡ (m >>= as_structures)
 then_alone Rattle.std.specs.Prelude.None = refl
 then_alone (Rattle.std.specs.Prelude.Some (Err d)) = refl
 then_alone (Rattle.std.specs.Prelude.Some (Ok q)) = refl
@@ -125,127 +133,122 @@ structures_alone g rows = top_is _ _ _ _ _ _ _ _
     (Rattle.module_scopes.proofs.Rows.tables_back (table_at env_at g rows)) ∙ once (map_rows (env_at g) rows)))
     refl refl refl
 
+abbrev structures_wanted : Bool → List StrBind → Moment → Answer (Named Env × Progress)
+structures_wanted sealing binds m =
+    infer_bound structure_name infer_structure (map (read_bind sealing) binds) [] m.graph.home (seen_at m) (progress_at m)
+
+none_there : {Id V : Type 0} (value : Graph → Id → V) (g : Graph) (none : Rows Id) → none ≡ []
+    → table_at value g none ≡ []
+none_there {Id} {V} value g none is = ap (λ (z : Rows Id). table_at value g z) is
+
 module _ {m0 m1 : Moment} (sealing : Bool) (binds : List StrBind) (at : At) (none rows : Rows EnvId) (is : none ≡ [])
   where
-    wanted : List ℕ → Top → Answer (Named Env × Progress)
-    wanted home top =
-        infer_bound structure_name infer_structure (map (read_bind sealing) binds) [] home top (progress_at m0)
-
-    from_none : (g : Graph) → table_at env_at g none ≡ []
-    from_none g = ap (λ (z : Rows EnvId). table_at env_at g z) is
-
     pub structures_fail : {e : Fault} → AreStructureRows m0 (map (read_bind sealing) binds) none rows m1 (Err e)
         → IsDefined m0 (structures_phrase sealing binds at) m1 (Err e)
-    structures_fail {e} h = refused (structures_phrase sealing binds at) (wanted m0.graph.home (seen_at m0))
+    structures_fail {e} h = refused (structures_phrase sealing binds at) (structures_wanted sealing binds m0)
         (table_at env_at m1.graph rows) of_structures
         (structures_top sealing binds at m0.graph.home (seen_at m0) (progress_at m0))
         (subst (λ (z : Named Env). Answers (infer_bound structure_name infer_structure (map (read_bind sealing) binds) z
         m0.graph.home (seen_at m0) (progress_at m0))
-        (λ (u : Unit {0}). (table_at env_at m1.graph rows, progress_at m1)) (Err e)) (from_none m0.graph) h.infers) h.goes
+        (λ (u : Unit {0}). (table_at env_at m1.graph rows, progress_at m1)) (Err e)) (none_there env_at m0.graph none is) h.infers) h.goes
 
     pub structures_defined : (top : TopScope)
         → AreStructureRows m0 (map (read_bind sealing) binds) none rows m1 (Ok tt)
         → ((g : Graph) → AreEnvs g rows → Defines g (top_of_env (structures_env g rows)) m1.top top)
         → IsDefined m0 (structures_phrase sealing binds at) (moment m1.graph m1.table top) (Ok tt)
-    structures_defined top h d = declared (structures_phrase sealing binds at) (wanted m0.graph.home (seen_at m0))
+    structures_defined top h d = declared (structures_phrase sealing binds at) (structures_wanted sealing binds m0)
         (table_at env_at m1.graph rows) of_structures top
         (structures_top sealing binds at m0.graph.home (seen_at m0) (progress_at m0))
         (subst (λ (z : Named Env). infer_bound structure_name infer_structure (map (read_bind sealing) binds) z
         m0.graph.home (seen_at m0) (progress_at m0) ≡ gives (table_at env_at m1.graph rows, progress_at m1))
-        (from_none m0.graph) h.infers) h.goes h.left (d m1.graph (envs_all m1.graph rows h.there))
+        (none_there env_at m0.graph none is) h.infers) h.goes h.left (d m1.graph (envs_all m1.graph rows h.there))
         (structures_alone m1.graph rows)
 
 -- ---- signatures
 
+abbrev sigs_wanted : List (Name × SigPhrase) → Moment → Answer (Named Signature × Progress)
+sigs_wanted binds m = infer_bound sig_name infer_sig_bind binds [] m.graph.home (seen_at m) (progress_at m)
+
+sigs_top : (m : Moment) (binds : List (Name × SigPhrase)) (at : At)
+    → infer_top depth m.graph.home (seen_at m) (TopPhrase.Signatures (sig_binds binds) at) (progress_at m)
+    ≡ (sigs_wanted binds m >>= λ q. gives (top_of_signatures q.0, q.1))
+sigs_top m binds at = ap (λ (w : Answer (Named Signature × Progress)). w >>= λ q. gives (top_of_signatures q.0, q.1))
+    (signatures_bound m.graph.home (seen_at m) binds [] (progress_at m))
+
 module _ {m0 m1 : Moment} (binds : List (Name × SigPhrase)) (at : At) (none rows : Rows SigId) (is : none ≡ []) where
-  sigs_wanted : List ℕ → Top → Answer (Named Signature × Progress)
-  sigs_wanted home top = infer_bound sig_name infer_sig_bind binds [] home top (progress_at m0)
-
-  sigs_top : infer_top depth m0.graph.home (seen_at m0) (TopPhrase.Signatures (sig_binds binds) at) (progress_at m0)
-      ≡ (sigs_wanted m0.graph.home (seen_at m0) >>= λ q. gives (top_of_signatures q.0, q.1))
-  sigs_top = ap (λ (w : Answer (Named Signature × Progress)). w >>= λ q. gives (top_of_signatures q.0, q.1))
-      (signatures_bound m0.graph.home (seen_at m0) binds [] (progress_at m0))
-
-  sigs_none : table_at signature_at m0.graph none ≡ []
-  sigs_none = ap (λ (z : Rows SigId). table_at signature_at m0.graph z) is
-
   pub signatures_fail : {e : Fault} → AreSignatureRows m0 binds none rows m1 (Err e)
       → IsDefined m0 (TopPhrase.Signatures (sig_binds binds) at) m1 (Err e)
   signatures_fail {e} h = refused (TopPhrase.Signatures (sig_binds binds) at)
-      (sigs_wanted m0.graph.home (seen_at m0)) (table_at signature_at m1.graph rows) top_of_signatures sigs_top
+      (sigs_wanted binds m0) (table_at signature_at m1.graph rows) top_of_signatures (sigs_top m0 binds at)
       (subst (λ (z : Named Signature). Answers (infer_bound sig_name infer_sig_bind binds z m0.graph.home (seen_at m0)
-      (progress_at m0)) (λ (u : Unit {0}). (table_at signature_at m1.graph rows, progress_at m1)) (Err e)) sigs_none
+      (progress_at m0)) (λ (u : Unit {0}). (table_at signature_at m1.graph rows, progress_at m1)) (Err e)) (none_there signature_at m0.graph none is)
       h.infers) h.goes
 
   pub signatures_defined : (top : TopScope) → AreSignatureRows m0 binds none rows m1 (Ok tt)
       → ((g : Graph) → AreSignatures g rows → Defines g (top_of_signatures (signatures_over g rows [])) m1.top top)
       → IsDefined m0 (TopPhrase.Signatures (sig_binds binds) at) (moment m1.graph m1.table top) (Ok tt)
   signatures_defined top h d = declared (TopPhrase.Signatures (sig_binds binds) at)
-      (sigs_wanted m0.graph.home (seen_at m0)) (table_at signature_at m1.graph rows) top_of_signatures top sigs_top
+      (sigs_wanted binds m0) (table_at signature_at m1.graph rows) top_of_signatures top (sigs_top m0 binds at)
       (subst (λ (z : Named Signature). infer_bound sig_name infer_sig_bind binds z m0.graph.home (seen_at m0)
-      (progress_at m0) ≡ gives (table_at signature_at m1.graph rows, progress_at m1)) sigs_none h.infers) h.goes h.left
+      (progress_at m0) ≡ gives (table_at signature_at m1.graph rows, progress_at m1)) (none_there signature_at m0.graph none is) h.infers) h.goes h.left
       (d m1.graph h.there)
       (top_is _ _ _ _ _ _ _ _ refl (once (map_rows (signature_at m1.graph) rows)) refl refl)
 
 -- ---- functors, and signatures of functors
 
+abbrev funs_wanted : List FunPhrase → Moment → Answer (Named Functor × Progress)
+funs_wanted binds m = infer_bound fun_name infer_functor binds [] m.graph.home (seen_at m) (progress_at m)
+
+funs_top : (m : Moment) (binds : List FunPhrase) (at : At)
+    → infer_top depth m.graph.home (seen_at m) (TopPhrase.Functors binds at) (progress_at m)
+    ≡ (funs_wanted binds m >>= λ q. gives (top_of_functors q.0, q.1))
+funs_top m binds at = ap (λ (w : Answer (Named Functor × Progress)). w >>= λ q. gives (top_of_functors q.0, q.1))
+    (functors_bound m.graph.home (seen_at m) binds [] (progress_at m))
+
 module _ {m0 m1 : Moment} (binds : List FunPhrase) (at : At) (none rows : Rows FunId) (is : none ≡ []) where
-  funs_wanted : List ℕ → Top → Answer (Named Functor × Progress)
-  funs_wanted home top = infer_bound fun_name infer_functor binds [] home top (progress_at m0)
-
-  funs_top : infer_top depth m0.graph.home (seen_at m0) (TopPhrase.Functors binds at) (progress_at m0)
-      ≡ (funs_wanted m0.graph.home (seen_at m0) >>= λ q. gives (top_of_functors q.0, q.1))
-  funs_top = ap (λ (w : Answer (Named Functor × Progress)). w >>= λ q. gives (top_of_functors q.0, q.1))
-      (functors_bound m0.graph.home (seen_at m0) binds [] (progress_at m0))
-
-  funs_none : table_at functor_at m0.graph none ≡ []
-  funs_none = ap (λ (z : Rows FunId). table_at functor_at m0.graph z) is
-
   pub functors_fail : {e : Fault} → AreFunctorRows m0 binds none rows m1 (Err e)
       → IsDefined m0 (TopPhrase.Functors binds at) m1 (Err e)
   functors_fail {e} h = refused (TopPhrase.Functors binds at)
-      (funs_wanted m0.graph.home (seen_at m0)) (table_at functor_at m1.graph rows) top_of_functors funs_top
+      (funs_wanted binds m0) (table_at functor_at m1.graph rows) top_of_functors (funs_top m0 binds at)
       (subst (λ (z : Named Functor). Answers (infer_bound fun_name infer_functor binds z m0.graph.home (seen_at m0)
-      (progress_at m0)) (λ (u : Unit {0}). (table_at functor_at m1.graph rows, progress_at m1)) (Err e)) funs_none
+      (progress_at m0)) (λ (u : Unit {0}). (table_at functor_at m1.graph rows, progress_at m1)) (Err e)) (none_there functor_at m0.graph none is)
       h.infers) h.goes
 
   pub functors_defined : (top : TopScope) → AreFunctorRows m0 binds none rows m1 (Ok tt)
       → ((g : Graph) → AreFunctors g rows → Defines g (top_of_functors (functors_over g rows [])) m1.top top)
       → IsDefined m0 (TopPhrase.Functors binds at) (moment m1.graph m1.table top) (Ok tt)
   functors_defined top h d = declared (TopPhrase.Functors binds at)
-      (funs_wanted m0.graph.home (seen_at m0)) (table_at functor_at m1.graph rows) top_of_functors top funs_top
+      (funs_wanted binds m0) (table_at functor_at m1.graph rows) top_of_functors top (funs_top m0 binds at)
       (subst (λ (z : Named Functor). infer_bound fun_name infer_functor binds z m0.graph.home (seen_at m0)
-      (progress_at m0) ≡ gives (table_at functor_at m1.graph rows, progress_at m1)) funs_none h.infers) h.goes h.left
+      (progress_at m0) ≡ gives (table_at functor_at m1.graph rows, progress_at m1)) (none_there functor_at m0.graph none is) h.infers) h.goes h.left
       (d m1.graph h.there)
       (top_is _ _ _ _ _ _ _ _ refl refl (once (map_rows (functor_at m1.graph) rows)) refl)
 
+abbrev funsigs_wanted : List FunsigPhrase → Moment → Answer (Named Functor × Progress)
+funsigs_wanted binds m = infer_bound funsig_name infer_funsig binds [] m.graph.home (seen_at m) (progress_at m)
+
+funsigs_top : (m : Moment) (binds : List FunsigPhrase) (at : At)
+    → infer_top depth m.graph.home (seen_at m) (TopPhrase.Funsigs binds at) (progress_at m)
+    ≡ (funsigs_wanted binds m >>= λ q. gives (top_of_funsigs q.0, q.1))
+funsigs_top m binds at = ap (λ (w : Answer (Named Functor × Progress)). w >>= λ q. gives (top_of_funsigs q.0, q.1))
+    (funsigs_bound m.graph.home (seen_at m) binds [] (progress_at m))
+
 module _ {m0 m1 : Moment} (binds : List FunsigPhrase) (at : At) (none rows : Rows FunId) (is : none ≡ []) where
-  funsigs_wanted : List ℕ → Top → Answer (Named Functor × Progress)
-  funsigs_wanted home top = infer_bound funsig_name infer_funsig binds [] home top (progress_at m0)
-
-  funsigs_top : infer_top depth m0.graph.home (seen_at m0) (TopPhrase.Funsigs binds at) (progress_at m0)
-      ≡ (funsigs_wanted m0.graph.home (seen_at m0) >>= λ q. gives (top_of_funsigs q.0, q.1))
-  funsigs_top = ap (λ (w : Answer (Named Functor × Progress)). w >>= λ q. gives (top_of_funsigs q.0, q.1))
-      (funsigs_bound m0.graph.home (seen_at m0) binds [] (progress_at m0))
-
-  funsigs_none : table_at functor_at m0.graph none ≡ []
-  funsigs_none = ap (λ (z : Rows FunId). table_at functor_at m0.graph z) is
-
   pub funsigs_fail : {e : Fault} → AreFunsigRows m0 binds none rows m1 (Err e)
       → IsDefined m0 (TopPhrase.Funsigs binds at) m1 (Err e)
   funsigs_fail {e} h = refused (TopPhrase.Funsigs binds at)
-      (funsigs_wanted m0.graph.home (seen_at m0)) (table_at functor_at m1.graph rows) top_of_funsigs funsigs_top
+      (funsigs_wanted binds m0) (table_at functor_at m1.graph rows) top_of_funsigs (funsigs_top m0 binds at)
       (subst (λ (z : Named Functor). Answers (infer_bound funsig_name infer_funsig binds z m0.graph.home (seen_at m0)
-      (progress_at m0)) (λ (u : Unit {0}). (table_at functor_at m1.graph rows, progress_at m1)) (Err e)) funsigs_none
+      (progress_at m0)) (λ (u : Unit {0}). (table_at functor_at m1.graph rows, progress_at m1)) (Err e)) (none_there functor_at m0.graph none is)
       h.infers) h.goes
 
   pub funsigs_defined : (top : TopScope) → AreFunsigRows m0 binds none rows m1 (Ok tt)
       → ((g : Graph) → AreFunctors g rows → Defines g (top_of_funsigs (functors_over g rows [])) m1.top top)
       → IsDefined m0 (TopPhrase.Funsigs binds at) (moment m1.graph m1.table top) (Ok tt)
   funsigs_defined top h d = declared (TopPhrase.Funsigs binds at)
-      (funsigs_wanted m0.graph.home (seen_at m0)) (table_at functor_at m1.graph rows) top_of_funsigs top funsigs_top
+      (funsigs_wanted binds m0) (table_at functor_at m1.graph rows) top_of_funsigs top (funsigs_top m0 binds at)
       (subst (λ (z : Named Functor). infer_bound funsig_name infer_funsig binds z m0.graph.home (seen_at m0)
-      (progress_at m0) ≡ gives (table_at functor_at m1.graph rows, progress_at m1)) funsigs_none h.infers) h.goes h.left
+      (progress_at m0) ≡ gives (table_at functor_at m1.graph rows, progress_at m1)) (none_there functor_at m0.graph none is) h.infers) h.goes h.left
       (d m1.graph h.there)
       (top_is _ _ _ _ _ _ _ _ refl refl refl (once (map_rows (functor_at m1.graph) rows)))
 

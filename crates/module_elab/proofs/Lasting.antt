@@ -2,18 +2,21 @@
 use Rattle.std.proofs.Common.{◌≡◌, ℕ, List, [], ◌∷◌, map, refl, sym, ap, ap₂, ◌∙◌, subst, Bool, false}
 use Rattle.sml_trees.specs.declared.name.Name.{Name}
 use Rattle.semantic_objects.specs.Tables.{Table as Named, with_entry}
-use Rattle.semantic_objects.specs.Environments.{Env, Signature, Functor, Top, empty_env, empty_top}
+use Rattle.semantic_objects.specs.Environments.{Env, Signature, Functor, Top, structures, with_structure, empty_env, empty_top}
 use Rattle.unification.specs.Unification.{depth}
 use Rattle.unification.specs.Fitting.{IsFit}
 use Rattle.static_semantics.specs.Inferring.{Progress, Answer, ◌>>=◌, gives}
+use Rattle.static_semantics.specs.TypeInference.{new_label}
 use Rattle.static_semantics.specs.Holding.{Given}
 use Rattle.static_semantics.proofs.Holding.{given_then, rows_with_all, has_modified}
 use Rattle.static_semantics.proofs.TypesGrow.{given_more}
 use Rattle.inference_laws.proofs.Making.{given_both, ready_after}
 use Rattle.module_semantics.specs.SigPhrases.{SigPhrase, SigBinds}
+use Rattle.module_semantics.specs.SignatureNames.{opened}
+use Rattle.module_semantics.specs.SignatureInference.{signature_of}
 use Rattle.unit_semantics.specs.UnitPhrases.{ModulePhrase, ModuleBinds, FunPhrase, FunsigPhrase, TopPhrase, read_binds, read_top, read_unit}
-use Rattle.unit_semantics.specs.StructureInference.{core_scope}
-use Rattle.unit_semantics.specs.UnitInference.{top_with, with_given, infer_structures, infer_signatures, infer_functors, infer_funsigs, infer_top, infer_tops, infer_unit}
+use Rattle.unit_semantics.specs.StructureInference.{core_scope, infer_module}
+use Rattle.unit_semantics.specs.UnitInference.{top_with, with_given, without_variables, infer_body, infer_result, infer_structures, infer_signatures, infer_functors, infer_funsigs, infer_top, infer_tops, infer_unit}
 use Rattle.unit_semantics.specs.Promises.{IsClosedScheme, IsClosedFunction, IsClosedEnv, IsClosedSignature, IsClosedFunctor, IsClosedTop}
 use Rattle.unit_semantics.proofs.Answers.{always}
 use Rattle.unit_semantics.proofs.UnitsClosed.{units_closed}
@@ -85,36 +88,64 @@ structures_at : (home : List ℕ) (top : Top) (binds : ModuleBinds) (made : Env)
     → IsAtTop every home top st → Given (λ r. IsAtTop every home top r.1) (infer_structures depth home top binds made st)
 structures_at home top ModuleBinds.EndOfBinds made st h = h
 structures_at home top (ModuleBinds.Bind name str rest) made st h =
-    always (λ r. IsAtTop every home top r.1) _ _ (λ u.
-    regrouped (λ r. IsAtTop every home top r.1) _ _ _
-    (given_then (λ r. IsAtTop every home top r.1) (λ r. IsAtTop every home top r.1) _ _
-    (structure_at_top home top name str st h) (λ e k. structures_at home top rest _ e.1 k)))
+    let one : Answer (Env × Progress) = infer_module depth home top str st in
+    let known : Env × Progress → Answer (Env × Progress) = without_variables (core_scope home top) name in
+    let more : Env × Progress → Answer (Env × Progress) =
+    λ e. infer_structures depth home top rest (with_structure name.text e.0 made) e.1 in
+    always {A = Unit {0}} (λ (r : Env × Progress). IsAtTop every home top r.1)
+    (new_label (core_scope home top) name (structures made)) (λ u. one >>= λ r. known r >>= more) (λ u.
+    regrouped (λ (r : Env × Progress). IsAtTop every home top r.1) one known more
+    (given_then (λ (r : Env × Progress). IsAtTop every home top r.1) (λ (r : Env × Progress). IsAtTop every home top r.1)
+    (one >>= known) more (structure_at_top home top name str st h)
+    (λ e k. structures_at home top rest (with_structure name.text e.0 made) e.1 k)))
 
 signatures_at : (home : List ℕ) (top : Top) (binds : SigBinds) (made : Named Signature) (st : Progress)
     → IsAtTop every home top st → Given (λ r. IsAtTop every home top r.1) (infer_signatures home top binds made st)
 signatures_at home top SigBinds.EndOfBinds made st h = h
 signatures_at home top (SigBinds.Bind name sig rest) made st h =
-    always (λ r. IsAtTop every home top r.1) _ _ (λ u.
-    given_then (λ r. IsAtTop every home top r.1) (λ r. IsAtTop every home top r.1) _ _
-    (signature_at_top home top sig st h) (λ r k. signatures_at home top rest _ r.1 k))
+    let one : Answer (Signature × Progress) = signature_of top.signatures (core_scope home top) sig st in
+    let more : Signature × Progress → Answer (Named Signature × Progress) =
+    λ r. infer_signatures home top rest (with_entry name.text r.0 made) r.1 in
+    always {A = Unit {0}} (λ (r : Named Signature × Progress). IsAtTop every home top r.1)
+    (new_label (core_scope home top) name made) (λ u. one >>= more) (λ u.
+    given_then (λ (r : Signature × Progress). IsAtTop every home top r.1)
+    (λ (r : Named Signature × Progress). IsAtTop every home top r.1) one more
+    (signature_at_top home top sig st h)
+    (λ r k. signatures_at home top rest (with_entry name.text r.0 made) r.1 k))
 
 functors_at : (home : List ℕ) (top : Top) (binds : List FunPhrase) (made : Named Functor) (st : Progress)
     → IsAtTop every home top st → Given (λ r. IsAtTop every home top r.1) (infer_functors depth home top binds made st)
 functors_at home top [] made st h = h
 functors_at home top (bind ∷ binds) made st h =
-    always (λ r. IsAtTop every home top r.1) _ _ (λ u.
-    regrouped (λ r. IsAtTop every home top r.1) _ _ _
-    (given_then (λ r. IsAtTop every home top r.1) (λ r. IsAtTop every home top r.1) _ _
-    (functor_at_top home top bind st h) (λ r k. functors_at home top binds _ r.1 k)))
+    let one : Answer (Signature × Progress) = signature_of top.signatures (core_scope home top) bind.param_sig st in
+    let body : Signature × Progress → Answer (Functor × Progress) =
+    λ p. infer_body depth home top bind p.0 (opened home p.0 p.1) in
+    let more : Functor × Progress → Answer (Named Functor × Progress) =
+    λ r. infer_functors depth home top binds (with_entry bind.name.text r.0 made) r.1 in
+    always {A = Unit {0}} (λ (r : Named Functor × Progress). IsAtTop every home top r.1)
+    (new_label (core_scope home top) bind.name made) (λ u. one >>= λ p. body p >>= more) (λ u.
+    regrouped (λ (r : Named Functor × Progress). IsAtTop every home top r.1) one body more
+    (given_then (λ (r : Functor × Progress). IsAtTop every home top r.1)
+    (λ (r : Named Functor × Progress). IsAtTop every home top r.1) (one >>= body) more
+    (functor_at_top home top bind st h)
+    (λ r k. functors_at home top binds (with_entry bind.name.text r.0 made) r.1 k)))
 
 funsigs_at : (home : List ℕ) (top : Top) (binds : List FunsigPhrase) (made : Named Functor) (st : Progress)
     → IsAtTop every home top st → Given (λ r. IsAtTop every home top r.1) (infer_funsigs home top binds made st)
 funsigs_at home top [] made st h = h
 funsigs_at home top (bind ∷ binds) made st h =
-    always (λ r. IsAtTop every home top r.1) _ _ (λ u.
-    regrouped (λ r. IsAtTop every home top r.1) _ _ _
-    (given_then (λ r. IsAtTop every home top r.1) (λ r. IsAtTop every home top r.1) _ _
-    (funsig_at_top home top bind st h) (λ r k. funsigs_at home top binds _ r.1 k)))
+    let one : Answer (Signature × Progress) = signature_of top.signatures (core_scope home top) bind.param_sig st in
+    let result : Signature × Progress → Answer (Functor × Progress) =
+    λ p. infer_result home top bind p.0 (opened home p.0 p.1) in
+    let more : Functor × Progress → Answer (Named Functor × Progress) =
+    λ r. infer_funsigs home top binds (with_entry bind.name.text r.0 made) r.1 in
+    always {A = Unit {0}} (λ (r : Named Functor × Progress). IsAtTop every home top r.1)
+    (new_label (core_scope home top) bind.name made) (λ u. one >>= λ p. result p >>= more) (λ u.
+    regrouped (λ (r : Named Functor × Progress). IsAtTop every home top r.1) one result more
+    (given_then (λ (r : Functor × Progress). IsAtTop every home top r.1)
+    (λ (r : Named Functor × Progress). IsAtTop every home top r.1) (one >>= result) more
+    (funsig_at_top home top bind st h)
+    (λ r k. funsigs_at home top binds (with_entry bind.name.text r.0 made) r.1 k)))
 
 top_fit : (home : List ℕ) (top : Top) (dec : TopPhrase) (st : Progress) → IsAtTop every home top st
     → Given (λ r. IsFit r.1.types) (infer_top depth home top dec st)

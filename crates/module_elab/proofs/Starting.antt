@@ -97,10 +97,13 @@ unit_as g h t basis top given env scope sealing tops reads r has b e s k =
 pub unit_made : (mid new : Graph) (t : Table) (want : Answer (Top × Progress)) (made : Top) (id : TopId)
     → want ≡ gives (made, progress t mid) → GivesTop mid new made id → want ≡ gives (top_at new id, progress t new)
 unit_made mid new t want made id h given =
-    h ∙ ap₂ (λ (x : Top) (n : ℕ). gives {A = Top × Progress} (x, (let st : Progress = record {
-      types = state t;
-      names = n;
-    } in st))) (sym given.stands) (sym (ap length given.made))
+    h ∙ ap₂ (λ (x : Top) (n : ℕ). gives {A = Top × Progress} (
+      x,
+      (let st : Progress = record {
+        types = state t;
+        names = n;
+      } in st),
+    )) (sym given.stands) (sym (ap length given.made))
 
 -- ---- what a unit defines by itself, and by the rules
 
@@ -127,10 +130,10 @@ sound_from g t nobasis given sealing tops r may k has e =
     (units_begin_with_the_basis.given g.home nobasis (top_at g given) (progress t g) may k.fit))
 
 -- the declarations of a unit as a slice
-pub of_decs : {R : Type 0} {home : List ℕ} {top : Top} {st : Progress} {reads : R → Top × Progress} {r : Result R Fault}
-    {decs all : List TopDec} (sealing : Bool) → decs ≡ all
+pub of_decs : {R : Type 0} (home : List ℕ) (top : Top) (st : Progress) (reads : R → Top × Progress) (r : Result R Fault)
+    (decs all : List TopDec) (sealing : Bool) → decs ≡ all
     → Answers (infer_tops depth home top (map (read_top sealing) (map top_phrase decs)) st) reads r
     → Answers (infer_tops depth home top (read_unit sealing (map top_phrase all)) st) reads r
-of_decs {R} {home} {top} {st} {reads} {r} {decs} {all} sealing e h =
+of_decs home top st reads r decs all sealing e h =
     subst (λ (z : List TopDec). Answers (infer_tops depth home top (map (read_top sealing) (map top_phrase z)) st) reads r)
     e h

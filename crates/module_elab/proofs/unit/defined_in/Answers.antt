@@ -1,5 +1,5 @@
 use Rattle.std.proofs.Common.{◌∙◌}
-use Rattle.std.specs.Prelude.{Ok}
+use Rattle.std.specs.Prelude.{Ok, Err}
 use Rattle.cm_base.specs.declared.fault.Fault.TheVariants as fault
 use Rattle.unification.specs.Unification.{depth}
 use Rattle.sml_modules.specs.Graphs.{top_at}
@@ -7,7 +7,7 @@ use Rattle.sml_modules.specs.declared.id.TopId.{TopId}
 use Rattle.initial_basis.specs.Basis.{basis_env, basis_top}
 use Rattle.unit_semantics.specs.UnitPhrases.{unit_phrases}
 use Rattle.unit_semantics.specs.UnitInference.{infer_unit}
-use Rattle.module_scopes.specs.Tops.{defined_top}
+use Rattle.module_scopes.specs.Tops.{defined_top, top_seen}
 use Rattle.type_phrases.specs.Inferred.{Answers, progress}
 use Rattle.type_phrases.proofs.PartsRead.{passed_on}
 use Rattle.type_phrases.proofs.Keeping.{keeps_all}
@@ -88,9 +88,13 @@ returns-in_err-elab_tops-clause-infers c =
     (λ (id : TopId). (top_at c.elab_tops.new.g id, progress c.elab_tops.new.t c.elab_tops.new.g))
     c.in_err-elab_tops.field-0.0
     (unit_as c.args.g.now c.basis.new.g c.args.t.now (basis_top c.args.options.nobasis) c.in_ok-top.top c.args.given
-    c.in_ok-env.env c.in_ok-scope.scope c.args.options.opaque (unit_phrases c.args.unit.now) _ _ c.requires.given
+    c.in_ok-env.env c.in_ok-scope.scope c.args.options.opaque (unit_phrases c.args.unit.now)
+    (λ (u : Unit {0}). (defined_top c.elab_tops.new.g c.elab_tops.new.top.defined, progress c.elab_tops.new.t c.elab_tops.new.g))
+    (Err c.in_err-elab_tops.field-0.0) c.requires.given
     c.in_ok-top.ensures.ok c.in_ok-env.ensures c.in_ok-scope.ensures.seen
-    (of_decs c.args.options.opaque c.as_slice.ensures c.in_err-elab_tops.ensures.infers)))
+    (of_decs c.basis.new.g.home (top_seen c.basis.new.g c.in_ok-scope.scope) (progress c.args.t.now c.basis.new.g)
+    (λ (u : Unit {0}). (defined_top c.elab_tops.new.g c.elab_tops.new.top.defined, progress c.elab_tops.new.t c.elab_tops.new.g)) (Err c.in_err-elab_tops.field-0.0) _ _
+    c.args.options.opaque c.as_slice.ensures c.in_err-elab_tops.ensures.infers)))
 
 pub returns-in_err-elab_tops-clause-ids : goal.returns-in_err-elab_tops-clause-ids
 returns-in_err-elab_tops-clause-ids c = c.in_err-elab_tops.ensures.goes.ids
@@ -135,7 +139,9 @@ returns-clause-infers c =
     c.in_ok-env.env c.in_ok-scope.scope c.args.options.opaque (unit_phrases c.args.unit.now)
     (λ (u : Unit {0}). (defined_top c.elab_tops.new.g c.elab_tops.new.top.defined, progress c.elab_tops.new.t c.elab_tops.new.g))
     (Ok tt) c.requires.given c.in_ok-top.ensures.ok c.in_ok-env.ensures c.in_ok-scope.ensures.seen
-    (of_decs c.args.options.opaque c.as_slice.ensures c.in_ok-elab_tops.ensures.infers))
+    (of_decs c.basis.new.g.home (top_seen c.basis.new.g c.in_ok-scope.scope) (progress c.args.t.now c.basis.new.g)
+    (λ (u : Unit {0}). (defined_top c.elab_tops.new.g c.elab_tops.new.top.defined, progress c.elab_tops.new.t c.elab_tops.new.g)) (Ok tt) _ _
+    c.args.options.opaque c.as_slice.ensures c.in_ok-elab_tops.ensures.infers))
     c.in_ok-made.ensures.ok
 
 pub returns-clause-there : goal.returns-clause-there
