@@ -1,4 +1,5 @@
 use Rattle.std.proofs.Common.{◌∙◌, subst, sym, ap, length}
+use Rattle.std.specs.Prelude.{Ok, Err}
 use Rattle.unification.specs.Unification.{depth}
 use Rattle.type_nodes.specs.Tables.{IsFrontOf}
 use Rattle.sml_modules.specs.Graphs.{top_at}
@@ -32,14 +33,14 @@ returns-in-Ok-clause-alone c = λ none.
     alone_from c.args.g.now c.args.t.now c.args.options.nobasis c.args.given c.args.options.opaque
     (unit_phrases c.args.unit.now)
     (λ (id : TopId). (top_at c.defined_in.new.g id, progress c.defined_in.new.t c.defined_in.new.g))
-    c.defined_in.result c.requires.fit c.is_kept.ensures none c.defined_in.ensures.infers
+    (Ok c.in-Ok.id) c.requires.fit c.is_kept.ensures none c.in-Ok.ensures.infers
 
 pub returns-clause-alone : goal.returns-clause-alone
 returns-clause-alone c = λ none.
     alone_from c.args.g.now c.args.t.now c.args.options.nobasis c.args.given c.args.options.opaque
     (unit_phrases c.args.unit.now)
     (λ (id : TopId). (top_at c.defined_in.new.g id, progress c.defined_in.new.t c.defined_in.new.g))
-    c.defined_in.result c.requires.fit c.is_kept.ensures none c.defined_in.ensures.infers
+    (Err c.in-Err.fault) c.requires.fit c.is_kept.ensures none c.in-Err.ensures.infers
 
 pub returns-in-Ok-clause-sound : goal.returns-in-Ok-clause-sound
 returns-in-Ok-clause-sound c = λ has.
