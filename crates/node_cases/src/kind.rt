@@ -5,10 +5,12 @@
 pub enum Kind {
     /// `nodes`: a table of nodes, by steps.
     Nodes,
+    /// `restored`: bytes that are read back as interfaces, by steps.
+    Restored,
 }
 
 /// The kinds with their names.
-const KINDS: [(&[u8], Kind); 1] = [(b"nodes", Kind::Nodes)];
+const KINDS: [(&[u8], Kind); 2] = [(b"nodes", Kind::Nodes), (b"restored", Kind::Restored)];
 
 /// The kind of a name.
 pub fn kind_of(name: &[u8]) -> Option<Kind> {

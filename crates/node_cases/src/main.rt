@@ -1,13 +1,15 @@
-//! Cases of nodes: each step adds a node to a table, or writes one.
+//! Cases of nodes: each step adds a node to a table, or writes one; or it reads bytes back as an interface.
 #![tactic(auto)]
 
 mod hex_words;
 mod kind;
+mod restored;
 mod scene;
 
 use case_files::{Case, CaseFault, Kinds, Report, Wrong, run_cases};
 use case_texts::take_steps;
 use kind::{Kind, kind_of};
+use restored::RestoreScene;
 use scene::NodeScene;
 use std::alloc::Global;
 use std::process::ExitCode;
@@ -22,10 +24,18 @@ fn try_nodes(alloc: Global, case: &Case, report: &mut Report) -> Result<(), Case
     take_steps(alloc, &mut scene, case, report)
 }
 
+/// Takes the steps that read interfaces.
+fn try_restored(alloc: Global, case: &Case, report: &mut Report) -> Result<(), CaseFault> {
+    case.has_only(&[b"steps"])?;
+    let mut scene = RestoreScene::new(alloc);
+    take_steps(alloc, &mut scene, case, report)
+}
+
 impl Kinds for NodeKinds {
     fn try_case(&self, alloc: Global, case: &Case, report: &mut Report) -> Result<(), CaseFault> {
         match kind_of(case.kind.as_bytes()) {
             Some(Kind::Nodes) => try_nodes(alloc, case, report),
+            Some(Kind::Restored) => try_restored(alloc, case, report),
             None => Err(CaseFault::Wrong(case.line, Wrong::Kind)),
         }
     }

@@ -24,7 +24,7 @@ pub struct NodeScene {
 }
 
 /// A number as a line.
-fn number_line(alloc: Global, number: u64) -> Result<Option<Vec<u8>>, NoMemory> {
+pub fn number_line(alloc: Global, number: u64) -> Result<Option<Vec<u8>>, NoMemory> {
     let mut out = Vec::new(alloc);
     push_parts(alloc, &mut out, &[Part::Number(number), Part::Text(b"\n")])?;
     Ok(Some(out))

@@ -1,0 +1,4 @@
+pub mod Agreeing
+pub mod Units
+pub mod Reading
+pub mod Back

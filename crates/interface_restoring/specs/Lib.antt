@@ -1,0 +1,4 @@
+pub mod Names
+pub mod Tops
+pub mod Restored
+pub mod Promises
