@@ -31,12 +31,7 @@ enum Bytes {
 }
 
 /// What the interface of a unit is written as: the bytes that were read, or others.
-fn written_back(
-    graph: &EnvGraph,
-    top: TopId,
-    home: &Text,
-    bytes: &[u8],
-) -> Result<Bytes, NoMemory>
+fn written_back(graph: &EnvGraph, top: TopId, home: &Text, bytes: &[u8]) -> Result<Bytes, NoMemory>
     requires { HasTop graph.now top }
 {
     match pickle(graph, top, home) {
@@ -115,7 +110,12 @@ impl RestoreScene {
 
     /// How many fronts of bytes, and how many texts with one bit turned, are interfaces; or that one of these is written
     /// back otherwise.
-    fn near(&self, home: &Text, bytes: &[u8], is_turned: bool) -> Result<Option<Vec<u8>>, NoMemory> {
+    fn near(
+        &self,
+        home: &Text,
+        bytes: &[u8],
+        is_turned: bool,
+    ) -> Result<Option<Vec<u8>>, NoMemory> {
         if !is_turned {
             return number_line(self.alloc, count_fronts(self.alloc, home, bytes)?);
         }
