@@ -1,6 +1,6 @@
 -- How a command ends, from the work that was done and what was printed.
-use Rattle.std.proofs.Common.{◌≡◌, ◌≢◌, ◌∙◌, sym, ap, refl, inl, inr, arith, ℕ, List, [], ◌++◌, Option, Some, None, take, append-nil}
-use Rattle.std.specs.Prelude.{Contains, Result, Ok, Err}
+use Rattle.std.proofs.Common.{◌≡◌, ◌∙◌, ◌⊎◌, sym, ap, refl, inl, inr, arith, ℕ, List, [], ◌++◌, Option, Some, take, append-nil}
+use Rattle.std.specs.Prelude.{Contains, Result, Ok}
 use Rattle.std.proofs.lemmas.List.Elements.{Contains-append_left}
 use Rattle.cm_base.specs.Causes.{Rose}
 use Rattle.cm_base.specs.Definitions.{Definitions}
@@ -9,11 +9,10 @@ use Rattle.cm_base.specs.Fronts.{GrowsUpTo}
 use Rattle.cm_base.proofs.FrontLemmas.{grows_all, grows_none}
 use Rattle.cm_base.proofs.KeepingLemmas.{keeps_same}
 use Rattle.bin_store.proofs.GoodAfter.{store_is_good, store_more}
-use Rattle.command_words.specs.declared.command.Command.{Command}
-use Rattle.cm_top.specs.Answers.{AsksFor, AsksFromGood, Does, Prints, Works}
-use Rattle.cm_top.specs.Headline.{Completes, Ends, FromGood, IsAsPromised, IsCutOff, IsCutShort, IsMeaning, IsUsageEnd, KeepsOthers, Run, Stays}
-use Rattle.cm_top.specs.Meaning.{Meaning, of_build, of_command, prints_last}
-use Rattle.cm_top.specs.ProjectBuild.{Builder, Prepared, Way, built, plain_over, store_over}
+use Rattle.cm_top.specs.Answers.{Does, Prints}
+use Rattle.cm_top.specs.Headline.{Ends, IsCutOff, IsCutShort, IsMeaning, IsPlain, IsUsageEnd, KeepsOthers, Run, Stays}
+use Rattle.cm_top.specs.Meaning.{Meaning, of_build, prints_last}
+use Rattle.cm_top.specs.ProjectBuild.{Prepared, plain_over}
 use Rattle.cm_top.specs.declared.status.Status.{Status}
 use Rattle.cm_top.specs.declared.status.Status.TheVariants as status
 use Rattle.cm_top.specs.declared.work.Report.{Report}
@@ -22,10 +21,6 @@ use Rattle.cm_top.specs.declared.work.WorkFault.{WorkFault}
 -- a command that prints all at its end may be cut off before
 pub nothing_printed : Contains prints_last []
 nothing_printed = (0, omega arith, refl)
-
-pub command_cut : (way : Way) (files : Files) (command : Option Command) → Contains (of_command way files command).cuts []
-command_cut way files None = nothing_printed
-command_cut way files (Some command) = nothing_printed
 
 pub cut_short : (m : Meaning) (run : Run) (printed : List ℕ) → Contains m.cuts printed → IsCutOff m printed run
     → IsCutShort m run
@@ -106,73 +101,6 @@ nothing_done m run old same before asked skeletons quiet =
 
 -- ---- builds
 
--- what was prepared: over the store as it stands, and with the compiler's skeletons
-module _ (by : Definitions) (files : Files) (target : Option (List ℕ)) (over plain : Prepared) (run : Run)
-    (old : Option (List ℕ)) where
-  -- a build whose report was printed, or whose printing was cut off
-  printed : (builds : Builder) (ready : Prepared) (result : Status) (report : Report)
-      → Works target (Ok report) (built builds files ready.units) run.holds run.asked run.asked_then → old ≡ Some run.text
-      → run.skeletons_then ≡ run.skeletons ++ ready.asked_skeletons
-      → Prints result report.status old run.written report.text → Ends result (of_build builds files target ready) run
-  printed builds ready result report works before skeletons prints =
-      after_print (of_build builds files target ready) run old result report.status report.text works.ends.status
-      works.ends.text before works.ends.files works.asks skeletons nothing_printed prints
-
-  pub does_printed : (result : Status) (report : Report)
-      → Does by files target over.units plain.units (Ok report) run.holds run.asked run.asked_then → old ≡ Some run.text
-      → AsksFor (Ok report) over.asked_skeletons run.skeletons run.skeletons_then
-      → Prints result report.status old run.written report.text
-      → Ends result (of_build (store_over by) files target over) run
-  does_printed result report does before skeletons prints =
-      printed (store_over by) over result report does.over_store before skeletons prints
-
-  pub promised_printed : (result : Status) (report : Report)
-      → Does by files target over.units plain.units (Ok report) run.holds run.asked run.asked_then → old ≡ Some run.text
-      → AsksFromGood by files (Ok report) plain.asked_skeletons run.skeletons run.skeletons_then
-      → Prints result report.status old run.written report.text
-      → IsAsPromised by files (of_build (plain_over by) files target plain) result run
-  promised_printed result report does before skeletons prints = record {
-    ends = λ known apart good.
-        printed (plain_over by) plain result report (does.from_good known apart good).works before (skeletons known good)
-        prints;
-  }
-
-  -- a build that was cut off
-  cut_off : (builds : Builder) (ready : Prepared) (fault : WorkFault)
-      → Works target (Err fault) (built builds files ready.units) run.holds run.asked run.asked_then → old ≡ Some run.text
-      → run.written ≡ old → GrowsUpTo run.skeletons run.skeletons_then ready.asked_skeletons
-      → IsCutShort (of_build builds files target ready) run
-  cut_off builds ready fault works before same skeletons =
-      after_cut (of_build builds files target ready) run old same before nothing_printed works.asks skeletons
-
-  pub does_cut : (fault : WorkFault)
-      → Does by files target over.units plain.units (Err fault) run.holds run.asked run.asked_then → old ≡ Some run.text
-      → run.written ≡ old → AsksFor (Err fault) over.asked_skeletons run.skeletons run.skeletons_then
-      → IsCutShort (of_build (store_over by) files target over) run
-  does_cut fault does before same skeletons =
-      cut_off (store_over by) over fault does.over_store before same skeletons
-
-  -- .. as it is promised
-  promised_cut : (fault : WorkFault)
-      → Does by files target over.units plain.units (Err fault) run.holds run.asked run.asked_then → old ≡ Some run.text
-      → run.written ≡ old → AsksFromGood by files (Err fault) plain.asked_skeletons run.skeletons run.skeletons_then
-      → FromGood by files (of_build (plain_over by) files target plain)
-      (λ known. IsCutShort (of_build (plain_over by) files target plain) run)
-  promised_cut fault does before same skeletons = λ known apart good.
-      cut_off (plain_over by) plain fault (does.from_good known apart good).works before same (skeletons known good)
-
-  pub promised_failed : (fault : WorkFault)
-      → Does by files target over.units plain.units (Err fault) run.holds run.asked run.asked_then → old ≡ Some run.text
-      → run.written ≡ old → AsksFromGood by files (Err fault) plain.asked_skeletons run.skeletons run.skeletons_then
-      → IsAsPromised by files (of_build (plain_over by) files target plain) status.FolderFault run
-  promised_failed fault does before same skeletons = record { ends = promised_cut fault does before same skeletons }
-
-  pub promised_wanting : (fault : WorkFault)
-      → Does by files target over.units plain.units (Err fault) run.holds run.asked run.asked_then → old ≡ Some run.text
-      → run.written ≡ old → AsksFromGood by files (Err fault) plain.asked_skeletons run.skeletons run.skeletons_then
-      → IsAsPromised by files (of_build (plain_over by) files target plain) status.NoMemory run
-  promised_wanting fault does before same skeletons = record { ends = promised_cut fault does before same skeletons }
-
 -- what a build leaves of the folder, whatever it answers
 pub stays_built : (by : Definitions) (files : Files) (target : Option (List ℕ)) (over plain : Prepared)
     (result : Result Report WorkFault) (holds : Option Files) (before after : List (List ℕ))
@@ -194,21 +122,16 @@ usage_ends status.SinkFault old new text prints = tt
 usage_ends status.NoMemory old new text prints = tt
 usage_ends status.ToolFault old new text prints = prints
 
--- ---- completeness
-
-pub completes : (by : Definitions) (files : Files) (m : Meaning) (end : Status) (run : Run) (folder_failed sink_failed : Type 0)
-    → (end ≡ status.FolderFault → folder_failed) → (end ≡ status.SinkFault → sink_failed) → end ≢ status.ToolFault
-    → IsAsPromised by files m end run → Completes by files m end folder_failed sink_failed
-completes by files m status.Ok run P Q f s t promise = λ nf ns known apart good. inl (promise.ends known apart good).status
-completes by files m status.Diagnostic run P Q f s t promise =
-    λ nf ns known apart good. inl (promise.ends known apart good).status
-completes by files m status.Usage run P Q f s t promise =
-    λ nf ns known apart good. inl (promise.ends known apart good).status
-completes by files m status.FolderFault run P Q f s t promise = λ nf ns known apart good. absurd (nf (f refl))
-completes by files m status.SinkFault run P Q f s t promise = λ nf ns known apart good. absurd (ns (s refl))
-completes by files m status.NoMemory run P Q f s t promise = λ nf ns known apart good. inr refl
-completes by files m status.ToolFault run P Q f s t promise = λ nf ns known apart good. absurd (t refl)
-
 -- a count that is always 0 never rises
 pub never_rose : Rose 0 0 → ⊥
 never_rose rose = absurd (omega (arith, rose))
+
+-- a command met no fault, or it did
+pub plain_or : (end : Status) → IsPlain end ⊎ (IsPlain end → ⊥)
+plain_or status.Ok = inl tt
+plain_or status.Diagnostic = inl tt
+plain_or status.Usage = inl tt
+plain_or status.FolderFault = inr (λ plain. plain)
+plain_or status.SinkFault = inr (λ plain. plain)
+plain_or status.NoMemory = inr (λ plain. plain)
+plain_or status.ToolFault = inr (λ plain. plain)

@@ -10,7 +10,5 @@ pub mod Shadows
 pub mod TargetLeaves
 pub mod OutNames
 pub mod Pieces
-pub mod GoingOn
-pub mod Briefly
 pub mod Parts
 pub mod ScriptLaws

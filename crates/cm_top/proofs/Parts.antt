@@ -1,18 +1,17 @@
 -- The parts of a generated project: its edits are of its own files, and its commands build.
-use Rattle.std.proofs.Common.{◌≡◌, ◌≢◌, ◌∙◌, sym, subst, refl, inl, inr, arith, ℕ, zero, suc, ◌+◌, ◌-◌, ◌<◌, ◌≤◌, false, List, [], ◌∷◌, ◌++◌, map, Option, Some, None}
+use Rattle.std.proofs.Common.{◌≡◌, ◌≢◌, sym, subst, refl, arith, ℕ, zero, suc, ◌+◌, ◌-◌, ◌<◌, ◌≤◌, false, List, [], ◌∷◌, ◌++◌, map, Option, Some, None}
 use Rattle.std.specs.Prelude.{Contains}
 use Rattle.std.specs.List.{AllByRecursion, range_with_len}
-use Rattle.std.proofs.lemmas.List.Elements.{Contains-append_cases, Contains-append_left, Contains-append_right}
+use Rattle.std.proofs.lemmas.List.Elements.{Contains-append_left, Contains-append_right}
 use Rattle.std.proofs.lemmas.List.FromFn.{get_or-map-range_with_len, length-map-range_with_len}
-use Rattle.cm_base.specs.Files.{Files, is_stored, store_prefix}
+use Rattle.cm_base.specs.Files.{is_stored, store_prefix}
 use Rattle.session_scripts.specs.declared.step.Step.{Step}
+use Rattle.session_scripts.specs.declared.step.Step.TheVariants as step
 use Rattle.generated_projects.specs.Generating.{build_project, build_word, description_path, generated, middle, numbers, source_path, write_again, write_description, write_source}
 use Rattle.command_words.specs.Words.{command_of, is_definition_mark, verb_of}
-use Rattle.command_words.specs.declared.command.Command.TheVariants.{Build}
-use Rattle.cm_top.specs.Generating.{IsPart, briefly, files_of, generating, make, of_part}
-use Rattle.cm_top.specs.InTurn.{then_command}
-use Rattle.cm_top.specs.ProjectBuild.{Way}
-use Rattle.cm_top.proofs.GoingOn.{either_way}
+use Rattle.command_words.specs.declared.command.Command.{Command}
+use Rattle.command_words.specs.declared.command.Command.TheVariants as command
+use Rattle.cm_top.specs.Generating.{IsPart, files_of}
 
 -- ---- each is a part
 
@@ -24,7 +23,7 @@ source_outside : (k : ℕ) → is_stored (source_path k) ≡ false
 unfolding is_stored source_path store_prefix
 source_outside k = refl
 
-builds : command_of (build_word ∷ description_path ∷ []) ≡ Some (Build [] description_path)
+builds : command_of (build_word ∷ description_path ∷ []) ≡ Some (command.Build [] description_path)
 unfolding verb_of is_definition_mark build_word description_path
 builds = refl
 
@@ -48,18 +47,24 @@ all_parts n = (
 pub none_within : (path : List ℕ) → Contains [] path → ⊥
 none_within path (i, within, at) = omega (arith, within)
 
-one_within : (x path : List ℕ) → Contains (x ∷ []) path → x ≡ path
+pub one_within : (x path : List ℕ) → Contains (x ∷ []) path → x ≡ path
 one_within x path (zero, within, at) = at
 one_within x path (suc i, within, at) = absurd (omega (arith, within))
 
--- what a part changes is one of the files of so many units
+-- what a part changes outside the store is one of the files of so many units; its command has no target
+abbrev pub HasNoTarget : Option Command → Type 0
+HasNoTarget None = Unit {0}
+HasNoTarget (Some (command.Build defs root)) = Unit {0}
+HasNoTarget (Some (command.Link defs root out)) = ⊥
+
 abbrev pub IsOf : ℕ → Step → Type 0
-IsOf n part = (way : Way) (files : Files) (path : List ℕ) → Contains (of_part way files part).outside path
-    → Contains (files_of n) path
+IsOf n (step.Write path content) = Contains (files_of n) path
+IsOf n (step.Remove path) = Contains (files_of n) path
+IsOf n (step.Command words) = HasNoTarget (command_of words)
 
 description_is : (n : ℕ) → IsOf n (write_description n)
-description_is n way files path within =
-    Contains-append_left (description_path ∷ []) (map source_path (numbers n)) path within
+description_is n =
+    Contains-append_left (description_path ∷ []) (map source_path (numbers n)) description_path (0, omega arith, refl)
 
 is_file : (n k : ℕ) → 1 ≤ k → k ≤ n → Contains (files_of n) (source_path k)
 is_file n k least most =
@@ -71,16 +76,13 @@ is_file n k least most =
     )
 
 source_is : (n k : ℕ) → 1 ≤ k → k ≤ n → IsOf n (write_source k)
-source_is n k least most way files path within =
-    subst (Contains (files_of n)) (one_within (source_path k) path within) (is_file n k least most)
+source_is n k least most = is_file n k least most
 
 again_is : (n k : ℕ) → 1 ≤ k → k ≤ n → IsOf n (write_again k)
-again_is n k least most way files path within =
-    subst (Contains (files_of n)) (one_within (source_path k) path within) (is_file n k least most)
+again_is n k least most = is_file n k least most
 
 build_is : (n : ℕ) → IsOf n build_project
-build_is n way files path within =
-    absurd (none_within path (subst (λ o. Contains (briefly way files o).outside path) builds within))
+build_is n = subst HasNoTarget (sym builds) tt
 
 sources_of : (n a m : ℕ) → 1 ≤ a → a + m ≤ n + 1 → (rest : List Step) → AllByRecursion (IsOf n) rest
     → AllByRecursion (IsOf n) (map write_source (range_with_len a m) ++ rest)
@@ -102,21 +104,3 @@ all_of n least = (
   sources_of n 1 n (omega arith) (omega arith) (build_project ∷ write_again (middle n) ∷ build_project ∷ [])
       (build_is n, (again_is n (middle n) (middle_least n least) (middle_most n least), (build_is n, tt))),
 )
-
-made_outside : (n : ℕ) (way : Way) (parts : List Step) → AllByRecursion (IsOf n) parts → (files : Files) (path : List ℕ)
-    → Contains (make way parts files).outside path → Contains (files_of n) path
-made_outside n way [] all files path = λ within. absurd (none_within path within)
-made_outside n way (part ∷ parts) all files path =
-    let first = of_part way files part in
-    let rest = make way parts first.files in
-    either_way first rest (λ m. Contains m.outside path → Contains (files_of n) path)
-    (λ within. elim (Contains-append_cases first.outside rest.outside path within) [
-      | inl here ↦ all.0 way files path here
-      | inr later ↦ made_outside n way parts all.1 first.files path later
-    ])
-    (λ within. all.0 way files path within)
-
-pub generated_outside : (n : ℕ) → 1 ≤ n → (way : Way) (files : Files) (path : List ℕ)
-    → Contains (generating way n files).outside path → Contains (files_of n) path
-generated_outside n least way files path within =
-    made_outside n way (generated n) (all_of n least) files path within

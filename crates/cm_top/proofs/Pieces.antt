@@ -14,7 +14,7 @@ use Rattle.cm_base.proofs.KeepingLemmas.{keeps_same, keeps_then, keeps_wider}
 use Rattle.cm_bytes.specs.Hashes.{HashesApart}
 use Rattle.bin_store.specs.GoodStore.{IsGoodStore, StoreIsGood}
 use Rattle.bin_store.proofs.GoodAfter.{good_is_told, store_more}
-use Rattle.cm_top.specs.Headline.{Ends, FromGood, IsAsPromised, IsCutOff, IsCutShort, IsMeaning, IsPlain, KeepsOutside, Run, Stays}
+use Rattle.cm_top.specs.Headline.{Ends, FromGood, IsCutOff, IsCutShort, IsMeaning, IsPlain, KeepsOutside, Run}
 use Rattle.cm_top.specs.Meaning.{Meaning}
 use Rattle.cm_top.specs.Performing.{Performs, State, between}
 use Rattle.cm_top.specs.InTurn.{at_end, then_command}

@@ -2,7 +2,6 @@
 use Rattle.std.proofs.Common.{◌≡◌, ◌∙◌, sym, ap, subst, refl, inl, inr, arith, ℕ, ◌+◌, true, false, List, [], ◌∷◌, ◌++◌, Option, Some, None, take, length, append-nil, append_assoc}
 use Rattle.std.specs.Prelude.{Contains, Result, Ok, Err}
 use Rattle.std.specs.FinMap.{insert, remove}
-use Rattle.std.specs.Option.{option_and_then}
 use Rattle.std.proofs.lemmas.List.Elements.{Contains-append_left, Contains-append_right}
 use Rattle.std.proofs.Math.Seq.{take-append-add}
 use Rattle.cm_base.specs.Calls.{RemoveLeaves, WriteLeaves}
@@ -15,27 +14,19 @@ use Rattle.cm_base.specs.declared.fault.FolderFault.TheVariants as folder
 use Rattle.cm_base.proofs.FrontLemmas.{grows_all}
 use Rattle.cm_base.proofs.KeepingLemmas.{keeps_same, keeps_touches, touches_same, touches_write}
 use Rattle.bin_store.proofs.GoodAfter.{store_is_good, store_more}
-use Rattle.session_scripts.specs.declared.step.Step.{Step}
-use Rattle.session_scripts.specs.declared.step.Step.TheVariants as step
-use Rattle.generated_projects.specs.Generating.{generated}
-use Rattle.command_words.specs.Words.{call_of, command_of}
 use Rattle.command_words.specs.declared.call.Call.{Call}
 use Rattle.command_words.specs.declared.call.Call.TheVariants as call
-use Rattle.command_words.specs.declared.command.Command.{Command}
 use Rattle.cm_top.specs.Answers.{Prints}
-use Rattle.cm_top.specs.Generating.{briefly, generating, make, of_part}
 use Rattle.cm_top.specs.InTurn.{edit}
 use Rattle.cm_top.specs.Headline.{Ends, IsCutOff, IsCutShort, IsMeaning, IsPlain, IsUsageEnd, KeepsOthers, KeepsOutside, Run, Stays}
 use Rattle.cm_top.specs.Lines.{diag_line, status_line}
-use Rattle.cm_top.specs.Meaning.{Meaning, of_command, target_paths, usage}
-use Rattle.cm_top.specs.Performing.{IsStepEnd, Performs, State, between, edit_end, is_plain, state_of}
-use Rattle.cm_top.specs.ProjectBuild.{Way}
-use Rattle.cm_top.specs.Sessions.{KeepsTarget, of_call, of_line, of_script, of_step, play, refused, reported, script_in}
+use Rattle.cm_top.specs.Meaning.{Meaning, target_paths, usage}
+use Rattle.cm_top.specs.Performing.{Performs, State, between, edit_end, is_plain, state_of}
+use Rattle.cm_top.specs.Sessions.{KeepsTarget, refused, reported}
 use Rattle.cm_top.specs.Targets.{target_of}
 use Rattle.cm_top.specs.declared.status.Status.{Status}
 use Rattle.cm_top.specs.declared.status.Status.TheVariants as status
 use Rattle.cm_top.proofs.Ending.{after_print, nothing_done, nothing_printed, same_outside, stays_still}
-use Rattle.cm_top.proofs.GoingOn.{either_way}
 use Rattle.cm_top.proofs.Pieces.{take_within}
 use Rattle.cm_top.proofs.TargetLeaves.{target_good}
 
@@ -160,12 +151,6 @@ target_outside (Some target) files holds kept = record {
   kept = λ path out apart. kept.kept path out (λ same.
       let is : target ≡ path = cc (same) in apart (0, omega arith, is));
 }
-
-pub command_outside : (way : Way) (files : Files) (command : Option Command) (holds : Option Files)
-    → KeepsOthers (option_and_then (target_of files) command) files holds
-    → KeepsOutside (of_command way files command).outside files holds
-command_outside way files None holds kept = target_outside None files holds kept
-command_outside way files (Some command) holds kept = target_outside (target_of files command) files holds kept
 
 pub plain_is : (end : Status) → is_plain end ≡ true → IsPlain end
 plain_is status.Ok is = tt
@@ -315,15 +300,6 @@ fault_performs by d m end s0 s1 fault one = record {
   leaves = λ files is plain. absurd (fault_is end fault plain);
 }
 
-pub step_fault : (end : Status) → IsStepEnd end → (end ≡ status.Ok → ⊥) → IsPlain end → ⊥
-step_fault status.Ok is other plain = other refl
-step_fault status.Diagnostic is other plain = is
-step_fault status.Usage is other plain = is
-step_fault status.FolderFault is other plain = plain
-step_fault status.SinkFault is other plain = plain
-step_fault status.NoMemory is other plain = plain
-step_fault status.ToolFault is other plain = plain
-
 -- ---- words that mean nothing
 
 usage_is : (end : Status) → IsUsageEnd end → IsPlain end → end ≡ status.Usage
@@ -351,7 +327,7 @@ usage_performs by end s new is ends = record {
       record { ends = stands; does = at; promise_ends = λ known apart good. stands; promise = λ known apart good. at };
 }
 
--- ---- scripts
+-- ---- refusals
 
 -- the line of a refusal, however it is printed
 pub refused_performs : (by : Definitions) (diag : Diag) (s : State) (new : Option (List ℕ)) (result : Status)
@@ -376,53 +352,6 @@ refused_performs by diag s new result line is_line prints = record {
         after_print (refused files diag) (between text s (state_of new s.holds s.asked s.skeletons)) s.written result
         status.Diagnostic line refl is_line before is (sym (append-nil s.asked)) (sym (append-nil s.skeletons))
         nothing_printed prints
-
-pub brief_cut : (way : Way) (files : Files) (command : Option Command) → Contains (briefly way files command).cuts []
-brief_cut way files None = nothing_printed
-brief_cut way files (Some command) = nothing_printed
-
-part_cut : (way : Way) (files : Files) (first : Step) → Contains (of_part way files first).cuts []
-part_cut way files (step.Write path content) = nothing_printed
-part_cut way files (step.Remove path) = nothing_printed
-part_cut way files (step.Command words) = brief_cut way files (command_of words)
-
-make_cut : (way : Way) (parts : List Step) (files : Files) → Contains (make way parts files).cuts []
-make_cut way [] files = nothing_printed
-make_cut way (first ∷ parts) files =
-    let one = part_cut way files first in
-    let rest = make way parts (of_part way files first).files in
-    either_way (of_part way files first) rest (λ m. Contains m.cuts [])
-    (Contains-append_left (of_part way files first).cuts _ [] one) one
-
-pub generating_cut : (way : Way) (n : ℕ) (files : Files) → Contains (generating way n files).cuts []
-generating_cut way n files = make_cut way (generated n) files
-
-pub line_cut : (way : Way) (files : Files) (call : Option Call) → Contains (of_line way files call).cuts []
-line_cut way files None = nothing_printed
-line_cut way files (Some (call.Single command)) = nothing_printed
-line_cut way files (Some (call.Gen n)) = generating_cut way n files
-line_cut way files (Some (call.Session file)) = nothing_printed
-
-step_cut : (way : Way) (files : Files) (first : Step) → Contains (of_step way files first).cuts []
-step_cut way files (step.Write path content) = nothing_printed
-step_cut way files (step.Remove path) = nothing_printed
-step_cut way files (step.Command words) =
-    Contains-append_left (of_line way files (call_of words)).cuts _ [] (line_cut way files (call_of words))
-
-play_cut : (way : Way) (steps : List Step) (files : Files) → Contains (play way steps files).cuts []
-play_cut way [] files = nothing_printed
-play_cut way (first ∷ steps) files =
-    Contains-append_left (of_step way files first).cuts _ [] (step_cut way files first)
-
-pub script_cut : (way : Way) (files : Files) (r : Result (List Step) Diag) → Contains (of_script way files r).cuts []
-script_cut way files (Ok steps) = play_cut way steps files
-script_cut way files (Err diag) = nothing_printed
-
-pub call_cut : (way : Way) (files : Files) (call : Option Call) → Contains (of_call way files call).cuts []
-call_cut way files None = nothing_printed
-call_cut way files (Some (call.Single command)) = nothing_printed
-call_cut way files (Some (call.Gen n)) = generating_cut way n files
-call_cut way files (Some (call.Session file)) = script_cut way files (script_in files file)
 
 -- nothing was done: the folder failed before, or memory was wanted
 module _ (by : Definitions) (d m : Files → Meaning) (s0 s1 : State) (written : s1.written ≡ s0.written)

@@ -1,5 +1,4 @@
--- The program's promise: how a command ends, what it leaves and what was asked, in every case. The contract of `run_cm`
--- is made of these and of the causes of a fault.
+-- How a command ends, what it leaves and what was asked, in every case. The promise of a command is made of these.
 use Rattle.std.specs.Prelude.{ℕ, ◌≡◌, ◌≢◌, ◌⊎◌, false, Contains, List, ◌++◌, Option, Some, None, take}
 use Rattle.std.specs.FinMap.{get}
 use Rattle.cm_base.specs.Definitions.{Definitions}
@@ -124,14 +123,3 @@ pub record KeepsOutside (paths : List (List ℕ)) (files : Files) (new : Option 
   pub after : Files
   pub tells : new ≡ Some after
   pub kept : (path : List ℕ) → is_stored path ≡ false → (Contains paths path → ⊥) → get after path ≡ get files path
-
--- ---- completeness
-
--- the meaning's status, or want of memory, which no clause ties to a cause
-abbrev pub IsComplete : Status → Meaning → Type 0
-IsComplete end m = (end ≡ m.status) ⊎ (end ≡ status.NoMemory)
-
--- from a good store a command whose folder and output met no failure ends as it means, or wants memory
-abbrev pub Completes : Definitions → Files → Meaning → Status → Type 0 → Type 0 → Type 0
-Completes by files m end folder_failed sink_failed =
-    (folder_failed → ⊥) → (sink_failed → ⊥) → FromGood by files m (λ known. IsComplete end m)

@@ -4,7 +4,6 @@
 use Rattle.std.specs.Prelude.{ℕ, nat_lt, List, [], ◌∷◌, ◌++◌, map, Option, Some, None, length, if◌then◌else◌}
 use Rattle.std.specs.List.{flat_map}
 use Rattle.std.specs.FinMap.{insert}
-use Rattle.cm_base.specs.Definitions.{Definitions}
 use Rattle.cm_base.specs.Files.{Files}
 use Rattle.cm_base.specs.Diags.{whole_file}
 use Rattle.cm_base.specs.declared.diag.Diag.{Diag}
@@ -15,14 +14,11 @@ use Rattle.bin_store.specs.Paths.{linked_path}
 use Rattle.linker.specs.Linked.{linked_program}
 use Rattle.build_laws.specs.CutBuild.{Cut}
 use Rattle.build_laws.specs.Storing.{unit_paths}
-use Rattle.command_words.specs.Words.{command_of}
-use Rattle.command_words.specs.declared.command.Command.{Command}
 use Rattle.cm_top.specs.declared.limits.TheConstants.{LINKED}
 use Rattle.cm_top.specs.declared.status.Status.{Status}
 use Rattle.cm_top.specs.declared.status.Status.TheVariants as status
 use Rattle.cm_top.specs.Lines.{usage_line, report}
-use Rattle.cm_top.specs.ProjectBuild.{Prepared, Builder, Way, built, plain_way}
-use Rattle.cm_top.specs.Targets.{target_of, ready_of}
+use Rattle.cm_top.specs.ProjectBuild.{Prepared, Builder, built}
 
 pub record Meaning : Type 0 where
   pub status : Status
@@ -130,16 +126,3 @@ of_cut target skeletons cut = record {
 -- a build of what is prepared: what every command means that builds
 abbrev pub of_build : Builder → Files → Option (List ℕ) → Prepared → Meaning
 of_build builds files target ready = of_cut target ready.asked_skeletons (built builds files ready.units)
-
--- ---- commands
-
-abbrev pub of_command : Way → Files → Option Command → Meaning
-of_command way files None = usage files
-of_command way files (Some command) =
-    of_build way.builds files (target_of files command) (ready_of (way.plans files) files command)
-
--- What the words mean in a folder, with a compiler of these two definitions. The files at entry say which units are
--- stale, and so which of them are compiled, and of which sources the compiler is asked for the skeletons. What is
--- planned is by the compiler's skeletons, and what the build gives and leaves is the plain build's: they know no store.
-abbrev pub meaning_of : Definitions → List (List ℕ) → Files → Meaning
-meaning_of by words files = of_command (plain_way by) files (command_of words)

@@ -26,17 +26,7 @@ abbrev pub between : List ℕ → State → State → Run
 between text before after =
     run_of text after.written after.holds before.asked after.asked before.skeletons after.skeletons
 
--- the statuses of a step of a session: well, or a fault
-abbrev pub IsStepEnd : Status → Type 0
-IsStepEnd status.Ok = Unit {0}
-IsStepEnd status.Diagnostic = ⊥
-IsStepEnd status.Usage = ⊥
-IsStepEnd status.FolderFault = Unit {0}
-IsStepEnd status.SinkFault = Unit {0}
-IsStepEnd status.NoMemory = Unit {0}
-IsStepEnd status.ToolFault = ⊥
-
--- .. of a session, and of a generated project: never that its words mean nothing
+-- the statuses of a session, and of a refusal: never that its words mean nothing
 abbrev pub IsSessionEnd : Status → Type 0
 IsSessionEnd status.Ok = Unit {0}
 IsSessionEnd status.Diagnostic = Unit {0}

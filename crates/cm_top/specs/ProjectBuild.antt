@@ -1,6 +1,6 @@
 -- What a command builds, and how that goes: as a compiler and the plain build have it, which know no store, as it comes
 -- over the store at entry; or over a store as it stands.
-use Rattle.std.specs.Prelude.{ℕ, List, [], Option, Some, Result, Ok, Err, false}
+use Rattle.std.specs.Prelude.{ℕ, List, [], Option, Some, Result, Ok, Err}
 use Rattle.cm_base.specs.Definitions.{Definitions}
 use Rattle.cm_base.specs.Files.{Files}
 use Rattle.cm_base.specs.declared.diag.Diag.{Diag}
@@ -8,7 +8,6 @@ use Rattle.cm_base.specs.declared.record.BuiltUnit.{BuiltUnit}
 use Rattle.cm_base.specs.declared.record.Def.{Def}
 use Rattle.cm_base.specs.declared.record.PlannedUnit.{PlannedUnit}
 use Rattle.cm_description.specs.declared.loaded.Project.{Project}
-use Rattle.project_loading.specs.Projects.{project_of}
 use Rattle.project_planning.specs.Buildable.{planned_units}
 use Rattle.project_planning.specs.Planning.{Planning, plain_plan, plan_over}
 use Rattle.project_planning.specs.declared.plan.Plan.{Plan}
@@ -45,10 +44,6 @@ Planner = Project → List Def → Planning
 abbrev pub of_loading : Planner → List Def → Result Project Diag → Prepared
 of_loading plans defs (Err diag) = unloaded diag
 of_loading plans defs (Ok project) = of_planning project (plans project defs)
-
--- .. of ROOT in a folder, under definitions
-abbrev pub prepared : Planner → Files → List Def → List ℕ → Prepared
-prepared plans files defs root = of_loading plans defs (project_of files defs root false)
 
 -- ---- how it is built
 

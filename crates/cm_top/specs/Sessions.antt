@@ -1,8 +1,6 @@
--- What a session means: the edits and the commands of its script, one after the other, each over the files that the ones
--- before it leave. And so what the words of any call of the program mean.
-use Rattle.std.specs.Prelude.{ℕ, ◌≡◌, false, List, [], ◌∷◌, ◌++◌, map, Option, Some, None, Result, Ok, Err}
-use Rattle.std.specs.FinMap.{get, insert, remove}
-use Rattle.cm_base.specs.Definitions.{Definitions}
+-- The script of a session, what is printed behind its commands, and what a command by itself keeps.
+use Rattle.std.specs.Prelude.{ℕ, ◌≡◌, false, List, [], ◌∷◌, ◌++◌, Option, Some, None, Result, Ok}
+use Rattle.std.specs.FinMap.{get}
 use Rattle.cm_base.specs.Diags.{◌>>=◌}
 use Rattle.cm_base.specs.Files.{Files, is_stored}
 use Rattle.cm_base.specs.declared.diag.Diag.{Diag}
@@ -11,15 +9,13 @@ use Rattle.project_loading.specs.Projects.{anchors_of, command_place, root_name,
 use Rattle.session_scripts.specs.Scripts.{script_of}
 use Rattle.session_scripts.specs.declared.step.Step.{Step}
 use Rattle.session_scripts.specs.declared.step.Step.TheVariants as step
-use Rattle.command_words.specs.Words.{call_of}
 use Rattle.command_words.specs.declared.call.Call.{Call}
 use Rattle.command_words.specs.declared.call.Call.TheVariants as call
-use Rattle.cm_top.specs.Generating.{files_of, generating}
+use Rattle.cm_top.specs.Generating.{files_of}
 use Rattle.cm_top.specs.Headline.{KeepsOthers, KeepsOutside}
-use Rattle.cm_top.specs.InTurn.{at_end, edit, then_command}
+use Rattle.cm_top.specs.InTurn.{edit}
 use Rattle.cm_top.specs.Lines.{diag_line, status_line}
-use Rattle.cm_top.specs.Meaning.{Meaning, of_command, prints_last, usage}
-use Rattle.cm_top.specs.ProjectBuild.{Way, plain_way, store_way}
+use Rattle.cm_top.specs.Meaning.{Meaning, prints_last}
 use Rattle.cm_top.specs.Targets.{target_of}
 use Rattle.cm_top.specs.declared.status.Status.TheVariants as status
 
@@ -44,16 +40,6 @@ IsLawful (step.Write path content) = is_stored path ≡ false
 IsLawful (step.Remove path) = is_stored path ≡ false
 IsLawful (step.Command words) = Unit {0}
 
--- ---- steps
-
--- What the words of a command mean that stands in a script: a command by itself, or a generated project. A session is
--- none of these; no script that is read has one.
-abbrev pub of_line : Way → Files → Option Call → Meaning
-of_line way files None = usage files
-of_line way files (Some (call.Single command)) = of_command way files (Some command)
-of_line way files (Some (call.Gen n)) = generating way n files
-of_line way files (Some (call.Session file)) = usage files
-
 -- A command within a session: how it ended is printed behind its output, and the session goes on. It may be cut off as
 -- it is by itself, or between its output and that line.
 abbrev pub reported : Meaning → Meaning
@@ -68,15 +54,6 @@ reported m = record {
   paths = m.paths;
   outside = m.outside;
 }
-
-abbrev pub of_step : Way → Files → Step → Meaning
-of_step way files (step.Write path content) = edit path (insert files path content)
-of_step way files (step.Remove path) = edit path (remove files path)
-of_step way files (step.Command words) = reported (of_line way files (call_of words))
-
-abbrev pub play : Way → List Step → Files → Meaning
-play way [] files = at_end files
-play way (first ∷ steps) files = then_command (of_step way files first) (play way steps (of_step way files first).files)
 
 -- ---- sessions
 
@@ -93,27 +70,6 @@ refused files diag = record {
   paths = [];
   outside = [];
 }
-
-abbrev pub of_script : Way → Files → Result (List Step) Diag → Meaning
-of_script way files (Err diag) = refused files diag
-of_script way files (Ok steps) = play way steps files
-
--- ---- calls of the program
-
-abbrev pub of_call : Way → Files → Option Call → Meaning
-of_call way files None = usage files
-of_call way files (Some (call.Single command)) = of_command way files (Some command)
-of_call way files (Some (call.Gen n)) = generating way n files
-of_call way files (Some (call.Session file)) = of_script way files (script_in files file)
-
--- What the words of a call mean in a folder, as `meaning_of` says of a command by itself.
-abbrev pub meaning_of_call : Definitions → List (List ℕ) → Files → Meaning
-meaning_of_call by words files = of_call (plain_way by) files (call_of words)
-
--- .. and what they do over a store as it stands, whoever wrote it. Over a good store, where no two differing interfaces
--- share a hash, it is what they mean.
-abbrev pub doing_of_call : Definitions → List (List ℕ) → Files → Meaning
-doing_of_call by words files = of_call (store_way by) files (call_of words)
 
 -- a command by itself changes nothing outside the store but its target, and that only once the linked program stands;
 -- and a generated project nothing there but its files

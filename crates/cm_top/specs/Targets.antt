@@ -1,14 +1,12 @@
--- What a command builds, and where it writes the linked program besides.
+-- Where a command writes the linked program besides.
 use Rattle.std.specs.Prelude.{ℕ, List, Option, Some, None, Result, Ok, Err}
 use Rattle.cm_base.specs.Diags.{◌>>=◌}
 use Rattle.cm_base.specs.Files.{Files}
 use Rattle.cm_base.specs.declared.diag.Diag.{Diag}
-use Rattle.cm_base.specs.declared.record.Def.{Def}
 use Rattle.path_anchors.specs.Names.{Bindings, folder_path_of}
 use Rattle.project_loading.specs.Projects.{anchors_of, root_name}
 use Rattle.command_words.specs.declared.command.Command.{Command}
 use Rattle.command_words.specs.declared.command.Command.TheVariants as command
-use Rattle.cm_top.specs.ProjectBuild.{Planner, Prepared, prepared, unloaded}
 
 -- The path in the folder that OUT means. ROOT and then OUT are looked at as written paths at the top, each refused as
 -- ROOT is: at `command:0:0`, by its word where the number isn't 12.
@@ -28,12 +26,3 @@ path_in (Err diag) = None
 abbrev pub target_of : Files → Command → Option (List ℕ)
 target_of files (command.Build defs root) = None
 target_of files (command.Link defs root out) = path_in (out_in files root out)
-
--- what a command builds: its project, unless its target is refused
-abbrev pub ready_with : Planner → Files → List Def → List ℕ → Result (List ℕ) Diag → Prepared
-ready_with plans files defs root (Err diag) = unloaded diag
-ready_with plans files defs root (Ok path) = prepared plans files defs root
-
-abbrev pub ready_of : Planner → Files → Command → Prepared
-ready_of plans files (command.Build defs root) = prepared plans files defs root
-ready_of plans files (command.Link defs root out) = ready_with plans files defs root (out_in files root out)

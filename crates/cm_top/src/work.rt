@@ -10,19 +10,14 @@ ghost use Rattle.project_planning.specs.Planning.{plain_plan, plan_over};
 ghost use Rattle.cm_top.specs.Answers.{IsReported, Does, EndsSo, AsksFor, AsksFromGood, IsOutside, LawfulFromGood, TouchesLinked};
 ghost use Rattle.cm_top.specs.Lines.{diag_line};
 ghost use Rattle.cm_top.specs.Meaning.{ended_with, status_of};
-ghost use Rattle.cm_top.specs.ProjectBuild.{ending, of_planning, prepared};
-ghost use Rattle.cm_top.specs.Targets.{out_in, ready_of, ready_with, path_in, target_of};
+ghost use Rattle.cm_top.specs.ProjectBuild.{ending, of_planning};
 
 use crate::lines::{diag_text, last_text, report_text};
 use crate::linking::end;
-use crate::loading::load;
 use crate::status::Status;
-use crate::targets::find_target;
 use cm_base::{Built, Compiler, Def, Diag, Folder, FolderFault, List, NoMemory, Text};
 use cm_description::Project;
-use command_words::Command;
 use cutoff_builder::{BuildFault, build};
-use group_loader::LoadFault;
 use project_planning::{Plan, make_plan};
 use skeleton_asking::PlanFault;
 use std::alloc::Global;
@@ -184,92 +179,5 @@ pub fn build_project<F: Folder, C: Compiler>(
         Err(PlanFault::Diag(diag)) => Ok(refused(alloc, &diag)?),
         Err(PlanFault::Folder) => Err(WorkFault::Folder),
         Err(PlanFault::NoMemory) => Err(WorkFault::NoMemory),
-    }
-}
-
-/// Loads the project of ROOT under definitions and builds it, with a target or none, up to the report.
-fn build_root<F: Folder, C: Compiler>(
-    alloc: Global,
-    defs: &List<Def>,
-    root: &Text,
-    target: &Option<Text>,
-    folder: &mut F,
-    compiler: &mut C,
-) -> Result<Report, WorkFault>
-    ensures cause { HasCause (F.faults folder.old) (F.faults folder.new) (result ≡ Err WorkFault.Folder) }
-    ensures plain { IfOk result (λ report. IsReported report.status) }
-    ensures does { IsOutside target.now → Told (F.holds folder.old) (λ files. Does C.defines files target.now
-        (prepared (plan_over C.defines.skel files) files defs.now root.now).units
-        (prepared (plain_plan C.defines.skel files) files defs.now root.now).units
-        result (F.holds folder.new) (C.asked compiler.old) (C.asked compiler.new)) }
-    ensures skeletons { Told (F.holds folder.old) (λ files. AsksFor result
-        (prepared (plan_over C.defines.skel files) files defs.now root.now).asked_skeletons
-        (C.asked_skeletons compiler.old) (C.asked_skeletons compiler.new)) }
-    ensures unread { Told (F.holds folder.old) (λ files. AsksFromGood C.defines files result
-        (prepared (plain_plan C.defines.skel files) files defs.now root.now).asked_skeletons
-        (C.asked_skeletons compiler.old) (C.asked_skeletons compiler.new)) }
-{
-    match load(alloc, folder, defs, root) {
-        Ok(project) => build_project(alloc, defs, target, folder, compiler, &project),
-        Err(LoadFault::Diag(diag)) => Ok(refused(alloc, &diag)?),
-        Err(LoadFault::Folder) => Err(WorkFault::Folder),
-        Err(LoadFault::NoMemory) => Err(WorkFault::NoMemory),
-    }
-}
-
-/// Builds the project of ROOT for `link`, whose target is found first.
-fn link_root<F: Folder, C: Compiler>(
-    alloc: Global,
-    defs: &List<Def>,
-    root: &Text,
-    out: &Text,
-    folder: &mut F,
-    compiler: &mut C,
-) -> Result<Report, WorkFault>
-    ensures cause { HasCause (F.faults folder.old) (F.faults folder.new) (result ≡ Err WorkFault.Folder) }
-    ensures plain { IfOk result (λ report. IsReported report.status) }
-    ensures does { Told (F.holds folder.old) (λ files. Does C.defines files (path_in (out_in files root.now out.now))
-        (ready_with (plan_over C.defines.skel files) files defs.now root.now (out_in files root.now out.now)).units
-        (ready_with (plain_plan C.defines.skel files) files defs.now root.now (out_in files root.now out.now)).units
-        result (F.holds folder.new) (C.asked compiler.old) (C.asked compiler.new)) }
-    ensures skeletons { Told (F.holds folder.old) (λ files. AsksFor result (ready_with (plan_over C.defines.skel files)
-        files defs.now root.now (out_in files root.now out.now)).asked_skeletons
-        (C.asked_skeletons compiler.old) (C.asked_skeletons compiler.new)) }
-    ensures unread { Told (F.holds folder.old) (λ files. AsksFromGood C.defines files result
-        (ready_with (plain_plan C.defines.skel files)
-        files defs.now root.now (out_in files root.now out.now)).asked_skeletons
-        (C.asked_skeletons compiler.old) (C.asked_skeletons compiler.new)) }
-{
-    match find_target(alloc, folder, root, out) {
-        Ok(path) => build_root(alloc, defs, root, &Some(path), folder, compiler),
-        Err(LoadFault::Diag(diag)) => Ok(refused(alloc, &diag)?),
-        Err(LoadFault::Folder) => Err(WorkFault::Folder),
-        Err(LoadFault::NoMemory) => Err(WorkFault::NoMemory),
-    }
-}
-
-/// Does the work of a command, up to its report.
-pub fn work<F: Folder, C: Compiler>(
-    alloc: Global,
-    command: &Command,
-    folder: &mut F,
-    compiler: &mut C,
-) -> Result<Report, WorkFault>
-    ensures cause { HasCause (F.faults folder.old) (F.faults folder.new) (result ≡ Err WorkFault.Folder) }
-    ensures plain { IfOk result (λ report. IsReported report.status) }
-    ensures does { Told (F.holds folder.old) (λ files. Does C.defines files (target_of files command.now)
-        (ready_of (plan_over C.defines.skel files) files command.now).units
-        (ready_of (plain_plan C.defines.skel files) files command.now).units
-        result (F.holds folder.new) (C.asked compiler.old) (C.asked compiler.new)) }
-    ensures skeletons { Told (F.holds folder.old) (λ files. AsksFor result
-        (ready_of (plan_over C.defines.skel files) files command.now).asked_skeletons
-        (C.asked_skeletons compiler.old) (C.asked_skeletons compiler.new)) }
-    ensures unread { Told (F.holds folder.old) (λ files. AsksFromGood C.defines files result
-        (ready_of (plain_plan C.defines.skel files) files command.now).asked_skeletons
-        (C.asked_skeletons compiler.old) (C.asked_skeletons compiler.new)) }
-{
-    match command {
-        Command::Build { defs, root } => { build_root(alloc, defs, root, &None, folder, compiler) }
-        Command::Link { defs, root, out } => { link_root(alloc, defs, root, out, folder, compiler) }
     }
 }

@@ -1,17 +1,15 @@
 -- One more byte than the limit shows whether a file passes it.
-use Rattle.std.proofs.Common.{◌≡◌, ℕ, ◌+◌, List, length, length-take, take, take_all, Option, Some, None, Result, Ok, Err, refl, is_some, arith, if◌then◌else◌}
+use Rattle.std.proofs.Common.{◌≡◌, ℕ, ◌+◌, List, length, length-take, take, take_all, Option, Some, None, Ok, Err, refl, is_some, arith, if◌then◌else◌}
 use Rattle.std.proofs.lemmas.Grind.{common_steps}
 use Rattle.std.specs.Prelude.{nat_lt}
 use Rattle.cm_base.specs.Diags.{whole_file}
 use Rattle.cm_base.specs.Files.{front_read}
-use Rattle.cm_base.specs.declared.diag.Diag.{Diag}
 use Rattle.cm_base.specs.declared.diag.Place.{Place}
 use Rattle.grammars.specs.Reading.{read}
 use Rattle.cm_lexer.specs.Tokens.{scan_of}
 use Rattle.path_anchors.specs.Pathconfig.{config_file, bindings_of}
 use Rattle.description_values.specs.Described.{by_reading, description_of}
 use Rattle.cm_description.specs.Grammar.{description}
-use Rattle.cm_description.specs.declared.description.Description.{Description}
 use Rattle.project_loading.specs.Projects.{bound_by, counted, described_by}
 use Rattle.project_checks.specs.declared.limits.TheConstants.{PATHCONFIG, SOURCE}
 use Rattle.project_checks.specs.declared.progress.Progress.{Progress}

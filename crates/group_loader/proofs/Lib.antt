@@ -1,4 +1,3 @@
-pub mod DescentSteps
 pub mod Fronts
 pub mod GoingOn
 pub mod GroupSteps
@@ -7,4 +6,3 @@ pub mod Promises
 pub mod ReadGroups
 pub mod Steps
 pub mod Tables
-pub mod WholeSteps

@@ -1,5 +1,5 @@
 -- What more is known of each project that is loaded.
-use Rattle.std.specs.Prelude.{◌≤◌, ℕ, length, All}
+use Rattle.std.specs.Prelude.{◌≤◌, length, All}
 use Rattle.cm_description.specs.declared.loaded.Project.{Project}
 use Rattle.cm_description.specs.declared.loaded.UnitBody.{UnitBody}
 use Rattle.cm_description.specs.declared.loaded.UnitBody.TheVariants as body

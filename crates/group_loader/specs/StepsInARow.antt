@@ -5,7 +5,7 @@ use Rattle.cm_base.specs.declared.diag.Diag.{Diag}
 use Rattle.cm_base.specs.declared.diag.Place.{Place}
 use Rattle.cm_description.specs.declared.description.Description.{Description}
 use Rattle.project_checks.specs.declared.progress.Progress.{Progress}
-use Rattle.project_loading.specs.Projects.{Setting, counted, frozen, root_name, source_of, there, with_root, with_source, within_size}
+use Rattle.project_loading.specs.Projects.{Setting, counted, frozen, source_of, there, with_source, within_size}
 use Rattle.project_loading.specs.declared.found.Found.{Found}
 
 -- a source that is there, and not too large
@@ -20,7 +20,3 @@ with_source_of setting holder at found p =
 -- a group that has a frozen file, where one group more has room
 abbrev pub frozen_refused : List ℕ → Progress → Result Description Diag
 frozen_refused name p = counted name p >>= λ room. Err (whole_file 60 (frozen name))
-
--- all that ROOT leads to
-abbrev pub reached : Setting → List ℕ → Result Progress Diag
-reached setting root = root_name setting.anchors root >>= with_root setting

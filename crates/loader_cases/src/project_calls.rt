@@ -2,13 +2,14 @@
 
 use crate::listing::{finished_lines, group_lines, loaded_line, refused_lines, unit_lines};
 use crate::many_files::put_files;
+use bundled_tools::BundledTool;
 use case_files::{CaseFault, Section, number_of};
 use case_scenes::{Answer, Files, Stage, lines_of, unknown};
 use cm_base::{Def, List, NoMemory, Text};
 use cm_description::{Project, UnitBody};
-use group_loader::{LoadFault, load};
-use member_tools::Toolbox;
+use deriving_loader::{LoadingFault, load};
 use std::alloc::Global;
+use tool_deriving::Toolbox;
 
 /// A folder, what is loaded from it and how, and the project that was loaded last.
 #[derive(Drop)]
@@ -81,11 +82,12 @@ fn definition_of(alloc: Global, section: &Section) -> Result<Def, CaseFault> {
 }
 
 /// How a loading ended that gave no project.
-fn fault_lines(alloc: Global, fault: LoadFault) -> Result<Text, CaseFault> {
+fn fault_lines(alloc: Global, fault: LoadingFault) -> Result<Text, CaseFault> {
     match fault {
-        LoadFault::Diag(diag) => Ok(refused_lines(alloc, &diag)?),
-        LoadFault::Folder => Ok(Text::from_bytes(alloc, b"[folder fault]\n")?),
-        LoadFault::NoMemory => Err(CaseFault::NoMemory),
+        LoadingFault::Diag(diag) => Ok(refused_lines(alloc, &diag)?),
+        LoadingFault::Folder => Ok(Text::from_bytes(alloc, b"[folder fault]\n")?),
+        LoadingFault::Tool => Ok(Text::from_bytes(alloc, b"[tool fault]\n")?),
+        LoadingFault::NoMemory => Err(CaseFault::NoMemory),
     }
 }
 
@@ -110,10 +112,10 @@ impl ProjectCalls {
         })
     }
 
-    /// Loads the project.
-    fn loaded(&mut self, alloc: Global) -> Result<Project, LoadFault> {
+    /// Loads the project, with an empty box of tools.
+    fn loaded(&mut self, alloc: Global) -> Result<Project, LoadingFault> {
         self.files.begin();
-        let mut tools = Toolbox::new(alloc);
+        let mut tools: Toolbox<BundledTool> = Toolbox::new(alloc);
         load(
             alloc,
             &mut self.files.folder,

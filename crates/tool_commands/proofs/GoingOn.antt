@@ -10,7 +10,7 @@ use Rattle.cm_top.specs.Headline.{Ends, FromGood, IsPlain, KeepsOutside}
 use Rattle.cm_top.specs.Performing.{between}
 use Rattle.cm_top.specs.declared.status.Status.{Status}
 use Rattle.cm_top.specs.declared.status.Status.TheVariants as status
-use Rattle.cm_top.proofs.GoingOn.{plain_or}
+use Rattle.cm_top.proofs.Ending.{plain_or}
 use Rattle.cm_top.proofs.Pieces.{apart_left}
 use Rattle.tool_commands.specs.Generating.{going_on, on_status}
 use Rattle.tool_commands.specs.Headline.{Ran}
