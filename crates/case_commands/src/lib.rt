@@ -1,12 +1,10 @@
 //! Commands as programs of cases run them: over any folder, output and compiler, with a box of tools of their own.
 #![tactic(auto)]
 
-use bundled_tools::BundledTool;
 use cm_base::{Compiler, Folder, NoMemory, Sink, Tool};
-use cm_top::Status;
+use cm_top::{Status, run_cm};
+use member_tools::{BundledTool, Toolbox};
 use std::alloc::Global;
-use tool_commands::run_cm;
-use tool_deriving::Toolbox;
 
 /// The word for how a command ended.
 pub fn status_word(status: Status) -> &'static [u8] {

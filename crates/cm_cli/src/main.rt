@@ -4,15 +4,13 @@
 ghost use Rattle.std.specs.Prelude.{◌≡◌};
 ghost use Rattle.cm_cli.specs.Exit.{exit_number};
 
-use bundled_tools::{BundledTool, Embed, Literate, Prelude};
 use cm_base::{Compiler, Folder, NoMemory, Sink, Text, Tool};
 use cm_host::{RealFolder, RealSink, WordsFault, program_words};
-use cm_top::Status;
+use cm_top::{Status, run_cm};
+use member_tools::{BundledTool, Embed, Literate, Prelude, Toolbox};
 use sml_compiler::SmlCompiler;
 use std::alloc::Global;
 use std::process::ExitCode;
-use tool_commands::run_cm;
-use tool_deriving::Toolbox;
 
 /// The status after want of memory.
 const NO_MEMORY: u8 = 5;

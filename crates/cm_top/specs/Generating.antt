@@ -1,38 +1,44 @@
--- Generated projects: what is printed of their builds, and which files they have.
-use Rattle.std.specs.Prelude.{ℕ, ◌≡◌, ◌≢◌, false, List, ◌∷◌, map, None}
-use Rattle.cm_base.specs.Files.{is_stored}
-use Rattle.build_laws.specs.CutBuild.{Cut}
+-- What a generated project means where there are tools: its steps are done one after the other. Of the report of a build
+-- the last line alone is printed, and a diagnostic ends the whole behind its line.
+use Rattle.std.specs.Prelude.{ℕ, List, [], ◌∷◌}
+use Rattle.std.specs.FinMap.{insert, remove}
+use Rattle.cm_base.specs.Files.{Files}
 use Rattle.session_scripts.specs.declared.step.Step.{Step}
 use Rattle.session_scripts.specs.declared.step.Step.TheVariants as step
-use Rattle.generated_projects.specs.Generating.{description_path, numbers, source_path}
+use Rattle.generated_projects.specs.Generating.{generated}
 use Rattle.command_words.specs.Words.{command_of}
-use Rattle.cm_top.specs.Lines.{last_line}
-use Rattle.cm_top.specs.Meaning.{Meaning, ended_in}
+use Rattle.command_parts.specs.InTurn.{at_end, edit}
+use Rattle.command_parts.specs.declared.status.Status.{Status}
+use Rattle.command_parts.specs.declared.status.Status.TheVariants as status
+use Rattle.cm_top.specs.Meaning.{Meaning, of_words, then_command, without_tools}
+use Rattle.cm_top.specs.Ways.{Way}
+use Rattle.cm_top.specs.declared.printed.Printed.TheVariants as printed
 
--- the line that ends the report of a build
-abbrev pub last_of : Cut → List ℕ
-last_of cut = last_line cut.units (ended_in cut)
+-- a part of a project: an edit, or a command of whose report the last line alone is printed
+abbrev pub of_part : Way → Files → Step → Meaning
+of_part way files (step.Write path content) = without_tools (edit path (insert files path content))
+of_part way files (step.Remove path) = without_tools (edit path (remove files path))
+of_part way files (step.Command words) = of_words printed.LastLine way files (command_of words)
 
--- a meaning, but for what it prints
-abbrev pub printing : List ℕ → Meaning → Meaning
-printing output m = record {
-  status = m.status;
-  output = output;
-  cuts = m.cuts;
-  files = m.files;
-  asked = m.asked;
-  asked_skeletons = m.asked_skeletons;
-  interfaces = m.interfaces;
-  paths = m.paths;
-  outside = m.outside;
-}
+-- one behind the other where the first ended well, and else the first alone
+abbrev pub on_status : Status → Meaning → Meaning → Meaning
+on_status status.Ok first rest = then_command first rest
+on_status status.Diagnostic first rest = first
+on_status status.Usage first rest = first
+on_status status.FolderFault first rest = first
+on_status status.SinkFault first rest = first
+on_status status.NoMemory first rest = first
+on_status status.ToolFault first rest = first
 
--- a part of a project: an edit of the project, or words that mean a command by itself
-abbrev pub IsPart : Step → Type 0
-IsPart (step.Write path content) = is_stored path ≡ false
-IsPart (step.Remove path) = is_stored path ≡ false
-IsPart (step.Command words) = command_of words ≢ None
+abbrev pub going_on : Meaning → Meaning → Meaning
+going_on first rest = on_status first.effect.status first rest
 
--- the files of the project of so many units, each of which is written
-abbrev pub files_of : ℕ → List (List ℕ)
-files_of n = description_path ∷ map source_path (numbers n)
+-- the parts of a project in their order, as long as they end well
+abbrev pub make : Way → List Step → Files → Meaning
+make way [] files = without_tools (at_end files)
+make way (first ∷ parts) files =
+    going_on (of_part way files first) (make way parts (of_part way files first).effect.files)
+
+-- the project of so many units
+abbrev pub generating : Way → ℕ → Files → Meaning
+generating way n files = make way (generated n) files

@@ -1,20 +1,16 @@
-//! Parts of a command: the build of a project that was loaded up to its report, its target, the script of a session, and
-//! how commands end, with the lines that say so.
+//! The program: from the words of a command line to a folder's files and the lines that it prints, with a box of tools for
+//! members of their classes.
 #![tactic(auto)]
 
-mod ends;
-mod limits;
-mod lines;
-mod linking;
-mod printing;
-mod script;
-mod status;
-mod targets;
-mod work;
+mod commands;
+mod generating;
+mod printed;
+mod run;
+mod sessions;
 
-pub use ends::{edit_end, is_plain, print_refusal, print_status, run_usage};
-pub use printing::print;
-pub use script::find_script;
-pub use status::Status;
-pub use targets::find_target;
-pub use work::{Report, WorkFault, build_project};
+pub use command_parts::Status;
+pub use command_words::{Call, Command, read_call, read_words};
+pub use generating::generate;
+pub use printed::Printed;
+pub use run::{run_cm, run_sure};
+pub use sessions::session;

@@ -7,9 +7,9 @@ use case_scenes::{Answer, Files, Stage, counted, look_at, look_of, unknown};
 use case_tools::{CaseTool, tool_of};
 use cm_base::{Compiler, List, MemSink, NoMemory, SureFolder, SureSink, Text, Tool};
 use cm_top::Status;
+use member_tools::Toolbox;
 use std::alloc::Global;
 use std::mem;
-use tool_deriving::Toolbox;
 
 /// A folder, a box of tools, what the last command asked its compiler, and what is planned for the next.
 #[derive(Drop)]

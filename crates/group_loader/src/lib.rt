@@ -1,14 +1,11 @@
-//! The reading of a project: descriptions, sources and anchors of a folder, and the tables of what was loaded.
+//! The loader of projects whose members may be of tools' classes: their sources are derived as the project is loaded.
 #![tactic(auto)]
 
+mod descent;
 mod fault;
-mod limits;
-mod loader;
+pub mod laws;
 mod members;
-mod reading;
+mod project;
 
 pub use fault::LoadFault;
-pub use limits::DESCRIPTION;
-pub use loader::Loader;
-pub use members::{Holder, Opening, begun, chosen, load_source};
-pub use reading::{Context, read_anchors, read_group, read_member_group, read_named};
+pub use project::load;

@@ -19,9 +19,9 @@ use Rattle.build_laws.specs.Planned.{paths_of}
 use Rattle.build_laws.specs.Stale.{marked}
 use Rattle.build_laws.specs.Storing.{bin_of_unit, unit_paths, with_unit, with_units}
 use Rattle.linker.specs.Linked.{linked_program}
-use Rattle.cm_top.specs.Answers.{IsOutside}
-use Rattle.cm_top.specs.Meaning.{Meaning, of_cut, with_linked}
-use Rattle.cm_top.specs.ProjectBuild.{built, coming, plain_over}
+use Rattle.command_parts.specs.Answers.{IsOutside}
+use Rattle.command_parts.specs.Meaning.{Meaning, of_cut, with_linked}
+use Rattle.command_parts.specs.ProjectBuild.{built, coming, plain_over}
 use Rattle.history_laws.specs.FromNothing.{build_of, end_of}
 use Rattle.history_laws.proofs.Linking.{end_same, linked_same}
 

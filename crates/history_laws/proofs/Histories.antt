@@ -10,17 +10,17 @@ use Rattle.bin_store.specs.GoodStore.{IsGoodStore}
 use Rattle.bin_store.proofs.Elsewhere.{no_store_good, put_keeps_good, remove_keeps_good}
 use Rattle.bin_store.proofs.GoodAfter.{good_is_told}
 use Rattle.loading_laws.proofs.Outside.{part_same}
-use Rattle.cm_top.specs.Headline.{Run}
-use Rattle.cm_top.specs.declared.status.Status.{Status}
+use Rattle.command_parts.specs.Headline.{Run}
+use Rattle.command_parts.specs.declared.status.Status.{Status}
 use Rattle.cm_base.specs.Derived.{ToolRules}
 use Rattle.tool_deriving.specs.Deriving.{ToolState}
 use Rattle.command_words.specs.declared.call.Call.{Call}
 use Rattle.command_words.specs.declared.command.Command.{Command}
-use Rattle.tool_commands.specs.Meaning.{of_words}
-use Rattle.tool_commands.specs.Performing.{rules_among}
-use Rattle.tool_commands.specs.Sessions.{of_call}
-use Rattle.tool_commands.specs.Ways.{plain_way}
-use Rattle.tool_commands.specs.declared.printed.Printed.TheVariants as printed
+use Rattle.cm_top.specs.Meaning.{of_words}
+use Rattle.cm_top.specs.Performing.{rules_among}
+use Rattle.cm_top.specs.Sessions.{of_call}
+use Rattle.cm_top.specs.Ways.{plain_way}
+use Rattle.cm_top.specs.declared.printed.Printed.TheVariants as printed
 use Rattle.history_laws.specs.Calls.{Event, IsLawfulEvent, effect_of_event}
 use Rattle.history_laws.specs.Calls.Event.{call, edit as change}
 use Rattle.history_laws.specs.FromNothing.{MeansTheSame, build_in}

@@ -22,10 +22,10 @@ use Rattle.build_laws.specs.Storing.{with_units}
 use Rattle.command_words.specs.Words.{command_of}
 use Rattle.command_words.specs.declared.command.Command.{Command}
 use Rattle.linker.specs.Linked.{linked_program}
-use Rattle.cm_top.specs.Answers.{IsOutside}
-use Rattle.cm_top.specs.Meaning.{ended_with, with_linked}
-use Rattle.cm_top.specs.Targets.{out_in, path_in}
-use Rattle.cm_top.proofs.Showing.{interfaces_marked}
+use Rattle.command_parts.specs.Answers.{IsOutside}
+use Rattle.command_parts.specs.Meaning.{ended_with, with_linked}
+use Rattle.command_parts.specs.Targets.{out_in, path_in}
+use Rattle.command_parts.proofs.Showing.{interfaces_marked}
 use Rattle.cm_base.specs.Derived.{ToolRules}
 use Rattle.cm_base.specs.declared.record.Def.{Def}
 use Rattle.cm_description.specs.declared.loaded.Project.{Project}
@@ -33,11 +33,11 @@ use Rattle.member_deriving.specs.Uses.{after_uses}
 use Rattle.member_deriving.proofs.Good.{uses_good}
 use Rattle.tool_loading.specs.Projects.{project_of, tool_uses}
 use Rattle.command_words.specs.declared.command.Command.TheVariants as command
-use Rattle.cm_top.specs.Meaning as plain
-use Rattle.cm_top.proofs.OutNames.{out_outside}
-use Rattle.tool_commands.specs.Meaning.{of_command, of_link, of_root, of_words}
-use Rattle.tool_commands.specs.Ways.{plain_way}
-use Rattle.tool_commands.specs.declared.printed.Printed.TheVariants as printed
+use Rattle.command_parts.specs.Meaning as plain
+use Rattle.command_parts.proofs.OutNames.{out_outside}
+use Rattle.cm_top.specs.Meaning.{of_command, of_link, of_root, of_words}
+use Rattle.cm_top.specs.Ways.{plain_way}
+use Rattle.cm_top.specs.declared.printed.Printed.TheVariants as printed
 use Rattle.history_laws.specs.FromNothing.{build_of, units_of}
 use Rattle.history_laws.specs.Laws.{CommandsKeepGood, GivesSmallSkeletons}
 use Rattle.history_laws.proofs.Building.{good_units}

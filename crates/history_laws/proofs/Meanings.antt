@@ -11,13 +11,13 @@ use Rattle.build_laws.specs.PlainBuild.{Build}
 use Rattle.tool_loading.specs.Projects.{project_of}
 use Rattle.command_words.specs.declared.command.Command.{Command}
 use Rattle.command_words.specs.declared.command.Command.TheVariants as command
-use Rattle.cm_top.specs.Answers.{IsOutside}
-use Rattle.cm_top.specs.Sessions.{refused}
-use Rattle.cm_top.specs.Targets.{out_in, path_in, target_of}
-use Rattle.cm_top.proofs.OutNames.{out_outside}
-use Rattle.tool_commands.specs.Meaning.{Meaning, of_command, of_link, of_root, without_tools}
-use Rattle.tool_commands.specs.Ways.{plain_way}
-use Rattle.tool_commands.specs.declared.printed.Printed.TheVariants as printed
+use Rattle.command_parts.specs.Answers.{IsOutside}
+use Rattle.command_parts.specs.Sessions.{refused}
+use Rattle.command_parts.specs.Targets.{out_in, path_in, target_of}
+use Rattle.command_parts.proofs.OutNames.{out_outside}
+use Rattle.cm_top.specs.Meaning.{Meaning, of_command, of_link, of_root, without_tools}
+use Rattle.cm_top.specs.Ways.{plain_way}
+use Rattle.cm_top.specs.declared.printed.Printed.TheVariants as printed
 use Rattle.history_laws.specs.FromNothing.{HasProjectAlone, build_of, if_loaded, sources_in, unless_refused, unread_in}
 use Rattle.history_laws.proofs.Planned.{out_same}
 use Rattle.history_laws.specs.FromNothing.{MeansTheSame, build_in, project_in, units_of, unless_out_is}

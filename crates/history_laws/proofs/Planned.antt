@@ -23,8 +23,8 @@ use Rattle.project_planning.specs.Planning.{edges_of, in_order, plain_plan, plan
 use Rattle.project_planning.specs.declared.plan.Plan.{Plan}
 use Rattle.project_planning.proofs.Planned.{planned_have}
 use Rattle.build_laws.specs.Planned.{HaveSkeletons}
-use Rattle.cm_top.specs.ProjectBuild.{of_loading, units_of}
-use Rattle.cm_top.specs.Targets.{out_in, out_path}
+use Rattle.command_parts.specs.ProjectBuild.{of_loading, units_of}
+use Rattle.command_parts.specs.Targets.{out_in, out_path}
 use Rattle.history_laws.specs.FromNothing.{if_loaded, sources_in, unread_in}
 
 -- ---- over two folders with one project

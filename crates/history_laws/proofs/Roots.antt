@@ -27,22 +27,22 @@ use Rattle.tool_loading.specs.Projects.{project_of, tool_uses}
 use Rattle.tool_loading.proofs.Stores.{loading_reads}
 use Rattle.use_laws.proofs.Fresh.{SameUnits, stays_fresh, uses_same}
 use Rattle.use_laws.proofs.Records.{runs_keep}
-use Rattle.cm_top.specs.Answers.{IsOutside}
-use Rattle.cm_top.specs.Lines.{report}
-use Rattle.cm_top.specs.Meaning.{ended_in, interfaces_in, status_of, with_linked}
-use Rattle.cm_top.specs.Meaning as plain
-use Rattle.cm_top.specs.ProjectBuild.{built, of_loading}
-use Rattle.cm_top.specs.ProjectBuild as build
-use Rattle.cm_top.proofs.Showing.{interfaces_marked}
+use Rattle.command_parts.specs.Answers.{IsOutside}
+use Rattle.command_parts.specs.Lines.{report}
+use Rattle.command_parts.specs.Meaning.{ended_in, interfaces_in, status_of, with_linked}
+use Rattle.command_parts.specs.Meaning as plain
+use Rattle.command_parts.specs.ProjectBuild.{built, of_loading}
+use Rattle.command_parts.specs.ProjectBuild as build
+use Rattle.command_parts.proofs.Showing.{interfaces_marked}
 use Rattle.history_laws.specs.FromNothing.{HasProjectAlone, build_of, end_of, if_loaded, sources_in, unread_in}
 use Rattle.history_laws.proofs.Alone.{alone_asked, alone_compiled}
 use Rattle.history_laws.proofs.Linking.{end_same}
 use Rattle.history_laws.proofs.Coming.{built_is, coming_to, linked_alike, path_alike, project_kept, target_alike}
 use Rattle.history_laws.proofs.Planned.{asked_loading, unread_alone}
-use Rattle.tool_commands.specs.Meaning.{Meaning, of_project, of_root}
-use Rattle.tool_commands.specs.Ways.{plain_way}
-use Rattle.tool_commands.specs.declared.printed.Printed.TheVariants as printed
-use Rattle.tool_commands.proofs.Loading.{records_same}
+use Rattle.cm_top.specs.Meaning.{Meaning, of_project, of_root}
+use Rattle.cm_top.specs.Ways.{plain_way}
+use Rattle.cm_top.specs.declared.printed.Printed.TheVariants as printed
+use Rattle.cm_top.proofs.Loading.{records_same}
 use Rattle.history_laws.specs.FromNothing.{units_of}
 
 -- ---- a meaning but for the paths that it writes

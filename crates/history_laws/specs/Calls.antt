@@ -4,14 +4,14 @@ use Rattle.std.specs.Prelude.{ℕ, ◌≡◌, false, List, [], Option, Some}
 use Rattle.cm_base.specs.Definitions.{Definitions}
 use Rattle.cm_base.specs.Files.{Files, is_stored}
 use Rattle.tool_deriving.specs.Deriving.{ToolState}
-use Rattle.deriving_loader.specs.Loading.{Tends}
-use Rattle.cm_top.specs.Headline.{Run, Stays}
-use Rattle.cm_top.specs.declared.status.Status.{Status}
-use Rattle.cm_top.specs.declared.status.Status.TheVariants as status
-use Rattle.tool_commands.specs.Headline.{IsAsPromised}
-use Rattle.tool_commands.specs.Meaning.{Meaning}
-use Rattle.tool_commands.specs.Performing.{rules_among}
-use Rattle.tool_commands.specs.Sessions.{meaning_of_call}
+use Rattle.group_loader.specs.Loading.{Tends}
+use Rattle.command_parts.specs.Headline.{Run, Stays}
+use Rattle.command_parts.specs.declared.status.Status.{Status}
+use Rattle.command_parts.specs.declared.status.Status.TheVariants as status
+use Rattle.cm_top.specs.Headline.{IsAsPromised}
+use Rattle.cm_top.specs.Meaning.{Meaning}
+use Rattle.cm_top.specs.Performing.{rules_among}
+use Rattle.cm_top.specs.Sessions.{meaning_of_call}
 use Rattle.history_laws.specs.Histories.{Effect, edited}
 
 -- a file gets new bytes or is taken away, or the program is called with these tools: so it ends, this it does, so the

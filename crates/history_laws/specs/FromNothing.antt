@@ -16,15 +16,15 @@ use Rattle.build_laws.specs.Planned.{paths_of}
 use Rattle.build_laws.specs.Stale.{asked_in, inputs_of, marked}
 use Rattle.command_words.specs.declared.command.Command.{Command}
 use Rattle.command_words.specs.declared.command.Command.TheVariants as command
-use Rattle.cm_top.specs.Lines.{report}
-use Rattle.cm_top.specs.Meaning.{ended_with}
-use Rattle.cm_top.specs.Targets.{out_in, target_of}
+use Rattle.command_parts.specs.Lines.{report}
+use Rattle.command_parts.specs.Meaning.{ended_with}
+use Rattle.command_parts.specs.Targets.{out_in, target_of}
 use Rattle.cm_base.specs.Derived.{ToolRules}
 use Rattle.cm_base.specs.declared.record.Def.{Def}
 use Rattle.member_deriving.specs.Uses.{runs_of}
 use Rattle.tool_loading.specs.Projects.{project_of}
-use Rattle.cm_top.specs.ProjectBuild.{of_loading}
-use Rattle.tool_commands.specs.Meaning.{Meaning}
+use Rattle.command_parts.specs.ProjectBuild.{of_loading}
+use Rattle.cm_top.specs.Meaning.{Meaning}
 
 -- a folder with the same project as another, in which no store was begun
 pub record HasProjectAlone (files clean : Files) : Type 0 where

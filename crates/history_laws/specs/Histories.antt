@@ -5,7 +5,7 @@ use Rattle.cm_base.specs.Definitions.{Definitions}
 use Rattle.cm_base.specs.Files.{Files, HasNoStore, is_stored}
 use Rattle.cm_bytes.specs.Hashes.{HashesApart}
 use Rattle.cm_base.specs.Derived.{ToolRules}
-use Rattle.tool_commands.specs.Meaning.{meaning_of}
+use Rattle.cm_top.specs.Meaning.{meaning_of}
 
 -- ---- of any kind of step
 

@@ -10,12 +10,12 @@ use Rattle.tool_deriving.specs.Deriving.{ToolState}
 use Rattle.command_words.specs.Words.{call_of, command_of}
 use Rattle.command_words.specs.declared.call.Call.TheVariants.{Single}
 use Rattle.command_words.specs.declared.command.Command.{Command}
-use Rattle.cm_top.specs.Headline.{Ends, Run}
-use Rattle.cm_top.specs.declared.status.Status.{Status}
-use Rattle.tool_commands.specs.Headline.{Ran}
-use Rattle.tool_commands.specs.Meaning.{meaning_of}
-use Rattle.tool_commands.specs.Performing.{rules_among}
-use Rattle.tool_commands.specs.Sessions.{meaning_of_call}
+use Rattle.command_parts.specs.Headline.{Ends, Run}
+use Rattle.command_parts.specs.declared.status.Status.{Status}
+use Rattle.cm_top.specs.Headline.{Ran}
+use Rattle.cm_top.specs.Meaning.{meaning_of}
+use Rattle.cm_top.specs.Performing.{rules_among}
+use Rattle.cm_top.specs.Sessions.{meaning_of_call}
 use Rattle.cm_base.specs.Calls.{IsSmallSkeleton}
 use Rattle.cm_base.specs.declared.record.Skeleton.{Skeleton}
 use Rattle.history_laws.specs.Calls.{Event, IsLawfulEvent, effect_of_event, meant_with}

@@ -2,14 +2,14 @@
 
 ghost use Rattle.std.specs.Prelude.{◌≡◌, Some, map, string_bytes};
 ghost use Rattle.cm_base.specs.Files.{Files, Told};
-ghost use Rattle.deriving_loader.specs.Loading.{states_by};
-ghost use Rattle.cm_top.specs.Headline.{run_of};
+ghost use Rattle.group_loader.specs.Loading.{states_by};
+ghost use Rattle.command_parts.specs.Headline.{run_of};
 ghost use Rattle.history_laws.specs.Calls.{IsCall};
 
 use cm_base::{Compiler, Folder, Sink, Tool};
-use cm_top::Status;
+use cm_top::run_cm;
+use command_parts::Status;
 use std::alloc::Global;
-use tool_commands::run_cm;
 use tool_deriving::Toolbox;
 
 /// Calls the program. Where the folder and the output tell what they hold, this is a call of those of which histories

@@ -2,14 +2,13 @@
 
 use crate::listing::{finished_lines, group_lines, loaded_line, refused_lines, unit_lines};
 use crate::many_files::put_files;
-use bundled_tools::BundledTool;
 use case_files::{CaseFault, Section, number_of};
 use case_scenes::{Answer, Files, Stage, lines_of, unknown};
 use cm_base::{Def, List, NoMemory, Text};
 use cm_description::{Project, UnitBody};
-use deriving_loader::{LoadingFault, load};
+use group_loader::{LoadFault, load};
+use member_tools::{BundledTool, Toolbox};
 use std::alloc::Global;
-use tool_deriving::Toolbox;
 
 /// A folder, what is loaded from it and how, and the project that was loaded last.
 #[derive(Drop)]
@@ -82,12 +81,12 @@ fn definition_of(alloc: Global, section: &Section) -> Result<Def, CaseFault> {
 }
 
 /// How a loading ended that gave no project.
-fn fault_lines(alloc: Global, fault: LoadingFault) -> Result<Text, CaseFault> {
+fn fault_lines(alloc: Global, fault: LoadFault) -> Result<Text, CaseFault> {
     match fault {
-        LoadingFault::Diag(diag) => Ok(refused_lines(alloc, &diag)?),
-        LoadingFault::Folder => Ok(Text::from_bytes(alloc, b"[folder fault]\n")?),
-        LoadingFault::Tool => Ok(Text::from_bytes(alloc, b"[tool fault]\n")?),
-        LoadingFault::NoMemory => Err(CaseFault::NoMemory),
+        LoadFault::Diag(diag) => Ok(refused_lines(alloc, &diag)?),
+        LoadFault::Folder => Ok(Text::from_bytes(alloc, b"[folder fault]\n")?),
+        LoadFault::Tool => Ok(Text::from_bytes(alloc, b"[tool fault]\n")?),
+        LoadFault::NoMemory => Err(CaseFault::NoMemory),
     }
 }
 
@@ -113,7 +112,7 @@ impl ProjectCalls {
     }
 
     /// Loads the project, with an empty box of tools.
-    fn loaded(&mut self, alloc: Global) -> Result<Project, LoadingFault> {
+    fn loaded(&mut self, alloc: Global) -> Result<Project, LoadFault> {
         self.files.begin();
         let mut tools: Toolbox<BundledTool> = Toolbox::new(alloc);
         load(

@@ -1,4 +1,4 @@
-use Rattle.tool_commands.proofs.Counts.{box_rules}
+use Rattle.cm_top.proofs.Counts.{box_rules}
 use Rattle.history_laws.proofs.program.call_program.Goals as goal
 
 pub returns : goal.returns
