@@ -48,6 +48,7 @@ fn push_values(
 }
 
 /// Adds `structure NAME : ` and what an environment has.
+#[cycle(push_env)]
 fn push_inner(
     alloc: Global,
     out: &mut Vec<u8>,
@@ -73,6 +74,7 @@ fn push_inner(
 
 /// Adds what an environment has between `sig` and `end`: structures, types and values, each in the byte order of their
 /// names. Of structures that lie deeper than so many levels `..` is told.
+#[cycle(push_env)]
 pub(crate) fn push_env(
     alloc: Global,
     out: &mut Vec<u8>,
