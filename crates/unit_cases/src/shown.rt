@@ -92,9 +92,27 @@ fn push_defined(
 {
     let mut numbers = NameNumbers::by_order(alloc);
     match dec {
-        TopDec::Structures(binds, _) => push_structures(alloc, out, made, &mut numbers, binds.as_slice()),
-        TopDec::Signatures(binds, _) => push_signatures(alloc, out, made, &mut numbers, binds.as_slice()),
-        TopDec::Functors(binds, _) => push_functors(alloc, out, made, &mut numbers, binds.as_slice()),
+        TopDec::Structures(binds, _) => push_structures(
+            alloc,
+            out,
+            made,
+            &mut numbers,
+            binds.as_slice(),
+        ),
+        TopDec::Signatures(binds, _) => push_signatures(
+            alloc,
+            out,
+            made,
+            &mut numbers,
+            binds.as_slice(),
+        ),
+        TopDec::Functors(binds, _) => push_functors(
+            alloc,
+            out,
+            made,
+            &mut numbers,
+            binds.as_slice(),
+        ),
         TopDec::Funsigs(binds, _) => push_funsigs(alloc, out, made, &mut numbers, binds.as_slice()),
     }
 }

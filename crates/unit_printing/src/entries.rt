@@ -33,8 +33,7 @@ fn is_equality_name(name: &TyName) -> bool {
 fn word_of(function: &TypeFn) -> &'static [u8] {
     match function.body.nodes() {
         [.., TypeNode::Made(Symbol::Name(name), places)]
-            if is_equality_name(name) && has_own_arguments(function, places.as_slice()) =>
-        {
+            if is_equality_name(name) && has_own_arguments(function, places.as_slice()) => {
             b" eqtype "
         }
         _ => b" type ",

@@ -13,17 +13,8 @@ use type_printing::NameNumbers;
 const LEVELS: u32 = 1024;
 
 /// Adds a word and a name.
-fn push_head(
-    alloc: Global,
-    out: &mut Vec<u8>,
-    word: &[u8],
-    name: &Text,
-) -> Result<(), NoMemory> {
-    push_parts(
-        alloc,
-        out,
-        &[Part::Text(word), Part::Text(name.as_bytes())],
-    )
+fn push_head(alloc: Global, out: &mut Vec<u8>, word: &[u8], name: &Text) -> Result<(), NoMemory> {
+    push_parts(alloc, out, &[Part::Text(word), Part::Text(name.as_bytes())])
 }
 
 /// Adds the end of a line.
