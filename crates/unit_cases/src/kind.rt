@@ -8,8 +8,8 @@ use std::alloc::Global;
 /// section `before`, where there is one. It is refused with its first diagnostic.
 #[derive(Clone, Copy)]
 pub enum Kind {
-    /// `unit`: what the unit defines, a line for each structure, signature, functor and signature of functors.
-    Unit,
+    /// `defined`: what the unit defines, a line for each structure, signature, functor and signature of functors.
+    Defined,
     /// `last`: what its last declaration defines, in the order in which it is written.
     Last,
     /// `accepted`: `ok`.
@@ -18,7 +18,7 @@ pub enum Kind {
 
 /// The kinds with their names.
 const KINDS: [(&[u8], Kind); 3] = [
-    (b"unit", Kind::Unit),
+    (b"defined", Kind::Defined),
     (b"last", Kind::Last),
     (b"accepted", Kind::Accepted),
 ];

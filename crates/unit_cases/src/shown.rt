@@ -129,7 +129,7 @@ pub fn lines_of(
 {
     let mut out = Vec::new(alloc);
     match kind {
-        Kind::Unit => {
+        Kind::Defined => {
             let mut numbers = NameNumbers::by_order(alloc);
             push_top(alloc, &mut out, &mut numbers, graph, top)?;
         }
