@@ -1,5 +1,0 @@
-pub mod Lasting
-pub mod Turns
-pub mod Defining
-pub mod Declared
-pub mod Starting

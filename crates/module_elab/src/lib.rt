@@ -1,8 +1,0 @@
-//! Whole units: what their declarations define.
-#![tactic(auto)]
-
-mod ready;
-mod tops;
-mod unit;
-
-pub use unit::elab_unit;
