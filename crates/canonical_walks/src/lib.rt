@@ -5,4 +5,4 @@
 mod binders;
 mod tops;
 
-pub use tops::canon;
+pub use tops::{canon, envs_of};

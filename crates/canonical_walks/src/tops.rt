@@ -47,7 +47,7 @@ fn add_rows(graph: &EnvGraph, rows: &Rows, envs: &mut List<EnvId>) -> Result<(),
 }
 
 /// The environments of a top and of its signatures and functors, in the order of the walk.
-fn envs_of(graph: &EnvGraph, tables: &TopTables) -> Result<List<EnvId>, NoMemory>
+pub fn envs_of(graph: &EnvGraph, tables: &TopTables) -> Result<List<EnvId>, NoMemory>
     requires { AreTopTables graph.now.items tables.now }
     ensures there { IfOk result (HasAll graph.now) }
     ensures names { IfOk result (λ envs.

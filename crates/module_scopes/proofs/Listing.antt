@@ -1,5 +1,6 @@
 -- Structures, signatures and functors by name as entries and as places of a graph.
 use Rattle.std.proofs.Common.{◌≡◌, ℕ, refl, sym, ap, ◌∙◌, subst, List, [], ◌∷◌}
+use Rattle.std.specs.Prelude.{Result, Ok, Err, OnErr}
 use Rattle.semantic_objects.specs.Tables.{Table as Named, with_all}
 use Rattle.semantic_objects.specs.Environments.{Env, Signature, Functor, Top, env_of}
 use Rattle.env_parts.specs.declared.tables.TopTables.{TopTables}
@@ -14,7 +15,7 @@ use Rattle.sml_modules.specs.Items.{Item, at, as_signature, as_functor, IsSignat
 use Rattle.sml_modules.specs.Nodes.{AreAll, AreTopTables, top_of_tables}
 use Rattle.sml_modules.specs.Adding.{Adds}
 use Rattle.sml_modules.specs.Graphs.{Graph, env_at, HasEnv, HasEnvs, Keeps, GivesEnv, GivesTop, structure_rows, type_rows, value_rows, env_of_entries}
-use Rattle.sml_modules.proofs.Keeping.{extends_self, gives_top}
+use Rattle.sml_modules.proofs.Keeping.{keeps, extends_self, gives_top}
 use Rattle.sml_modules.proofs.Setting.{all_map, all_with_all}
 use Rattle.name_trails.specs.Trails.{Rows}
 use Rattle.core_scopes.specs.declared.made.NamedInScope.{NamedInScope}
@@ -154,3 +155,15 @@ module _ (old mid : Graph) (defined : Defined) (tables : TopTables) (id : EnvId)
         home = made.home ∙ h.home;
         made = made.made ∙ h.made;
       }
+
+-- ---- after want of memory
+
+pub itself_kept : (g : Graph) → Keeps g g
+itself_kept g = keeps g g (extends_self g)
+
+pub still_kept : (old mid new : Graph) → Keeps old mid → new ≡ mid → Keeps old new
+still_kept old mid new h e = subst (Keeps old) (sym e) h
+
+pub on_err : {A E : Type 0} (P : Type 0) (r : Result A E) → P → OnErr r P
+on_err P (Ok x) h = tt
+on_err P (Err e) h = h

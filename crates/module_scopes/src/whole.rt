@@ -2,7 +2,7 @@
 
 ghost use Rattle.std.specs.Prelude.{◌≡◌, [], IfOk, OnOk, OnErr};
 ghost use Rattle.semantic_objects.specs.Tables.{with_all};
-ghost use Rattle.sml_modules.specs.Graphs.{GivesEnv, GivesTop};
+ghost use Rattle.sml_modules.specs.Graphs.{GivesEnv, GivesTop, Keeps};
 ghost use Rattle.module_scopes.specs.Tops.{structures_env, defined_top, IsDefinedIn};
 ghost use Rattle.core_scopes.specs.Scopes.{AreEnvs};
 ghost use Rattle.module_scopes.specs.Places.{sig_places, fun_places};
@@ -55,7 +55,9 @@ fn structures_made(
 /// nodes behind. The Definition of Standard ML (Revised), rules 87 to 89.
 pub fn make_defined(alloc: Global, g: &mut EnvGraph, defined: &Defined) -> Result<TopId, NoMemory>
     requires { IsDefinedIn g.old defined.now }
-    ensures { IfOk result (GivesTop g.old g.new (defined_top g.old defined.now)) }
+    ensures ok { IfOk result (GivesTop g.old g.new (defined_top g.old defined.now)) }
+    ensures kept { OnErr result (Keeps g.old g.new) }
+    ensures home { OnErr result (g.new.home ≡ g.old.home) }
 {
     let signatures = signature_rows(alloc, defined.signatures.rows())?;
     let functors = functor_rows(alloc, defined.functors.rows())?;

@@ -1,0 +1,4 @@
+pub mod Fine
+pub mod Computed
+pub mod Whole
+pub mod Promised

@@ -1,0 +1,6 @@
+pub mod Turns
+pub mod Lasting
+pub mod Defining
+pub mod Declared
+pub mod Alone
+pub mod Starting

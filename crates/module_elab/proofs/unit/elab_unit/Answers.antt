@@ -1,0 +1,49 @@
+use Rattle.std.proofs.Common.{◌∙◌, subst, sym, ap, length}
+use Rattle.unification.specs.Unification.{depth}
+use Rattle.type_nodes.specs.Tables.{IsFrontOf}
+use Rattle.sml_modules.specs.Graphs.{top_at}
+use Rattle.sml_modules.specs.declared.id.TopId.{TopId}
+use Rattle.initial_basis.specs.Basis.{basis_env}
+use Rattle.unit_semantics.specs.UnitPhrases.{unit_phrases}
+use Rattle.unit_semantics.specs.UnitInference.{infer_unit}
+use Rattle.type_phrases.specs.Inferred.{progress}
+use Rattle.type_phrases.proofs.Steps.{still_refused}
+use Rattle.core_rules.proofs.Ruling.{keeps_same}
+use Rattle.module_elab.proofs.Starting.{alone_from, sound_from}
+use Rattle.module_elab.proofs.unit.elab_unit.Goals as goal
+
+pub undo-requires : goal.undo-requires
+undo-requires c =
+    subst (λ t. IsFrontOf t c.defined_in.new.t) (sym c.mark-begun.ensures) c.in-Err.ensures.ids.front
+
+pub returns-clause-infers : goal.returns-clause-infers
+returns-clause-infers c =
+    still_refused (infer_unit depth c.args.g.now.home (basis_env c.args.options.nobasis) (top_at c.args.g.now c.args.given)
+    c.args.options.opaque (unit_phrases c.args.unit.now) (progress c.args.t.now c.args.g.now))
+    (λ (id : TopId). (top_at c.defined_in.new.g id, progress c.defined_in.new.t c.defined_in.new.g))
+    (λ (id : TopId). (top_at c.defined_in.new.g id, progress c.undo.new.self c.defined_in.new.g))
+    c.in-Err.fault c.in-Err.ensures.infers
+
+pub returns-clause-ids : goal.returns-clause-ids
+returns-clause-ids c = keeps_same c.args.t.now c.undo.new.self (c.undo.ensures ∙ c.mark-begun.ensures)
+
+pub returns-in-Ok-clause-alone : goal.returns-in-Ok-clause-alone
+returns-in-Ok-clause-alone c = λ none.
+    alone_from c.args.g.now c.args.t.now c.args.options.nobasis c.args.given c.args.options.opaque
+    (unit_phrases c.args.unit.now)
+    (λ (id : TopId). (top_at c.defined_in.new.g id, progress c.defined_in.new.t c.defined_in.new.g))
+    c.defined_in.result c.requires.fit c.is_kept.ensures none c.defined_in.ensures.infers
+
+pub returns-clause-alone : goal.returns-clause-alone
+returns-clause-alone c = λ none.
+    alone_from c.args.g.now c.args.t.now c.args.options.nobasis c.args.given c.args.options.opaque
+    (unit_phrases c.args.unit.now)
+    (λ (id : TopId). (top_at c.defined_in.new.g id, progress c.defined_in.new.t c.defined_in.new.g))
+    c.defined_in.result c.requires.fit c.is_kept.ensures none c.defined_in.ensures.infers
+
+pub returns-in-Ok-clause-sound : goal.returns-in-Ok-clause-sound
+returns-in-Ok-clause-sound c = λ has.
+    sound_from c.args.g.now c.args.t.now c.args.options.nobasis c.args.given c.args.options.opaque
+    (unit_phrases c.args.unit.now)
+    (top_at c.defined_in.new.g c.in-Ok.id, progress c.defined_in.new.t c.defined_in.new.g)
+    c.requires.fit c.is_kept.ensures has c.in-Ok.ensures.infers

@@ -1,0 +1,8 @@
+//! Whole units: what their declarations define.
+#![tactic(auto)]
+
+mod ready;
+mod tops;
+mod unit;
+
+pub use unit::elab_unit;
