@@ -189,8 +189,8 @@ fn push_funsigs(
     Ok(())
 }
 
-/// Adds a line for each structure, signature, functor and signature of functors of a top, in this order, each in the byte
-/// order of their names.
+/// Adds a line for each structure, signature, functor and signature of functors of a top, in this order, each in the
+/// byte order of their names.
 pub fn push_top(
     alloc: Global,
     out: &mut Vec<u8>,
