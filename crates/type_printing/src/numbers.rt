@@ -3,8 +3,8 @@
 use cm_base::{List, NoMemory};
 use std::alloc::Global;
 
-/// How type names that a unit made, and those that a signature or a functor binds, are printed: by the numbers that they
-/// have, or by the order in which they are printed first.
+/// How type names that a unit made, and those that a signature or a functor binds, are printed: by the numbers that
+/// they have, or by the order in which they are printed first.
 #[derive(Drop)]
 pub struct NameNumbers {
     is_by_order: bool,

@@ -191,8 +191,8 @@ pub fn push_numbered_scheme(
     push_named(alloc, out, numbers, &pieces, 0, scheme.marks())
 }
 
-/// Adds the type of a type function, with type names by these numbers. Its variables have the names of its arguments, as
-/// `push_arguments` writes them.
+/// Adds the type of a type function, with type names by these numbers. Its variables have the names of its arguments,
+/// as `push_arguments` writes them.
 pub fn push_numbered_function(
     alloc: Global,
     out: &mut Vec<u8>,

@@ -95,7 +95,8 @@ pub fn push_arguments(alloc: Global, out: &mut Vec<u8>, arity: u32) -> Result<()
     push_parts(alloc, out, &[Part::Text(end)])
 }
 
-/// Adds pieces, with names in the places of variables and of numbers. The first variables have the first names, in order.
+/// Adds pieces, with names in the places of variables and of numbers. The first variables have the first names, in
+/// order.
 pub(crate) fn push_named(
     alloc: Global,
     out: &mut Vec<u8>,
