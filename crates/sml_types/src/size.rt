@@ -1,21 +1,33 @@
 //! How many nodes a type has as a tree.
 
-ghost use Rattle.std.specs.Prelude.{◌≡◌, ◌+◌, ◌≤◌, ◌++◌, IfOk, OnOk};
+ghost use Rattle.std.specs.Prelude.{◌≡◌, ◌+◌, ◌≤◌, ◌<◌, ◌++◌, max, length, IfOk, OnOk};
 ghost use Rattle.unification.specs.Types.{size};
 ghost use Rattle.type_nodes.specs.Facts.{capped};
-ghost use Rattle.type_nodes.specs.Tables.{Has, whole};
-ghost use Rattle.sml_types.specs.Sizing.{HaveAll, Counted};
+ghost use Rattle.type_nodes.specs.Tables.{Has, IsEnd, whole};
+ghost use Rattle.sml_types.specs.Sizing.{HaveAll, Counted, IsUnder};
 
 use cm_base::{List, NoMemory};
 use semantic_objects::TyId;
 use std::alloc::Global;
-use type_nodes::{LARGE, TypeBindings};
+use type_nodes::{LARGE, TypeBindings, Weight};
 
-/// A count with more to it, where a large one stays the same.
-fn more(counted: u32, by: u32) -> u32
-    ensures { result ≡ capped (counted + by) }
+/// A weight with more to it, where a large size stays the same.
+fn more(counted: Weight, by: Weight) -> Weight
+    ensures size { result.size ≡ capped (counted.size + by.size) }
+    ensures above { result.above ≡ max counted.above by.above }
 {
-    counted.saturating_add(by).min(LARGE)
+    Weight {
+        size: counted.size.saturating_add(by.size).min(LARGE),
+        above: counted.above.max(by.above),
+    }
+}
+
+/// One node, in which there are only variables below a number.
+fn one_node(above: usize) -> Weight
+    ensures size { result.size ≡ 1 }
+    ensures above { result.above ≡ above }
+{
+    Weight { size: 1, above }
 }
 
 /// Adds ids behind others.
@@ -28,47 +40,134 @@ fn add_all(ids: &mut List<TyId>, more: &List<TyId>) -> Result<(), NoMemory>
     Ok(())
 }
 
-/// Counts what stands at an id: a node whose size is known with all below it, and else by itself, with its parts left to
-/// be counted.
-fn count(
+/// Counts a node in which a variable stands that isn't rigid: with all below it where that is kept, and else by itself,
+/// with its parts left to be counted.
+fn count_open(
     table: &TypeBindings,
-    id: TyId,
-    counted: u32,
+    at: usize,
+    counted: Weight,
     left: &mut List<TyId>,
-) -> Result<u32, NoMemory>
-    requires has { Has table.now id }
+) -> Result<Weight, NoMemory>
+    requires has { at < length table.now.nodes }
     requires all { HaveAll table.now left.old }
-    requires within { counted ≤ 65537 }
-    ensures { IfOk result (Counted table.now id counted left.old left.new) }
+    requires within { counted.size ≤ 65537 }
+    ensures { IfOk result (Counted table.now (TyId.Made at) counted left.old left.new) }
 {
     table.is_kept();
-    match table.head(id) {
-        TyId::Variable(_) => Ok(more(counted, 1)),
-        TyId::Made(at) => {
-            let facts = table.facts(at);
-            if facts.flexible {
-                add_all(left, &table.node(at).parts)?;
-                Ok(more(counted, 1))
-            } else {
-                Ok(more(counted, facts.size))
-            }
+    match table.weight(at) {
+        Some(weight) => Ok(more(counted, weight)),
+        None => {
+            add_all(left, &table.node(at).parts)?;
+            Ok(more(counted, one_node(0)))
         }
     }
 }
 
-/// The number of nodes of the tree that an id stands for, or `LARGE` where there are so many or more.
-pub(crate) fn tree_size(table: &TypeBindings, alloc: Global, id: TyId) -> Result<u32, NoMemory>
+/// Counts a node.
+fn count_node(
+    table: &TypeBindings,
+    at: usize,
+    counted: Weight,
+    left: &mut List<TyId>,
+) -> Result<Weight, NoMemory>
+    requires has { at < length table.now.nodes }
+    requires all { HaveAll table.now left.old }
+    requires within { counted.size ≤ 65537 }
+    ensures { IfOk result (Counted table.now (TyId.Made at) counted left.old left.new) }
+{
+    table.is_kept();
+    let facts = table.facts(at);
+    if facts.flexible {
+        return count_open(table, at, counted, left);
+    }
+    let size = facts.size;
+    Ok(more(counted, Weight { size, above: 0 }))
+}
+
+/// Counts a variable for which nothing stands.
+fn count_variable(
+    table: &TypeBindings,
+    variable: usize,
+    counted: Weight,
+    left: &List<TyId>,
+) -> Result<Weight, NoMemory>
+    requires end { IsEnd table.now (TyId.Variable variable) }
+    requires all { HaveAll table.now left.now }
+    requires within { counted.size ≤ 65537 }
+    ensures { IfOk result (Counted table.now (TyId.Variable variable) counted left.now left.now) }
+{
+    match variable.checked_add(1) {
+        Some(above) => Ok(more(counted, one_node(above))),
+        None => Err(NoMemory),
+    }
+}
+
+/// Counts what stands at an id: what isn't counted of it is left to be.
+fn count(
+    table: &TypeBindings,
+    id: TyId,
+    counted: Weight,
+    left: &mut List<TyId>,
+) -> Result<Weight, NoMemory>
+    requires has { Has table.now id }
+    requires all { HaveAll table.now left.old }
+    requires within { counted.size ≤ 65537 }
+    ensures { IfOk result (Counted table.now id counted left.old left.new) }
+{
+    match table.head(id) {
+        TyId::Variable(variable) => count_variable(table, variable, counted, left),
+        TyId::Made(at) => count_node(table, at, counted, left),
+    }
+}
+
+/// The number of nodes of the tree that an id stands for, or `LARGE` where there are so many or more; and a number above
+/// its variables that aren't rigid, where it isn't large.
+pub(crate) fn weight_of(
+    table: &TypeBindings,
+    alloc: Global,
+    id: TyId,
+) -> Result<Weight, NoMemory>
     requires { Has table.now id }
-    ensures { IfOk result (λ count. count ≡ capped (size (whole table.now id))) }
+    ensures size { IfOk result (λ weight. weight.size ≡ capped (size (whole table.now id))) }
+    ensures under { IfOk result (λ weight. weight.size < 65537 → IsUnder table.now id weight.above) }
 {
     let mut left = List::new(alloc);
     left.add(id)?;
-    let mut counted = 0;
+    let mut counted = Weight { size: 0, above: 0 };
     while let Some(id) = left.pop() {
         counted = count(table, id, counted, &mut left)?;
-        if left.len() >= LARGE as usize || counted >= LARGE {
-            return Ok(LARGE);
+        if left.len() >= LARGE as usize || counted.size >= LARGE {
+            return Ok(Weight {
+                size: LARGE,
+                above: 0,
+            });
         }
     }
     Ok(counted)
+}
+
+/// Keeps the size of what an id stands for.
+fn keep(table: &mut TypeBindings, id: TyId, weight: Weight)
+    requires has { Has table.old id }
+    requires size { weight.size ≡ capped (size (whole table.old id)) }
+    requires under { IsUnder table.old id weight.above }
+    ensures { table.new ≡ table.old }
+{
+    if let TyId::Made(at) = table.head(id) {
+        table.keep_weight(at, weight);
+    }
+}
+
+/// The number of nodes of the tree that an id stands for, or `LARGE` where there are so many or more. It is kept, so that
+/// the next look at it needs no walk.
+pub(crate) fn weigh(table: &mut TypeBindings, alloc: Global, id: TyId) -> Result<u32, NoMemory>
+    requires { Has table.old id }
+    ensures size { IfOk result (λ count. count ≡ capped (size (whole table.old id))) }
+    ensures same { table.new ≡ table.old }
+{
+    let weight = weight_of(table, alloc, id)?;
+    if weight.size < LARGE {
+        keep(table, id, weight);
+    }
+    Ok(weight.size)
 }

@@ -21,7 +21,7 @@ use crate::covers::covers;
 use crate::fault::TypeFault;
 use crate::look::{Look, copied, fields_of, look_at};
 use crate::record::in_order;
-use crate::size::tree_size;
+use crate::size::{weigh, weight_of};
 use crate::unify::unify_below;
 use cm_base::{List, NoMemory, Text};
 use semantic_objects::{Scheme, Symbol, TyId, TyName};
@@ -178,7 +178,17 @@ impl TypeTable {
         requires { Has self.now id }
         ensures { IfOk result (λ count. count ≡ capped (size (whole self.now id))) }
     {
-        tree_size(&self.bindings, self.alloc, id)
+        Ok(weight_of(&self.bindings, self.alloc, id)?.size)
+    }
+
+    /// The same. Where a walk was needed its answer is kept, so that the next look at this type or at one over it needs none
+    /// until something is put in for a variable of it.
+    pub fn sized(&mut self, id: TyId) -> Result<u32, NoMemory>
+        requires { Has self.old id }
+        ensures size { IfOk result (λ count. count ≡ capped (size (whole self.old id))) }
+        ensures same { self.new ≡ self.old }
+    {
+        Ok(weigh(&mut self.bindings, self.alloc, id)?)
     }
 
     /// Makes what two ids stand for one, or leaves the table as it is.
