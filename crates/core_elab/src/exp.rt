@@ -72,6 +72,24 @@ pub(crate) fn elab_in_scope(
             let id = elab_match(alloc, g, t, scope, rules.as_slice())?;
             sized(alloc, g, t, *at, id)
         }
+        Exp::Let(_, _, _) => elab_let(alloc, g, t, scope, exp),
+    }
+}
+
+/// A `let`, in a scope, which is left as it was. Another expression is answered as want of memory is. The Definition of
+/// Standard ML (Revised), rule 4.
+#[cycle(elab_in_scope)]
+fn elab_let(
+    alloc: Global,
+    g: &mut EnvGraph,
+    t: &mut TypeTable,
+    scope: &mut CoreScope,
+    exp: &Exp,
+) -> Result<TyId, Fault>
+    requires { IsReadyAt (moment g.old t.old scope.old) }
+    ensures { IsExp (moment g.old t.old scope.old) (exp_phrase exp.now) (moment g.new t.new scope.new) result }
+{
+    match exp {
         Exp::Let(dec, body, at) => {
             let from = g.made();
             let made = elab_declared(alloc, g, t, scope, dec.get())?;
@@ -80,6 +98,7 @@ pub(crate) fn elab_in_scope(
             let id = elab_body(alloc, g, t, scope, made, body.get())?;
             end_let(alloc, g, t, *at, from, to, id)
         }
+        _ => Err(Fault::NoMemory),
     }
 }
 

@@ -7,11 +7,12 @@ ghost use Rattle.type_schemes.specs.Schemes.{HaveAll};
 ghost use Rattle.core_rules.specs.Moments.{moment};
 ghost use Rattle.core_rules.specs.Ready.{IsReadyAt, IsReadyUnder};
 ghost use Rattle.core_rules.specs.Values.{AreRecsUnder};
-ghost use Rattle.core_elab.specs.Vals.{AreRecsOf, IsValOf, IsOfValues};
+ghost use Rattle.value_closing.specs.Groups.{groups_of};
+ghost use Rattle.core_elab.specs.Vals.{AreRecsOf, IsBehindBinds, IsValOf, IsOfValues};
 
 use crate::binds::elab_binds;
 use crate::patterns::rec_patterns;
-use crate::ready::{are_there, is_ready, is_ready_under, is_since};
+use crate::ready::{are_there, is_behind_binds, is_ready, is_ready_under, is_since};
 use crate::rec_exps::elab_rec_exps;
 use cm_base::{Fault, List};
 use core_rules::enter_variables;
@@ -24,7 +25,7 @@ use sml_trees::{Dec, Rule};
 use sml_types::TypeTable;
 use std::alloc::Global;
 use type_nodes::Mark;
-use value_closing::{close_val, own_variables};
+use value_closing::{BoundGroup, close_val, own_variables};
 
 /// The expressions of `rec` bindings under the variables of their patterns, which are left again.
 #[cycle(elab_in_scope)]
@@ -75,6 +76,41 @@ fn elab_recs_of(
     }
 }
 
+/// The `rec` bindings of a `val` behind its plain ones, and its end by a mark from before it, in the scope with its own
+/// type variables, which is left as it was. Another declaration is answered as want of memory is.
+#[cycle(elab_in_scope)]
+fn elab_behind_binds(
+    alloc: Global,
+    g: &mut EnvGraph,
+    t: &mut TypeTable,
+    scope: &mut CoreScope,
+    dec: &Dec,
+    own: &NameTrail<usize>,
+    since: &Mark,
+    bound: NameTrail<OwnVariable>,
+    groups: List<BoundGroup>,
+) -> Result<Made<OwnVariable>, Fault>
+    requires { IsBehindBinds (dec_phrase dec.now) bound (groups_of groups) since.now (moment g.old t.old scope.old) }
+    ensures { (behind : IsBehindBinds (dec_phrase dec.now) bound (groups_of groups) since.now
+        (moment g.old t.old scope.old)) → IsValOf behind.from (state since.now).next own.now (dec_phrase dec.now)
+        (moment g.new t.new scope.new) result }
+{
+    match dec {
+        Dec::Val(_, _, recs, at) => {
+            let recursive = recs.as_slice();
+            let mut bound = bound;
+            let mut groups = groups;
+            t.is_kept();
+            let pats = rec_patterns(alloc, g, t, scope, recursive, &mut bound, &mut groups)?;
+            is_ready_under(g, t, scope, &pats.bound);
+            are_there(t, &pats.types);
+            elab_recs_of(alloc, g, t, scope, &pats.bound, dec, &pats.types)?;
+            close_val(alloc, g, t, *at, own, groups, since)
+        }
+        _ => Err(Fault::NoMemory),
+    }
+}
+
 /// The bindings of a `val`, and its end by a mark from before it, in the scope with its own type variables, which is
 /// left as it was. Another declaration is answered as want of memory is.
 #[cycle(elab_in_scope)]
@@ -93,18 +129,13 @@ fn elab_val_under(
         (moment g.new t.new scope.new) result }
 {
     match dec {
-        Dec::Val(_, binds, recs, at) => {
+        Dec::Val(_, binds, _, _) => {
             let plain = binds.as_slice();
-            let recursive = recs.as_slice();
             let mut bound = NameTrail::new(alloc);
             let mut groups = List::new(alloc);
             elab_binds(alloc, g, t, scope, plain, &mut bound, &mut groups)?;
-            t.is_kept();
-            let pats = rec_patterns(alloc, g, t, scope, recursive, &mut bound, &mut groups)?;
-            is_ready_under(g, t, scope, &pats.bound);
-            are_there(t, &pats.types);
-            elab_recs_of(alloc, g, t, scope, &pats.bound, dec, &pats.types)?;
-            close_val(alloc, g, t, *at, own, groups, since)
+            is_behind_binds(g, t, scope, dec, &bound, &groups, since);
+            elab_behind_binds(alloc, g, t, scope, dec, own, since, bound, groups)
         }
         _ => Err(Fault::NoMemory),
     }

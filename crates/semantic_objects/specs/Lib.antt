@@ -4,6 +4,7 @@ pub mod Codes
 pub mod Nodes
 pub mod Adding
 pub mod Parts
+pub mod Sharing
 pub mod Fields
 pub mod Tables
 pub mod Environments

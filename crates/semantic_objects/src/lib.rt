@@ -8,6 +8,7 @@ mod name;
 mod node;
 mod part;
 mod scheme;
+mod shared;
 mod symbol;
 mod tree;
 

@@ -70,12 +70,12 @@ fn node_after(alloc: Global, node: &TypeNode, by: usize) -> Result<TypeNode, NoM
 pub(crate) fn add_nodes(
     alloc: Global,
     nodes: &mut List<TypeNode>,
-    more: &List<TypeNode>,
+    more: &[TypeNode],
     by: usize,
 ) -> Result<(), NoMemory>
     ensures { OnOk result (nodes.new ≡ nodes.old ++ map (moved by) more.now) }
 {
-    for node in more.as_slice() {
+    for node in more {
         nodes.add(node_after(alloc, node, by)?)?;
     }
     Ok(())

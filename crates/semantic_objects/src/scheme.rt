@@ -40,13 +40,16 @@ pub struct SchemeParts {
 }
 
 impl Scheme {
-    /// The scheme of these parts.
+    /// The scheme of these parts. The nodes of its type are shared by all its copies.
     pub fn make(marks: List<bool>, body: TypeTree) -> Result<Scheme, NoMemory>
         requires { BindsBelow (length marks) body }
         ensures marks { IfOk result (λ scheme. scheme.marks ≡ marks) }
         ensures body { IfOk result (λ scheme. scheme.body ≡ body) }
     {
-        Ok(Scheme { marks, body })
+        Ok(Scheme {
+            marks,
+            body: body.shared()?,
+        })
     }
 
     /// Its marks and its type.

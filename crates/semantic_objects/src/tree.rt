@@ -11,6 +11,7 @@ ghost use Rattle.semantic_objects.specs.Parts.{part_tree, IsPart, IsMadeOf, IsRe
 use crate::name::TyId;
 use crate::node::{TypeNode, add_nodes, copy_nodes};
 use crate::part::{SortedFields, TreePart, part_over, sorted_fields};
+use crate::shared::SharedNodes;
 use crate::symbol::Symbol;
 use cm_base::{List, NoMemory};
 use std::alloc::Global;
@@ -20,7 +21,7 @@ use std::marker::Model;
 /// The Definition of Standard ML (Revised), section 4.2.
 #[derive(Drop)]
 pub struct TypeTree {
-    nodes: List<TypeNode>,
+    nodes: SharedNodes,
 }
 
 impl Model for TypeTree {
@@ -84,7 +85,9 @@ impl TypeTree {
         requires { AreTree nodes }
         ensures { result ≡ root nodes }
     {
-        TypeTree { nodes }
+        TypeTree {
+            nodes: SharedNodes::new(nodes),
+        }
     }
 
     /// The nodes, of which the last one is the tree.
@@ -95,12 +98,23 @@ impl TypeTree {
         self.nodes.as_slice()
     }
 
-    /// Another tree, equal to this one, with the same parts shared.
+    /// Another tree, equal to this one, with the same parts shared. One of a scheme is copied at once, however many nodes
+    /// it has.
     pub fn copy(&self, alloc: Global) -> Result<TypeTree, NoMemory>
         ensures { IfOk result (λ copy. copy ≡ self.now) }
     {
         Ok(TypeTree {
-            nodes: copy_nodes(alloc, self.nodes.as_slice())?,
+            nodes: self.nodes.copy(alloc)?,
+        })
+    }
+
+    /// The same tree, whose nodes are shared by its copies from now on.
+    pub(crate) fn shared(self) -> Result<TypeTree, NoMemory>
+        ensures { IfOk result (λ shared. shared ≡ self) }
+    {
+        let TypeTree { nodes } = self;
+        Ok(TypeTree {
+            nodes: nodes.shared()?,
         })
     }
 
@@ -111,7 +125,7 @@ impl TypeTree {
     {
         let mut nodes = List::new(alloc);
         nodes.add(node)?;
-        Ok(TypeTree { nodes })
+        Ok(TypeTree::from_nodes(nodes))
     }
 
     /// A symbol over trees. The nodes of the last one are moved and not copied.
@@ -138,12 +152,13 @@ impl TypeTree {
         requires rising { HasRisingLabels symbol }
         ensures { IfOk result (λ tree. tree ≡ Tree.Made symbol (trees_of (parts.now ++ last ∷ []))) }
     {
-        let TypeTree { mut nodes } = last;
+        let TypeTree { nodes } = last;
+        let mut nodes = nodes.into_list(alloc)?;
         let at = nodes.len() - 1;
         let mut places = add_trees(alloc, &mut nodes, parts)?;
         places.add(at)?;
         nodes.add(TypeNode::Made(symbol, places))?;
-        Ok(TypeTree { nodes })
+        Ok(TypeTree::from_nodes(nodes))
     }
 
     /// Adds the nodes of this tree to others, and answers the place of its last one.
@@ -151,7 +166,7 @@ impl TypeTree {
         ensures { IfOk result (λ at. Appended nodes.old nodes.new at self.now) }
     {
         let by = nodes.len();
-        add_nodes(alloc, nodes, &self.nodes, by)?;
+        add_nodes(alloc, nodes, self.nodes.as_slice(), by)?;
         Ok(nodes.len() - 1)
     }
 }
@@ -178,9 +193,7 @@ fn tree_of_place(alloc: Global, nodes: &[TypeNode], at: usize) -> Result<TypeTre
     requires nodes { AreNodes nodes.now }
     ensures { IfOk result (λ tree. tree ≡ tree_at nodes.now at) }
 {
-    Ok(TypeTree {
-        nodes: copy_nodes(alloc, &nodes[..at + 1])?,
-    })
+    Ok(TypeTree::from_nodes(copy_nodes(alloc, &nodes[..at + 1])?))
 }
 
 /// The trees at some places.

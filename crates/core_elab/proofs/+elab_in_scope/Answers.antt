@@ -3,7 +3,7 @@ use Rattle.bare_phrases.specs.PhraseOf.{ty_phrase, typ_phrase, dat_phrase, ex_ph
 use Rattle.bare_phrases.specs.Phrases.{ExpPhrase, DecPhrase}
 use Rattle.cm_base.specs.declared.fault.Fault.TheVariants as fault
 use Rattle.core_rules.proofs.Binding.{binds_begin, binds_end, bind_first, bind_second, bind_third, bind_memory, bind_done, bind_of, passed_on, binds_next, binds_fail}
-use Rattle.core_rules.proofs.Chains.{passed}
+use Rattle.core_rules.proofs.Chains.{passed, memory}
 use Rattle.core_rules.proofs.Entering.{front_same}
 use Rattle.core_rules.proofs.Fields.{field_first, field_second, field_done, fields_begin, fields_next, fields_fail, fields_end}
 use Rattle.core_rules.proofs.MatchSteps.{rule_first, rule_second, rule_third, rule_done, match_begin, match_next, match_fails, match_ends}
@@ -28,7 +28,8 @@ use Rattle.type_nodes.specs.Tables.{Table, IsFrontOf, state}
 use Rattle.sml_types.proofs.Frames.{drop_past}
 use Rattle.type_phrases.proofs.PartsRead.{drop_item}
 use Rattle.value_closing.specs.Groups.{groups_of}
-use Rattle.core_elab.proofs.Vals.{val_phrase, of_val, as_under, of_values, of_recs, as_recs_under, at_once}
+use Rattle.core_elab.specs.Vals.{binds_of}
+use Rattle.core_elab.proofs.Vals.{val_phrase, of_val, as_under, of_values, of_recs, as_recs_under, at_once, behind_phrase, of_rows}
 use Rattle.core_elab.proofs.+elab_in_scope.Goals as goal
 
 pub exp::elab_in_scope-returns-in-Int : goal.exp::elab_in_scope-returns-in-Int
@@ -366,95 +367,129 @@ val::elab_recs_under-returns t c =
     (front_same c.args.scope.now c.enter_variables.new.scope c.elab_rec_exps-result.new.scope
     (c.in_ok-enter_variables.ensures.ok c.args.g.now).front c.elab_rec_exps-result.ensures.left))
 
-pub val::elab_val_under-rec_patterns-requires : goal.val::elab_val_under-rec_patterns-requires
-val::elab_val_under-rec_patterns-requires t c = c.in_ok-elab_binds-in-Val.ensures.elabs.core
+pub val::elab_behind_binds-rec_patterns-requires : goal.val::elab_behind_binds-rec_patterns-requires
+val::elab_behind_binds-rec_patterns-requires t c = c.requires.binds.elabs.core
+
+pub val::elab_behind_binds-is_ready_under-requires : goal.val::elab_behind_binds-is_ready_under-requires
+val::elab_behind_binds-is_ready_under-requires t c =
+    λ k. recs_ready c.requires.rows (map rule_phrase c.as_slice-recursive.result.now) c.in_ok-pats-in-Val.pats.bound
+    (length c.args.bound) c.requires.ready c.requires.binds c.is_kept.ensures c.in_ok-pats-in-Val.ensures.pats k
+    refl c.in_ok-pats-in-Val.ensures.since
+
+pub val::elab_behind_binds-are_there-requires : goal.val::elab_behind_binds-are_there-requires
+val::elab_behind_binds-are_there-requires t c =
+    c.in_ok-pats-in-Val.ensures.pats.answers.have
+
+pub val::elab_behind_binds-returns-in_err-pats-in-Val : goal.val::elab_behind_binds-returns-in_err-pats-in-Val
+val::elab_behind_binds-returns-in_err-pats-in-Val t c = λ h.
+    passed c.from_residual.result c.in_err-pats-in-Val.field-0.0 c.from_residual.ensures.1
+    (of_rows (state c.args.since.now).next c.args.own.now c.in-Val.field-0 h.rows (map rule_phrase c.as_slice-recursive.result.now) c.in-Val.at
+    (behind_phrase c.in-Val.field-0 (rules_of (map rule_phrase c.in-Val.field-1)) h.rows c.in-Val.recs
+    c.as_slice-recursive.result.now c.in-Val.at
+    (ap dec_phrase c.in-Val.is ∙ dec_phrase-Val c.in-Val.field-0 c.in-Val.field-1 c.in-Val.recs c.in-Val.at) h.are
+    c.as_slice-recursive.ensures)
+    (val_second (state c.args.since.now).next c.in-Val.at c.args.own.now h.rows (map rule_phrase c.as_slice-recursive.result.now)
+    c.in_err-pats-in-Val.field-0.0 h.ready.core h.binds c.in_err-pats-in-Val.ensures.pats))
+
+pub val::elab_behind_binds-close_val-requires-clause-front : goal.val::elab_behind_binds-close_val-requires-clause-front
+val::elab_behind_binds-close_val-requires-clause-front t c =
+    let h = c.requires in
+    val_front (state c.args.since.now).next c.in-Val.at c.args.own.now h.rows (map rule_phrase c.as_slice-recursive.result.now) h.ready.core h.binds
+    c.in_ok-pats-in-Val.ensures.pats c.args.since.now c.in_ok-pats-in-Val.pats.bound h.front (as_recs_under c.in_ok-pats-in-Val.pats.bound c.in_ok-pats-in-Val.pats.types c.in-Val.field-0 c.in-Val.field-1
+    c.as_slice-recursive.result.now c.in-Val.at (val_phrase c.in-Val.field-0 c.in-Val.field-1 c.in-Val.recs
+    c.in-Val.field-1 c.as_slice-recursive.result.now c.in-Val.at
+    (ap dec_phrase c.in-Val.is ∙ dec_phrase-Val c.in-Val.field-0 c.in-Val.field-1 c.in-Val.recs c.in-Val.at) refl
+    c.as_slice-recursive.ensures) c.in_ok-elab_recs_of-in-Val.ensures)
+
+pub val::elab_behind_binds-close_val-requires-clause-distinct : goal.val::elab_behind_binds-close_val-requires-clause-distinct
+val::elab_behind_binds-close_val-requires-clause-distinct t c =
+    let h = c.requires in
+    val_distinct (state c.args.since.now).next c.in-Val.at c.args.own.now h.rows (map rule_phrase c.as_slice-recursive.result.now) h.ready.core h.binds
+    c.in_ok-pats-in-Val.ensures.pats
+
+pub val::elab_behind_binds-returns-in_ok-elab_recs_of-in-Val : goal.val::elab_behind_binds-returns-in_ok-elab_recs_of-in-Val
+val::elab_behind_binds-returns-in_ok-elab_recs_of-in-Val t c = λ h.
+    of_rows (state c.args.since.now).next c.args.own.now c.in-Val.field-0 h.rows (map rule_phrase c.as_slice-recursive.result.now) c.in-Val.at
+    (behind_phrase c.in-Val.field-0 (rules_of (map rule_phrase c.in-Val.field-1)) h.rows c.in-Val.recs
+    c.as_slice-recursive.result.now c.in-Val.at
+    (ap dec_phrase c.in-Val.is ∙ dec_phrase-Val c.in-Val.field-0 c.in-Val.field-1 c.in-Val.recs c.in-Val.at) h.are
+    c.as_slice-recursive.ensures)
+    (val_done (state c.args.since.now).next c.in-Val.at c.args.own.now h.rows (map rule_phrase c.as_slice-recursive.result.now)
+    h.ready.core h.binds c.in_ok-pats-in-Val.ensures.pats c.in_ok-pats-in-Val.pats.bound
+    (length c.args.bound) refl c.in_ok-pats-in-Val.ensures.since (as_recs_under c.in_ok-pats-in-Val.pats.bound c.in_ok-pats-in-Val.pats.types c.in-Val.field-0 c.in-Val.field-1
+    c.as_slice-recursive.result.now c.in-Val.at (val_phrase c.in-Val.field-0 c.in-Val.field-1 c.in-Val.recs
+    c.in-Val.field-1 c.as_slice-recursive.result.now c.in-Val.at
+    (ap dec_phrase c.in-Val.is ∙ dec_phrase-Val c.in-Val.field-0 c.in-Val.field-1 c.in-Val.recs c.in-Val.at) refl
+    c.as_slice-recursive.ensures) c.in_ok-elab_recs_of-in-Val.ensures)
+    c.close_val.ensures.same
+    (c.close_val.ensures.answer (scope_at (moment c.elab_recs_of.new.g c.elab_recs_of.new.t
+    c.elab_recs_of.new.scope)) refl) c.close_val.ensures.structures)
+
+pub val::elab_behind_binds-returns-in_err-elab_recs_of-in-Val : goal.val::elab_behind_binds-returns-in_err-elab_recs_of-in-Val
+val::elab_behind_binds-returns-in_err-elab_recs_of-in-Val t c = λ h.
+    of_rows (state c.args.since.now).next c.args.own.now c.in-Val.field-0 h.rows (map rule_phrase c.as_slice-recursive.result.now) c.in-Val.at
+    (behind_phrase c.in-Val.field-0 (rules_of (map rule_phrase c.in-Val.field-1)) h.rows c.in-Val.recs
+    c.as_slice-recursive.result.now c.in-Val.at
+    (ap dec_phrase c.in-Val.is ∙ dec_phrase-Val c.in-Val.field-0 c.in-Val.field-1 c.in-Val.recs c.in-Val.at) h.are
+    c.as_slice-recursive.ensures)
+    (passed c.from_residual-in_err-elab_recs_of-in-Val.result c.in_err-elab_recs_of-in-Val.field-0.0
+    c.from_residual-in_err-elab_recs_of-in-Val.ensures.1
+    (val_third (state c.args.since.now).next c.in-Val.at c.args.own.now h.rows (map rule_phrase c.as_slice-recursive.result.now)
+    h.ready.core h.binds c.in_ok-pats-in-Val.ensures.pats c.in_ok-pats-in-Val.pats.bound
+    (length c.args.bound) refl c.in_ok-pats-in-Val.ensures.since (as_recs_under c.in_ok-pats-in-Val.pats.bound c.in_ok-pats-in-Val.pats.types c.in-Val.field-0 c.in-Val.field-1
+    c.as_slice-recursive.result.now c.in-Val.at (val_phrase c.in-Val.field-0 c.in-Val.field-1 c.in-Val.recs
+    c.in-Val.field-1 c.as_slice-recursive.result.now c.in-Val.at
+    (ap dec_phrase c.in-Val.is ∙ dec_phrase-Val c.in-Val.field-0 c.in-Val.field-1 c.in-Val.recs c.in-Val.at) refl
+    c.as_slice-recursive.ensures) c.in_err-elab_recs_of-in-Val.ensures)))
+
+pub val::elab_behind_binds-returns-in_default : goal.val::elab_behind_binds-returns-in_default
+val::elab_behind_binds-returns-in_default t c = λ h. memory h.binds.elabs.goes h.binds.elabs.left h.binds.elabs.core
 
 pub val::elab_val_under-returns-in_err-elab_binds-in-Val : goal.val::elab_val_under-returns-in_err-elab_binds-in-Val
 val::elab_val_under-returns-in_err-elab_binds-in-Val t c =
     passed c.from_residual.result c.in_err-elab_binds-in-Val.field-0.0 c.from_residual.ensures.1
-    (of_val (state c.args.since.now).next c.args.own.now c.in-Val.field-0 c.as_slice-plain.result.now c.as_slice-recursive.result.now c.in-Val.at (val_phrase c.in-Val.field-0 c.in-Val.binds c.in-Val.recs c.as_slice-plain.result.now c.as_slice-recursive.result.now c.in-Val.at
-    (ap dec_phrase c.in-Val.is ∙ dec_phrase-Val c.in-Val.field-0 c.in-Val.binds c.in-Val.recs c.in-Val.at)
-    c.as_slice-plain.ensures c.as_slice-recursive.ensures)
-    (val_first (state c.args.since.now).next c.in-Val.at c.args.own.now (map rule_phrase c.as_slice-plain.result.now)
-    (map rule_phrase c.as_slice-recursive.result.now)
+    (of_val (state c.args.since.now).next c.args.own.now c.in-Val.field-0 c.as_slice-plain.result.now c.in-Val.field-2
+    c.in-Val.field-3 (val_phrase c.in-Val.field-0 c.in-Val.binds c.in-Val.field-2
+    c.as_slice-plain.result.now c.in-Val.field-2 c.in-Val.field-3
+    (ap dec_phrase c.in-Val.is ∙ dec_phrase-Val c.in-Val.field-0 c.in-Val.binds c.in-Val.field-2 c.in-Val.field-3)
+    c.as_slice-plain.ensures refl)
+    (val_first (state c.args.since.now).next c.in-Val.field-3 c.args.own.now (map rule_phrase c.as_slice-plain.result.now)
+    (map rule_phrase c.in-Val.field-2)
     (binds_alone (map rule_phrase c.as_slice-plain.result.now) c.new-bound.result c.elab_binds.new.bound
     (groups_of c.new-groups.result) (groups_of c.elab_binds.new.groups) c.new-bound.ensures
     (ap groups_of c.new-groups.ensures) c.in_err-elab_binds-in-Val.ensures)))
 
-pub val::elab_val_under-returns-in_err-pats-in-Val : goal.val::elab_val_under-returns-in_err-pats-in-Val
-val::elab_val_under-returns-in_err-pats-in-Val t c =
-    passed c.from_residual-in_err-pats-in-Val.result c.in_err-pats-in-Val.field-0.0 c.from_residual-in_err-pats-in-Val.ensures.1
-    (of_val (state c.args.since.now).next c.args.own.now c.in-Val.field-0 c.as_slice-plain.result.now c.as_slice-recursive.result.now c.in-Val.at (val_phrase c.in-Val.field-0 c.in-Val.binds c.in-Val.recs c.as_slice-plain.result.now c.as_slice-recursive.result.now c.in-Val.at
-    (ap dec_phrase c.in-Val.is ∙ dec_phrase-Val c.in-Val.field-0 c.in-Val.binds c.in-Val.recs c.in-Val.at)
-    c.as_slice-plain.ensures c.as_slice-recursive.ensures)
-    (val_second (state c.args.since.now).next c.in-Val.at c.args.own.now (map rule_phrase c.as_slice-plain.result.now)
-    (map rule_phrase c.as_slice-recursive.result.now)
-    c.in_err-pats-in-Val.field-0.0 c.requires.scope.core
-    (binds_alone (map rule_phrase c.as_slice-plain.result.now) c.new-bound.result c.elab_binds.new.bound
-    (groups_of c.new-groups.result) (groups_of c.elab_binds.new.groups) c.new-bound.ensures
-    (ap groups_of c.new-groups.ensures) c.in_ok-elab_binds-in-Val.ensures)
-    c.in_err-pats-in-Val.ensures.pats))
+pub val::elab_val_under-is_behind_binds-requires : goal.val::elab_val_under-is_behind_binds-requires
+val::elab_val_under-is_behind_binds-requires t c =
+    record {
+      from = moment c.args.g.now c.args.t.now c.args.scope.now;
+      ready = c.requires.scope;
+      front = c.requires.front;
+      rows = map rule_phrase c.as_slice-plain.result.now;
+      are = ap binds_of (val_phrase c.in-Val.field-0 c.in-Val.binds c.in-Val.field-2
+          c.as_slice-plain.result.now c.in-Val.field-2 c.in-Val.field-3
+          (ap dec_phrase c.in-Val.is ∙ dec_phrase-Val c.in-Val.field-0 c.in-Val.binds c.in-Val.field-2 c.in-Val.field-3)
+          c.as_slice-plain.ensures refl);
+      binds = (binds_alone (map rule_phrase c.as_slice-plain.result.now) c.new-bound.result c.elab_binds.new.bound
+          (groups_of c.new-groups.result) (groups_of c.elab_binds.new.groups) c.new-bound.ensures
+          (ap groups_of c.new-groups.ensures) c.in_ok-elab_binds-in-Val.ensures);
+    }
 
-pub val::elab_val_under-close_val-requires-clause-front : goal.val::elab_val_under-close_val-requires-clause-front
-val::elab_val_under-close_val-requires-clause-front t c =
-    val_front (state c.args.since.now).next c.in-Val.at c.args.own.now (map rule_phrase c.as_slice-plain.result.now)
-    (map rule_phrase c.as_slice-recursive.result.now)
-    c.requires.scope.core
-    (binds_alone (map rule_phrase c.as_slice-plain.result.now) c.new-bound.result c.elab_binds.new.bound
-    (groups_of c.new-groups.result) (groups_of c.elab_binds.new.groups) c.new-bound.ensures
-    (ap groups_of c.new-groups.ensures) c.in_ok-elab_binds-in-Val.ensures)
-    c.in_ok-pats-in-Val.ensures.pats c.args.since.now c.in_ok-pats-in-Val.pats.bound c.requires.front (as_recs_under c.in_ok-pats-in-Val.pats.bound c.in_ok-pats-in-Val.pats.types c.in-Val.field-0 c.as_slice-plain.result.now
-    c.as_slice-recursive.result.now c.in-Val.at (val_phrase c.in-Val.field-0 c.in-Val.binds c.in-Val.recs c.as_slice-plain.result.now c.as_slice-recursive.result.now c.in-Val.at
-    (ap dec_phrase c.in-Val.is ∙ dec_phrase-Val c.in-Val.field-0 c.in-Val.binds c.in-Val.recs c.in-Val.at)
-    c.as_slice-plain.ensures c.as_slice-recursive.ensures) c.in_ok-elab_recs_of-in-Val.ensures)
-
-pub val::elab_val_under-close_val-requires-clause-distinct : goal.val::elab_val_under-close_val-requires-clause-distinct
-val::elab_val_under-close_val-requires-clause-distinct t c =
-    val_distinct (state c.args.since.now).next c.in-Val.at c.args.own.now (map rule_phrase c.as_slice-plain.result.now)
-    (map rule_phrase c.as_slice-recursive.result.now)
-    c.requires.scope.core
-    (binds_alone (map rule_phrase c.as_slice-plain.result.now) c.new-bound.result c.elab_binds.new.bound
-    (groups_of c.new-groups.result) (groups_of c.elab_binds.new.groups) c.new-bound.ensures
-    (ap groups_of c.new-groups.ensures) c.in_ok-elab_binds-in-Val.ensures)
-    c.in_ok-pats-in-Val.ensures.pats
-
-pub val::elab_val_under-returns-in_ok-elab_recs_of-in-Val : goal.val::elab_val_under-returns-in_ok-elab_recs_of-in-Val
-val::elab_val_under-returns-in_ok-elab_recs_of-in-Val t c =
-    of_val (state c.args.since.now).next c.args.own.now c.in-Val.field-0 c.as_slice-plain.result.now c.as_slice-recursive.result.now c.in-Val.at (val_phrase c.in-Val.field-0 c.in-Val.binds c.in-Val.recs c.as_slice-plain.result.now c.as_slice-recursive.result.now c.in-Val.at
-    (ap dec_phrase c.in-Val.is ∙ dec_phrase-Val c.in-Val.field-0 c.in-Val.binds c.in-Val.recs c.in-Val.at)
-    c.as_slice-plain.ensures c.as_slice-recursive.ensures)
-    (val_done (state c.args.since.now).next c.in-Val.at c.args.own.now (map rule_phrase c.as_slice-plain.result.now)
-    (map rule_phrase c.as_slice-recursive.result.now)
-    c.requires.scope.core
-    (binds_alone (map rule_phrase c.as_slice-plain.result.now) c.new-bound.result c.elab_binds.new.bound
-    (groups_of c.new-groups.result) (groups_of c.elab_binds.new.groups) c.new-bound.ensures
-    (ap groups_of c.new-groups.ensures) c.in_ok-elab_binds-in-Val.ensures)
-    c.in_ok-pats-in-Val.ensures.pats c.in_ok-pats-in-Val.pats.bound (length c.elab_binds.new.bound) refl
-    c.in_ok-pats-in-Val.ensures.since (as_recs_under c.in_ok-pats-in-Val.pats.bound c.in_ok-pats-in-Val.pats.types c.in-Val.field-0 c.as_slice-plain.result.now
-    c.as_slice-recursive.result.now c.in-Val.at (val_phrase c.in-Val.field-0 c.in-Val.binds c.in-Val.recs c.as_slice-plain.result.now c.as_slice-recursive.result.now c.in-Val.at
-    (ap dec_phrase c.in-Val.is ∙ dec_phrase-Val c.in-Val.field-0 c.in-Val.binds c.in-Val.recs c.in-Val.at)
-    c.as_slice-plain.ensures c.as_slice-recursive.ensures) c.in_ok-elab_recs_of-in-Val.ensures) c.close_val.ensures.same
-    (c.close_val.ensures.answer (scope_at (moment c.elab_recs_of.new.g c.elab_recs_of.new.t
-    c.elab_recs_of.new.scope)) refl) c.close_val.ensures.structures)
-
-pub val::elab_val_under-returns-in_err-elab_recs_of-in-Val : goal.val::elab_val_under-returns-in_err-elab_recs_of-in-Val
-val::elab_val_under-returns-in_err-elab_recs_of-in-Val t c =
-    of_val (state c.args.since.now).next c.args.own.now c.in-Val.field-0 c.as_slice-plain.result.now c.as_slice-recursive.result.now c.in-Val.at (val_phrase c.in-Val.field-0 c.in-Val.binds c.in-Val.recs c.as_slice-plain.result.now c.as_slice-recursive.result.now c.in-Val.at
-    (ap dec_phrase c.in-Val.is ∙ dec_phrase-Val c.in-Val.field-0 c.in-Val.binds c.in-Val.recs c.in-Val.at)
-    c.as_slice-plain.ensures c.as_slice-recursive.ensures)
-    (passed c.from_residual-in_err-elab_recs_of-in-Val.result c.in_err-elab_recs_of-in-Val.field-0.0
-    c.from_residual-in_err-elab_recs_of-in-Val.ensures.1
-    (val_third (state c.args.since.now).next c.in-Val.at c.args.own.now (map rule_phrase c.as_slice-plain.result.now)
-    (map rule_phrase c.as_slice-recursive.result.now)
-    c.requires.scope.core
-    (binds_alone (map rule_phrase c.as_slice-plain.result.now) c.new-bound.result c.elab_binds.new.bound
-    (groups_of c.new-groups.result) (groups_of c.elab_binds.new.groups) c.new-bound.ensures
-    (ap groups_of c.new-groups.ensures) c.in_ok-elab_binds-in-Val.ensures)
-    c.in_ok-pats-in-Val.ensures.pats c.in_ok-pats-in-Val.pats.bound (length c.elab_binds.new.bound) refl
-    c.in_ok-pats-in-Val.ensures.since (as_recs_under c.in_ok-pats-in-Val.pats.bound c.in_ok-pats-in-Val.pats.types c.in-Val.field-0 c.as_slice-plain.result.now
-    c.as_slice-recursive.result.now c.in-Val.at (val_phrase c.in-Val.field-0 c.in-Val.binds c.in-Val.recs c.as_slice-plain.result.now c.as_slice-recursive.result.now c.in-Val.at
-    (ap dec_phrase c.in-Val.is ∙ dec_phrase-Val c.in-Val.field-0 c.in-Val.binds c.in-Val.recs c.in-Val.at)
-    c.as_slice-plain.ensures c.as_slice-recursive.ensures) c.in_err-elab_recs_of-in-Val.ensures)))
+pub val::elab_val_under-returns-in_ok-elab_binds-in-Val : goal.val::elab_val_under-returns-in_ok-elab_binds-in-Val
+val::elab_val_under-returns-in_ok-elab_binds-in-Val t c =
+    c.elab_behind_binds.ensures (record {
+      from = moment c.args.g.now c.args.t.now c.args.scope.now;
+      ready = c.requires.scope;
+      front = c.requires.front;
+      rows = map rule_phrase c.as_slice-plain.result.now;
+      are = ap binds_of (val_phrase c.in-Val.field-0 c.in-Val.binds c.in-Val.field-2
+          c.as_slice-plain.result.now c.in-Val.field-2 c.in-Val.field-3
+          (ap dec_phrase c.in-Val.is ∙ dec_phrase-Val c.in-Val.field-0 c.in-Val.binds c.in-Val.field-2 c.in-Val.field-3)
+          c.as_slice-plain.ensures refl);
+      binds = (binds_alone (map rule_phrase c.as_slice-plain.result.now) c.new-bound.result c.elab_binds.new.bound
+          (groups_of c.new-groups.result) (groups_of c.elab_binds.new.groups) c.new-bound.ensures
+          (ap groups_of c.new-groups.ensures) c.in_ok-elab_binds-in-Val.ensures);
+    })
 
 pub val::elab_val-returns-in_err-own-in-Val : goal.val::elab_val-returns-in_err-own-in-Val
 val::elab_val-returns-in_err-own-in-Val t c =
@@ -501,26 +536,29 @@ declared::elab_shown-returns t c =
     (front_same c.args.scope.now c.enter_made.new.scope c.elab_declared-result.new.scope
     (c.in_ok-enter_made.ensures.ok c.args.g.now c.requires.envs).front c.elab_declared-result.ensures.elabs.left))
 
-pub exp::elab_in_scope-returns-in_err-made-in-Let : goal.exp::elab_in_scope-returns-in_err-made-in-Let
-exp::elab_in_scope-returns-in_err-made-in-Let t c =
-    passed c.from_residual-in_err-made-in-Let.result c.in_err-made-in-Let.field-0.0 c.from_residual-in_err-made-in-Let.ensures.1
-    (as_phrase (ap exp_phrase c.in-Let.is ∙ exp_phrase-Let c.in-Let.dec c.in-Let.body c.in-Let.at
-    ∙ ap (λ p. ExpPhrase.Let (dec_phrase p) (exp_phrase c.in-Let.body) c.in-Let.at) (sym c.get-in-Let.ensures))
-    (let_first (dec_phrase c.get-in-Let.result.now) (exp_phrase c.in-Let.body) c.in-Let.at c.in_err-made-in-Let.ensures))
+pub exp::elab_let-returns-in_default : goal.exp::elab_let-returns-in_default
+exp::elab_let-returns-in_default t c = at_once c.requires.core
 
-pub exp::elab_in_scope-returns-in_err-id-in-Let : goal.exp::elab_in_scope-returns-in_err-id-in-Let
-exp::elab_in_scope-returns-in_err-id-in-Let t c =
+pub exp::elab_let-returns-in_err-made-in-Let : goal.exp::elab_let-returns-in_err-made-in-Let
+exp::elab_let-returns-in_err-made-in-Let t c =
+    passed c.from_residual.result c.in_err-made-in-Let.field-0.0 c.from_residual.ensures.1
+    (as_phrase (ap exp_phrase c.in-Let.is ∙ exp_phrase-Let c.in-Let.dec c.in-Let.body c.in-Let.at
+    ∙ ap (λ p. ExpPhrase.Let (dec_phrase p) (exp_phrase c.in-Let.body) c.in-Let.at) (sym c.get.ensures))
+    (let_first (dec_phrase c.get.result.now) (exp_phrase c.in-Let.body) c.in-Let.at c.in_err-made-in-Let.ensures))
+
+pub exp::elab_let-returns-in_err-id-in-Let : goal.exp::elab_let-returns-in_err-id-in-Let
+exp::elab_let-returns-in_err-id-in-Let t c =
     passed c.from_residual-in_err-id-in-Let.result c.in_err-id-in-Let.field-0.0 c.from_residual-in_err-id-in-Let.ensures.1
     (as_phrase (ap exp_phrase c.in-Let.is ∙ exp_phrase-Let c.in-Let.dec c.in-Let.body c.in-Let.at
-    ∙ ap₂ (λ p q. ExpPhrase.Let (dec_phrase p) (exp_phrase q) c.in-Let.at) (sym c.get-in-Let.ensures) (sym c.get-in-Let-2.ensures))
-    (let_second (dec_phrase c.get-in-Let.result.now) (exp_phrase c.get-in-Let-2.result.now) c.in-Let.at c.requires.core
+    ∙ ap₂ (λ p q. ExpPhrase.Let (dec_phrase p) (exp_phrase q) c.in-Let.at) (sym c.get.ensures) (sym c.get-in-Let.ensures))
+    (let_second (dec_phrase c.get.result.now) (exp_phrase c.get-in-Let.result.now) c.in-Let.at c.requires.core
     c.in_ok-made-in-Let.ensures c.in_err-id-in-Let.ensures))
 
-pub exp::elab_in_scope-returns-in_ok-id-in-Let : goal.exp::elab_in_scope-returns-in_ok-id-in-Let
-exp::elab_in_scope-returns-in_ok-id-in-Let t c =
+pub exp::elab_let-returns-in_ok-id-in-Let : goal.exp::elab_let-returns-in_ok-id-in-Let
+exp::elab_let-returns-in_ok-id-in-Let t c =
     (as_phrase (ap exp_phrase c.in-Let.is ∙ exp_phrase-Let c.in-Let.dec c.in-Let.body c.in-Let.at
-    ∙ ap₂ (λ p q. ExpPhrase.Let (dec_phrase p) (exp_phrase q) c.in-Let.at) (sym c.get-in-Let.ensures) (sym c.get-in-Let-2.ensures))
-    (let_numbered (dec_phrase c.get-in-Let.result.now) (exp_phrase c.get-in-Let-2.result.now) c.in-Let.at
+    ∙ ap₂ (λ p q. ExpPhrase.Let (dec_phrase p) (exp_phrase q) c.in-Let.at) (sym c.get.ensures) (sym c.get-in-Let.ensures))
+    (let_numbered (dec_phrase c.get.result.now) (exp_phrase c.get-in-Let.result.now) c.in-Let.at
     c.made-from.result c.made-to.result c.requires.core c.in_ok-made-in-Let.ensures
     c.in_ok-id-in-Let.ensures c.made-from.ensures c.made-to.ensures c.end_let.ensures))
 
@@ -681,9 +719,9 @@ pub exp::elab_in_scope-is_ready-requires-in-Handle : goal.exp::elab_in_scope-is_
 exp::elab_in_scope-is_ready-requires-in-Handle t c =
     λ k. later c.requires k c.in_ok-id-in-Handle.ensures.goes c.in_ok-id-in-Handle.ensures.left
 
-pub exp::elab_in_scope-is_ready_behind-requires : goal.exp::elab_in_scope-is_ready_behind-requires
-exp::elab_in_scope-is_ready_behind-requires t c =
-    λ k. behind (dec_phrase c.get-in-Let.result.now) c.in_ok-made-in-Let.made c.requires k c.in_ok-made-in-Let.ensures
+pub exp::elab_let-is_ready_behind-requires : goal.exp::elab_let-is_ready_behind-requires
+exp::elab_let-is_ready_behind-requires t c =
+    λ k. behind (dec_phrase c.get.result.now) c.in_ok-made-in-Let.made c.requires k c.in_ok-made-in-Let.ensures
 
 pub exp::elab_fields-is_ready-requires : goal.exp::elab_fields-is_ready-requires
 exp::elab_fields-is_ready-requires t c =
@@ -761,19 +799,6 @@ pub val::elab_val-is_since-requires : goal.val::elab_val-is_since-requires
 val::elab_val-is_since-requires t c =
     subst (λ (z : Table). IsFrontOf z c.own_variables.new.t) (sym c.mark-since.ensures)
     c.in_ok-own-in-Val.ensures.ids.front
-
-pub val::elab_val_under-is_ready_under-requires : goal.val::elab_val_under-is_ready_under-requires
-val::elab_val_under-is_ready_under-requires t c =
-    λ k. recs_ready (map rule_phrase c.as_slice-plain.result.now) (map rule_phrase c.as_slice-recursive.result.now) c.in_ok-pats-in-Val.pats.bound
-    (length c.elab_binds.new.bound) c.requires.scope
-    (binds_alone (map rule_phrase c.as_slice-plain.result.now) c.new-bound.result c.elab_binds.new.bound
-    (groups_of c.new-groups.result) (groups_of c.elab_binds.new.groups) c.new-bound.ensures
-    (ap groups_of c.new-groups.ensures) c.in_ok-elab_binds-in-Val.ensures) c.is_kept.ensures c.in_ok-pats-in-Val.ensures.pats k
-    refl c.in_ok-pats-in-Val.ensures.since
-
-pub val::elab_val_under-are_there-requires : goal.val::elab_val_under-are_there-requires
-val::elab_val_under-are_there-requires t c =
-    c.in_ok-pats-in-Val.ensures.pats.answers.have
 
 pub val::elab_val_under-returns-in_default : goal.val::elab_val_under-returns-in_default
 val::elab_val_under-returns-in_default t c = at_once c.requires.scope.core
