@@ -2,5 +2,6 @@ pub mod Instances
 pub mod Schemes
 pub mod Reaching
 pub mod Numbering
+pub mod Keys
 pub mod Flattening
 pub mod Ages

@@ -6,6 +6,7 @@ mod close;
 mod flat;
 mod instances;
 mod kept;
+mod key;
 mod number;
 mod places;
 mod reach;
