@@ -187,7 +187,7 @@ impl TypeBindings {
     }
 
     /// What a variable comes to next, if anything stands for it.
-    fn link(&self, variable: usize) -> Option<TyId>
+    pub fn link(&self, variable: usize) -> Option<TyId>
         requires { variable < length self.now.births }
         ensures { LinkOf self.now variable result }
     {

@@ -51,6 +51,16 @@ impl Flat {
         }
     }
 
+    /// The place of an id that was done.
+    fn place_at(&self, at: usize) -> Result<usize, NoMemory>
+        ensures { IfOk result (λ place. slice_get self.now.places at ≡ Some place) }
+    {
+        match self.places.get(at) {
+            Some(place) => Ok(*place),
+            None => Err(NoMemory),
+        }
+    }
+
     /// The place at which a symbol over these places stands, if one is known.
     fn known_place(&self, key: &NodeKey, symbol: &Symbol, places: &List<usize>) -> Option<usize>
         ensures { IfSome result (λ place. slice_get self.now.nodes place ≡ Some (TypeNode.Made symbol.now places.now)) }
@@ -132,10 +142,7 @@ pub(crate) fn flat_place(
     ensures { IfOk result (IsTreeAt table.now numbers.now.variables flat.now.nodes id) }
 {
     match reached.place_of(table, id) {
-        Some(at) => match flat.places.get(at) {
-            Some(place) => Ok(*place),
-            None => Err(NoMemory),
-        },
+        Some(at) => Ok(flat.place_at(at)?),
         None => Err(NoMemory),
     }
 }
