@@ -1,4 +1,3 @@
-use Rattle.semantic_objects.specs.declared.name.TyId.TheVariants as id
 use Rattle.type_schemes.specs.declared.reach.Step.TheVariants as step
 use Rattle.type_schemes.proofs.Reaching.{taken_since}
 use Rattle.type_schemes.proofs.reach.enter.Goals as goal

@@ -1,5 +1,4 @@
-use Rattle.std.proofs.Common.{sym, ap, subst, ◌∙◌}
-use Rattle.type_nodes.specs.Tables.{whole, Has}
+use Rattle.std.proofs.Common.{sym, subst, ◌∙◌}
 use Rattle.type_schemes.specs.Heads.{IsHeadOf}
 use Rattle.type_schemes.proofs.Reaching.{taken_variable, taken_passed, taken_opened}
 use Rattle.type_schemes.proofs.reach.enter_head.Goals as goal
