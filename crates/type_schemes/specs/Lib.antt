@@ -1,5 +1,6 @@
 pub mod Instances
 pub mod Schemes
+pub mod Heads
 pub mod Reaching
 pub mod Numbering
 pub mod Keys

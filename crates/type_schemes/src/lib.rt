@@ -4,6 +4,7 @@
 
 mod close;
 mod flat;
+mod heads;
 mod instances;
 mod kept;
 mod key;
