@@ -7,7 +7,7 @@ ghost use Rattle.type_schemes.specs.Schemes.{HaveAll};
 use crate::asking::said;
 use crate::labels::all_differ;
 use crate::names::name_of;
-use crate::scene::{TableScene, bytes_line, id_of};
+use crate::scene::{TableScene, bytes_line, id_of, number_line};
 use case_files::{Part, number_of, push_parts};
 use cm_base::{List, NoMemory, Text};
 use sml_types::{TyId, TypeTable};
@@ -173,6 +173,23 @@ fn unify_times(
     Ok(answer)
 }
 
+/// Puts a type in for a new variable and asks for its size, so many times, and answers the last size.
+fn sizes(table: &mut TypeTable, ty: TyId, count: u32) -> Result<Option<u32>, NoMemory> {
+    let mut size = None;
+    for _ in 0..count {
+        let variable = table.fresh(false)?;
+        if !table.has(variable) || !table.has(ty) {
+            return Ok(None);
+        }
+        said(table.unify(variable, ty))?;
+        if !table.has(ty) {
+            return Ok(None);
+        }
+        size = Some(table.sized(ty)?);
+    }
+    Ok(size)
+}
+
 impl TableScene {
     /// A deep type.
     fn deep(&mut self, form: Form, ty: &Text, count: u32) -> Result<Option<Vec<u8>>, NoMemory> {
@@ -208,6 +225,17 @@ impl TableScene {
         bytes_line(self.alloc, said)
     }
 
+    /// The size of a type that is asked for many times.
+    fn sizes(&mut self, ty: &Text, count: u32) -> Result<Option<Vec<u8>>, NoMemory> {
+        let Some(ty) = id_of(&self.table, &self.ids, ty) else {
+            return Ok(None);
+        };
+        match sizes(&mut self.table, ty, count)? {
+            Some(size) => number_line(self.alloc, u64::from(size)),
+            None => Ok(None),
+        }
+    }
+
     /// What is answered to a step of this kind.
     pub fn growing_step(
         &mut self,
@@ -223,6 +251,7 @@ impl TableScene {
         match (step, words) {
             (b"wide", []) => self.wide(count),
             (b"unify-times", [left, right]) => self.often(left, right, count),
+            (b"sizes", [ty]) => self.sizes(ty, count),
             (b"declare-times", [first, second]) => self.declare_times(first, second, count),
             (form, [ty]) => match form_of(form) {
                 Some(form) => self.deep(form, ty, count),

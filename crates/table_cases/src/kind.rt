@@ -14,7 +14,8 @@ pub enum Kind {
     /// one with it and after the second was made one with its argument; `left` says that the rigid variable may not be
     /// closed, and all of it is undone. `lists`, `pairs-left`, `arrows-left`, `arrows-right` and `doubled` with `ID
     /// COUNT` make a deep type, `wide COUNT` a record of so many variables, and `unify-times ID ID COUNT` and
-    /// `declare-times ID ID COUNT` do these steps so often.
+    /// `declare-times ID ID COUNT` do these steps so often. `sizes ID COUNT` puts a type in for a new variable so often,
+    /// each time with a look at its size, of which it answers the last.
     Table,
 }
 
