@@ -21,6 +21,7 @@ enum Form {
     ArrowLeft,
     ArrowRight,
     Doubled,
+    Instances,
 }
 
 /// The form of a step.
@@ -31,6 +32,7 @@ fn form_of(step: &[u8]) -> Option<Form> {
         b"arrows-left" => Some(Form::ArrowLeft),
         b"arrows-right" => Some(Form::ArrowRight),
         b"doubled" => Some(Form::Doubled),
+        b"instances" => Some(Form::Instances),
         _ => None,
     }
 }
@@ -74,6 +76,19 @@ fn pair_of(alloc: Global, table: &mut TypeTable, left: TyId, right: TyId) -> Res
     table.record_type(&labels, &parts)
 }
 
+/// The type of pairs of two instances of a type's scheme.
+fn instances_of(alloc: Global, table: &mut TypeTable, ty: TyId) -> Result<TyId, NoMemory>
+    requires { Has table.old ty }
+    ensures has { IfOk result (Has table.new) }
+    ensures stay { OnOk result ((a : TyId) → Has table.old a → Has table.new a) }
+{
+    let nothing = List::new(alloc);
+    let scheme = table.generalise(ty, &nothing)?;
+    let left = table.instantiate(&scheme)?;
+    let right = table.instantiate(&scheme)?;
+    pair_of(alloc, table, left, right)
+}
+
 /// One more of this form around a type.
 fn one_more(
     alloc: Global,
@@ -93,6 +108,7 @@ fn one_more(
         Form::ArrowLeft => table.arrow(inner, other),
         Form::ArrowRight => table.arrow(other, inner),
         Form::Doubled => pair_of(alloc, table, inner, inner),
+        Form::Instances => instances_of(alloc, table, inner),
     }
 }
 

@@ -12,10 +12,11 @@ pub enum Kind {
     /// the text of a pair of two types when they were made one; all of it is undone then. `declare ID ID` is the text
     /// of a new function type from a variable to a rigid one, closed by age, and again after the first type was made
     /// one with it and after the second was made one with its argument; `left` says that the rigid variable may not be
-    /// closed, and all of it is undone. `lists`, `pairs-left`, `arrows-left`, `arrows-right` and `doubled` with `ID
-    /// COUNT` make a deep type, `wide COUNT` a record of so many variables, and `unify-times ID ID COUNT` and
-    /// `declare-times ID ID COUNT` do these steps so often. `sizes ID COUNT` puts a type in for a new variable so often,
-    /// each time with a look at its size, of which it answers the last.
+    /// closed, and all of it is undone. `lists`, `pairs-left`, `arrows-left`, `arrows-right`, `doubled` and `instances`
+    /// (a pair of two instances of the scheme of the type before) with `ID COUNT` make a deep type, `wide COUNT` a
+    /// record of so many variables, and `unify-times ID ID COUNT` and `declare-times ID ID COUNT` do these steps so
+    /// often. `sizes ID COUNT` puts a type in for a new variable so often, each time with a look at its size, of which
+    /// it answers the last.
     Table,
 }
 
