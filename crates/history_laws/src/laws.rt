@@ -3,9 +3,9 @@
 ghost use Rattle.history_laws.specs.Laws.{CommandsKeepGood, CommandsKnowNoStore, EveryHistory, EveryListOfCalls, ProjectsStandAlone};
 
 /// A command means, whatever the store holds, what it means where the same project stands alone, as it does in the part of
-/// the folder outside the store: the same status and
-/// diagnostic, the same binfile and interface file of each unit that is done, the same linked program, and the same uses
-/// of tools. What is stale in the store says which units the compiler is asked for, and the records which uses run.
+/// the folder outside the store: the same status and diagnostic, the same binfile and interface file of each unit that is
+/// done, the same linked program, and the same uses of tools. What is stale in the store says which units the compiler is
+/// asked for, and the records which uses run.
 pub fn a_command_knows_no_store()
     ensures same { CommandsKnowNoStore }
     ensures alone { ProjectsStandAlone }
