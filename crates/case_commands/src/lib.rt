@@ -1,9 +1,9 @@
 //! Commands as programs of cases run them: over any folder, output and compiler, with a box of tools of their own.
 #![tactic(auto)]
 
-use cm_base::{Compiler, Folder, NoMemory, Sink};
+use cm_base::{Compiler, Folder, NoMemory, Sink, Tool};
 use cm_top::{Status, run_cm};
-use member_tools::Toolbox;
+use member_tools::{BundledTool, Toolbox};
 use std::alloc::Global;
 
 /// The word for how a command ended.
@@ -19,6 +19,19 @@ pub fn status_word(status: Status) -> &'static [u8] {
     }
 }
 
+/// Runs a command with the tools of a box, of any type. (A call of `run_cm` at a type of tools that is given costs more
+/// than the check of one declaration may.)
+pub fn run_with<F: Folder, S: Sink, C: Compiler, T: Tool>(
+    alloc: Global,
+    words: &[String],
+    folder: &mut F,
+    out: &mut S,
+    compiler: &mut C,
+    tools: &mut Toolbox<T>,
+) -> Status {
+    run_cm(alloc, words, folder, out, compiler, tools)
+}
+
 /// Runs a command. Want of memory is handed on.
 pub fn run<F: Folder, S: Sink, C: Compiler>(
     alloc: Global,
@@ -27,8 +40,8 @@ pub fn run<F: Folder, S: Sink, C: Compiler>(
     out: &mut S,
     compiler: &mut C,
 ) -> Result<Status, NoMemory> {
-    let mut tools = Toolbox::new(alloc);
-    let status = run_cm(alloc, words, folder, out, compiler, &mut tools);
+    let mut tools: Toolbox<BundledTool> = Toolbox::new(alloc);
+    let status = run_with(alloc, words, folder, out, compiler, &mut tools);
     tools.close();
     if status == Status::NoMemory {
         return Err(NoMemory);

@@ -1,7 +1,7 @@
 -- The exit status of the program, by how the command ended. The numbers are those of docs/build.md, "How it ends".
 use Rattle.std.specs.Prelude.{ℕ}
-use Rattle.cm_top.specs.declared.status.Status.{Status}
-use Rattle.cm_top.specs.declared.status.Status.TheVariants as status
+use Rattle.command_parts.specs.declared.status.Status.{Status}
+use Rattle.command_parts.specs.declared.status.Status.TheVariants as status
 
 abbrev pub exit_number : Status → ℕ
 exit_number status.Ok = 0

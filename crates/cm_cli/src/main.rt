@@ -4,11 +4,12 @@
 ghost use Rattle.std.specs.Prelude.{◌≡◌};
 ghost use Rattle.cm_cli.specs.Exit.{exit_number};
 
-use cm_base::{NoMemory, Text};
+use cm_base::{Compiler, Folder, NoMemory, Sink, Text, Tool};
 use cm_host::{RealFolder, RealSink, WordsFault, program_words};
 use cm_top::{Status, run_cm};
-use member_tools::Toolbox;
+use member_tools::{BundledTool, Embed, Literate, Prelude, Toolbox};
 use sml_compiler::SmlCompiler;
+use std::alloc::Global;
 use std::process::ExitCode;
 
 /// The status after want of memory.
@@ -38,6 +39,38 @@ fn words_of_call(rt: HostRuntime) -> Result<Vec<String>, NoMemory> {
     }
 }
 
+/// Puts a tool into a box. A refused tool is want of memory.
+fn add(tools: &mut Toolbox<BundledTool>, tool: BundledTool) -> Result<(), NoMemory> {
+    match tools.register(tool) {
+        Ok(_old) => Ok(()),
+        Err(_refused) => Err(NoMemory),
+    }
+}
+
+/// The tools that come with the program: `embed` with the value name `text`, `literate`, and `prelude` with an empty head.
+fn tools_of_program(alloc: Global) -> Result<Toolbox<BundledTool>, NoMemory> {
+    let mut tools = Toolbox::new(alloc);
+    let value = Text::from_bytes(alloc, b"text")?;
+    let head = Text::from_bytes(alloc, b"")?;
+    add(&mut tools, BundledTool::Embed(Embed::new(alloc, value)?))?;
+    add(&mut tools, BundledTool::Literate(Literate::new(alloc)?))?;
+    add(&mut tools, BundledTool::Prelude(Prelude::new(alloc, head)?))?;
+    Ok(tools)
+}
+
+/// Runs a command over any folder, output, compiler and tools. (At types that are given the check of the call costs more
+/// than that of one declaration may.)
+fn run_with<F: Folder, S: Sink, C: Compiler, T: Tool>(
+    alloc: Global,
+    words: &[String],
+    folder: &mut F,
+    out: &mut S,
+    compiler: &mut C,
+    tools: &mut Toolbox<T>,
+) -> Status {
+    run_cm(alloc, words, folder, out, compiler, tools)
+}
+
 /// Runs the command that the program was called with over the working directory.
 fn run(rt: HostRuntime) -> Result<u8, NoMemory> {
     let alloc = rt.alloc();
@@ -45,8 +78,8 @@ fn run(rt: HostRuntime) -> Result<u8, NoMemory> {
     let mut folder = RealFolder::new(rt, &Text::from_bytes(alloc, b".")?)?;
     let mut out = RealSink::new(rt)?;
     let mut compiler = SmlCompiler::new(alloc)?;
-    let mut tools = Toolbox::new(alloc);
-    let status = run_cm(
+    let mut tools = tools_of_program(alloc)?;
+    let status = run_with(
         alloc,
         words.as_slice(),
         &mut folder,

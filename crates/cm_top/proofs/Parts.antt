@@ -1,122 +1,72 @@
--- The parts of a generated project: its edits are of its own files, and its commands build.
-use Rattle.std.proofs.Common.{◌≡◌, ◌≢◌, ◌∙◌, sym, subst, refl, inl, inr, arith, ℕ, zero, suc, ◌+◌, ◌-◌, ◌<◌, ◌≤◌, false, List, [], ◌∷◌, ◌++◌, map, Option, Some, None}
-use Rattle.std.specs.Prelude.{Contains}
-use Rattle.std.specs.List.{AllByRecursion, range_with_len}
-use Rattle.std.proofs.lemmas.List.Elements.{Contains-append_cases, Contains-append_left, Contains-append_right}
-use Rattle.std.proofs.lemmas.List.FromFn.{get_or-map-range_with_len, length-map-range_with_len}
-use Rattle.cm_base.specs.Files.{Files, is_stored, store_prefix}
+-- Outside the store nothing changes but the files of a generated project.
+use Rattle.std.proofs.Common.{subst, inl, inr, ℕ, ◌≤◌, List, [], ◌∷◌, Option, Some, None}
+use Rattle.std.specs.Prelude.{Contains, Result, Ok, Err}
+use Rattle.std.specs.List.{AllByRecursion}
+use Rattle.std.proofs.lemmas.List.Elements.{Contains-append_cases}
+use Rattle.cm_base.specs.Files.{Files}
+use Rattle.cm_base.specs.declared.diag.Diag.{Diag}
+use Rattle.cm_base.specs.declared.record.Def.{Def}
+use Rattle.cm_description.specs.declared.loaded.Project.{Project}
 use Rattle.session_scripts.specs.declared.step.Step.{Step}
-use Rattle.generated_projects.specs.Generating.{build_project, build_word, description_path, generated, middle, numbers, source_path, write_again, write_description, write_source}
-use Rattle.command_words.specs.Words.{command_of, is_definition_mark, verb_of}
-use Rattle.command_words.specs.declared.command.Command.TheVariants.{Build}
-use Rattle.cm_top.specs.Generating.{IsPart, briefly, files_of, generating, make, of_part}
-use Rattle.cm_top.specs.InTurn.{then_command}
-use Rattle.cm_top.specs.ProjectBuild.{Way}
+use Rattle.session_scripts.specs.declared.step.Step.TheVariants as step
+use Rattle.generated_projects.specs.Generating.{generated}
+use Rattle.command_words.specs.Words.{command_of}
+use Rattle.command_words.specs.declared.command.Command.{Command}
+use Rattle.command_words.specs.declared.command.Command.TheVariants as command
+use Rattle.command_parts.specs.Generating.{files_of}
+use Rattle.command_parts.specs.Meaning.{target_paths}
+use Rattle.command_parts.specs.ProjectBuild as build
+use Rattle.command_parts.proofs.Parts.{HasNoTarget, IsOf, all_of, none_within, one_within}
+use Rattle.cm_top.specs.Generating.{generating, make, of_part}
+use Rattle.cm_top.specs.Meaning.{of_project, of_words}
+use Rattle.cm_top.specs.Ways.{Way}
+use Rattle.cm_top.specs.declared.printed.Printed.{Printed}
+use Rattle.cm_top.specs.declared.printed.Printed.TheVariants as printed
 use Rattle.cm_top.proofs.GoingOn.{either_way}
 
--- ---- each is a part
+-- ---- what a command changes outside the store is its target
 
-description_outside : is_stored description_path ≡ false
-unfolding is_stored description_path store_prefix
-description_outside = refl
+project_within : (part : Printed) (works : build.Way) (target : Option (List ℕ)) (defs : List Def)
+    (r : Result Project Diag) (files : Files) (path : List ℕ)
+    → Contains (of_project part works target defs r files).outside path → Contains (target_paths target) path
+project_within part works target defs (Ok project) files path within = within
+project_within part works target defs (Err diag) files path within = absurd (none_within path within)
 
-source_outside : (k : ℕ) → is_stored (source_path k) ≡ false
-unfolding is_stored source_path store_prefix
-source_outside k = refl
+-- words that mean a command without a target change nothing there
+words_none : (part : Printed) (way : Way) (files : Files) (command : Option Command) → HasNoTarget command
+    → (path : List ℕ) → Contains (of_words part way files command).effect.outside path → ⊥
+words_none part way files None is path within = none_within path within
+words_none part way files (Some (command.Build defs root)) is path within =
+    none_within path
+    (project_within part way.works None defs (way.loads files defs root).result (way.loads files defs root).work.files path
+    within)
+words_none part way files (Some (command.Link defs root out)) is path within = is
 
-builds : command_of (build_word ∷ description_path ∷ []) ≡ Some (Build [] description_path)
-unfolding verb_of is_definition_mark build_word description_path
-builds = refl
+part_within : (n : ℕ) (way : Way) (files : Files) (first : Step) → IsOf n first → (path : List ℕ)
+    → Contains (of_part way files first).effect.outside path → Contains (files_of n) path
+part_within n way files (step.Write file content) is path within =
+    subst (Contains (files_of n)) (one_within file path within) is
+part_within n way files (step.Remove file) is path within =
+    subst (Contains (files_of n)) (one_within file path within) is
+part_within n way files (step.Command words) is path within =
+    absurd (words_none printed.LastLine way files (command_of words) is path within)
 
-means_command : command_of (build_word ∷ description_path ∷ []) ≢ None
-means_command none = cc (builds, none)
+-- ---- generated projects
 
-sources_are : (a m : ℕ) (rest : List Step) → AllByRecursion IsPart rest
-    → AllByRecursion IsPart (map write_source (range_with_len a m) ++ rest)
-sources_are a zero rest all = all
-sources_are a (suc m) rest all = (source_outside a, sources_are (a + 1) m rest all)
-
-pub all_parts : (n : ℕ) → AllByRecursion IsPart (generated n)
-all_parts n = (
-  description_outside,
-  sources_are 1 n (build_project ∷ write_again (middle n) ∷ build_project ∷ [])
-      (means_command, (source_outside (middle n), (means_command, tt))),
-)
-
--- ---- nothing outside the store changes but the project's files
-
-pub none_within : (path : List ℕ) → Contains [] path → ⊥
-none_within path (i, within, at) = omega (arith, within)
-
-one_within : (x path : List ℕ) → Contains (x ∷ []) path → x ≡ path
-one_within x path (zero, within, at) = at
-one_within x path (suc i, within, at) = absurd (omega (arith, within))
-
--- what a part changes is one of the files of so many units
-abbrev pub IsOf : ℕ → Step → Type 0
-IsOf n part = (way : Way) (files : Files) (path : List ℕ) → Contains (of_part way files part).outside path
-    → Contains (files_of n) path
-
-description_is : (n : ℕ) → IsOf n (write_description n)
-description_is n way files path within =
-    Contains-append_left (description_path ∷ []) (map source_path (numbers n)) path within
-
-is_file : (n k : ℕ) → 1 ≤ k → k ≤ n → Contains (files_of n) (source_path k)
-is_file n k least most =
-    Contains-append_right (description_path ∷ []) (map source_path (numbers n)) (source_path k) (
-      k - 1,
-      subst (λ m. k - 1 < m) (sym (length-map-range_with_len source_path 1 n)) (omega (arith, least, most)),
-      get_or-map-range_with_len source_path 1 n (k - 1) k (source_path k) (omega (arith, least, most))
-          (omega (arith, least)),
-    )
-
-source_is : (n k : ℕ) → 1 ≤ k → k ≤ n → IsOf n (write_source k)
-source_is n k least most way files path within =
-    subst (Contains (files_of n)) (one_within (source_path k) path within) (is_file n k least most)
-
-again_is : (n k : ℕ) → 1 ≤ k → k ≤ n → IsOf n (write_again k)
-again_is n k least most way files path within =
-    subst (Contains (files_of n)) (one_within (source_path k) path within) (is_file n k least most)
-
-build_is : (n : ℕ) → IsOf n build_project
-build_is n way files path within =
-    absurd (none_within path (subst (λ o. Contains (briefly way files o).outside path) builds within))
-
-sources_of : (n a m : ℕ) → 1 ≤ a → a + m ≤ n + 1 → (rest : List Step) → AllByRecursion (IsOf n) rest
-    → AllByRecursion (IsOf n) (map write_source (range_with_len a m) ++ rest)
-sources_of n a zero least most rest all = all
-sources_of n a (suc m) least most rest all = (
-  source_is n a least (omega (arith, most)),
-  sources_of n (a + 1) m (omega arith) (omega (arith, most)) rest all,
-)
-
-middle_least : (n : ℕ) → 1 ≤ n → 1 ≤ middle n
-middle_least n least = omega (arith, least)
-
-middle_most : (n : ℕ) → 1 ≤ n → middle n ≤ n
-middle_most n least = omega (arith, least)
-
-pub all_of : (n : ℕ) → 1 ≤ n → AllByRecursion (IsOf n) (generated n)
-all_of n least = (
-  description_is n,
-  sources_of n 1 n (omega arith) (omega arith) (build_project ∷ write_again (middle n) ∷ build_project ∷ [])
-      (build_is n, (again_is n (middle n) (middle_least n least) (middle_most n least), (build_is n, tt))),
-)
-
-made_outside : (n : ℕ) (way : Way) (parts : List Step) → AllByRecursion (IsOf n) parts → (files : Files) (path : List ℕ)
-    → Contains (make way parts files).outside path → Contains (files_of n) path
-made_outside n way [] all files path = λ within. absurd (none_within path within)
-made_outside n way (part ∷ parts) all files path =
+made_within : (n : ℕ) (way : Way) (parts : List Step) → AllByRecursion (IsOf n) parts → (files : Files) (path : List ℕ)
+    → Contains (make way parts files).effect.outside path → Contains (files_of n) path
+made_within n way [] all files path = λ within. absurd (none_within path within)
+made_within n way (part ∷ parts) all files path =
     let first = of_part way files part in
-    let rest = make way parts first.files in
-    either_way first rest (λ m. Contains m.outside path → Contains (files_of n) path)
-    (λ within. elim (Contains-append_cases first.outside rest.outside path within) [
-      | inl here ↦ all.0 way files path here
-      | inr later ↦ made_outside n way parts all.1 first.files path later
+    let rest = make way parts first.effect.files in
+    either_way first rest (λ m. Contains m.effect.outside path → Contains (files_of n) path)
+    (λ within. elim (Contains-append_cases first.effect.outside rest.effect.outside path within) [
+      | inl here ↦ part_within n way files part all.0 path here
+      | inr later ↦ made_within n way parts all.1 first.effect.files path later
     ])
-    (λ within. all.0 way files path within)
+    (λ within. part_within n way files part all.0 path within)
 
-pub generated_outside : (n : ℕ) → 1 ≤ n → (way : Way) (files : Files) (path : List ℕ)
-    → Contains (generating way n files).outside path → Contains (files_of n) path
-generated_outside n least way files path within =
-    made_outside n way (generated n) (all_of n least) files path within
+pub generated_within : (n : ℕ) → 1 ≤ n → (way : Way) (files : Files) (path : List ℕ)
+    → Contains (generating way n files).effect.outside path → Contains (files_of n) path
+generated_within n least way files path within =
+    made_within n way (generated n) (all_of n least) files path within

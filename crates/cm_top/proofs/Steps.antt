@@ -1,319 +1,48 @@
--- The steps of a session by themselves: an edit, and a command with the line behind it.
-use Rattle.std.proofs.Common.{◌≡◌, ◌∙◌, sym, ap, subst, refl, inl, inr, arith, ℕ, ◌+◌, true, false, List, [], ◌∷◌, ◌++◌, Option, Some, None, take, length, append-nil, append_assoc}
-use Rattle.std.specs.Prelude.{Contains, Result, Ok, Err}
+-- The steps of sessions and generated projects where there are tools: edits, and words that mean nothing, use none.
+use Rattle.std.proofs.Common.{◌≡◌, ◌≢◌, refl, false, ℕ, List, Option, Some}
+use Rattle.std.specs.Prelude.{Result, Ok, Err}
 use Rattle.std.specs.FinMap.{insert, remove}
-use Rattle.std.specs.Option.{option_and_then}
-use Rattle.std.proofs.lemmas.List.Elements.{Contains-append_left, Contains-append_right}
-use Rattle.std.proofs.Math.Seq.{take-append-add}
 use Rattle.cm_base.specs.Calls.{RemoveLeaves, WriteLeaves}
 use Rattle.cm_base.specs.Definitions.{Definitions}
-use Rattle.cm_base.specs.Files.{Files, is_stored, told}
-use Rattle.cm_base.specs.Keeping.{Keeps, Touches}
+use Rattle.cm_base.specs.Files.{Files, is_stored}
 use Rattle.cm_base.specs.declared.diag.Diag.{Diag}
 use Rattle.cm_base.specs.declared.fault.FolderFault.{FolderFault}
 use Rattle.cm_base.specs.declared.fault.FolderFault.TheVariants as folder
-use Rattle.cm_base.proofs.FrontLemmas.{grows_all}
-use Rattle.cm_base.proofs.KeepingLemmas.{keeps_same, keeps_touches, touches_same, touches_write}
-use Rattle.bin_store.proofs.GoodAfter.{store_is_good, store_more}
-use Rattle.session_scripts.specs.declared.step.Step.{Step}
-use Rattle.session_scripts.specs.declared.step.Step.TheVariants as step
-use Rattle.generated_projects.specs.Generating.{generated}
-use Rattle.command_words.specs.Words.{call_of, command_of}
-use Rattle.command_words.specs.declared.call.Call.{Call}
-use Rattle.command_words.specs.declared.call.Call.TheVariants as call
-use Rattle.command_words.specs.declared.command.Command.{Command}
-use Rattle.cm_top.specs.Answers.{Prints}
-use Rattle.cm_top.specs.Generating.{briefly, generating, make, of_part}
-use Rattle.cm_top.specs.InTurn.{edit}
-use Rattle.cm_top.specs.Headline.{Ends, IsCutOff, IsCutShort, IsMeaning, IsPlain, IsUsageEnd, KeepsOthers, KeepsOutside, Run, Stays}
-use Rattle.cm_top.specs.Lines.{diag_line, status_line}
-use Rattle.cm_top.specs.Meaning.{Meaning, of_command, target_paths, usage}
-use Rattle.cm_top.specs.Performing.{IsStepEnd, Performs, State, between, edit_end, is_plain, state_of}
-use Rattle.cm_top.specs.ProjectBuild.{Way}
-use Rattle.cm_top.specs.Sessions.{KeepsTarget, of_call, of_line, of_script, of_step, play, refused, reported, script_in}
-use Rattle.cm_top.specs.Targets.{target_of}
-use Rattle.cm_top.specs.declared.status.Status.{Status}
-use Rattle.cm_top.specs.declared.status.Status.TheVariants as status
-use Rattle.cm_top.proofs.Ending.{after_print, nothing_done, nothing_printed, same_outside, stays_still}
-use Rattle.cm_top.proofs.GoingOn.{either_way}
-use Rattle.cm_top.proofs.Pieces.{take_within}
-use Rattle.cm_top.proofs.TargetLeaves.{target_good}
+use Rattle.tool_deriving.specs.Deriving.{ToolState}
+use Rattle.command_parts.specs.Headline.{Ends, IsPlain, IsUsageEnd}
+use Rattle.command_parts.specs.InTurn.{edit}
+use Rattle.command_parts.specs.Meaning.{usage}
+use Rattle.command_parts.specs.Performing.{State, between, edit_end, state_of}
+use Rattle.command_parts.specs.Performing as plain
+use Rattle.command_parts.specs.Sessions.{refused}
+use Rattle.command_parts.specs.declared.status.Status.{Status}
+use Rattle.command_parts.specs.declared.status.Status.TheVariants as status
+use Rattle.command_parts.proofs.Steps.{remove_performs, usage_performs, write_performs}
+use Rattle.cm_top.specs.Meaning.{without_tools}
+use Rattle.cm_top.specs.Performing.{Does, IsSessionEnd, IsStepEnd}
+use Rattle.cm_top.proofs.InTurn.{lift_does, stage}
 
--- ---- edits
+edit_no_tool : (r : Result (Unit {0}) FolderFault) → edit_end r ≢ status.ToolFault
+edit_no_tool (Ok done) e = cc
+edit_no_tool (Err folder.Failed) e = cc
+edit_no_tool (Err folder.NoMemory) e = cc
 
-module _ (by : Definitions) (path bytes : List ℕ) (change : Files → Files) (out : is_stored path ≡ false) (s0 s1 : State)
-    (same : s1.written ≡ s0.written) (asked : s1.asked ≡ s0.asked) (skeletons : s1.skeletons ≡ s0.skeletons)
-    (touched : Touches s0.holds s1.holds path bytes) where
-  abbrev edited : Files → Meaning
-  edited files = edit path (change files)
-
-  edit_keeps : (files : Files) → s0.holds ≡ Some files → Keeps (Some files) s1.holds (path ∷ [])
-  edit_keeps files is = subst (λ s. Keeps s s1.holds (path ∷ [])) is (keeps_touches touched)
-
-  edit_outside : (files : Files) → s0.holds ≡ Some files → KeepsOutside (path ∷ []) files s1.holds
-  edit_outside files is =
-      let one = (edit_keeps files is).rest files refl in
-      record { after = one.0; tells = one.1; kept = λ q outside apart. one.2 q apart }
-
-  edit_stays : (files : Files) → s0.holds ≡ Some files → Stays by files (edited files) s1.holds
-  edit_stays files is = record {
-    frame = λ known apart good. edit_keeps files is;
-    good = λ known apart good.
-        store_more (λ t h. Contains-append_left known [] t h)
-        (target_good by known (Some path) bytes s0.holds s1.holds out touched (store_is_good is good));
-  }
-
-  edit_done : s1.holds ≡ told change s0.holds → Performs by edited edited status.Ok s0 s1
-  edit_done put = record {
-    does = λ files is text before. meaning files is text before;
-    promise = λ files is text before. record { ends = λ known apart good. meaning files is text before };
-    frame = edit_keeps;
-    outside = edit_outside;
-    stays = edit_stays;
-    leaves = λ files is plain. record {
-      ends = refl;
-      does = put ∙ ap (told change) is;
-      promise_ends = λ known apart good. refl;
-      promise = λ known apart good. put ∙ ap (told change) is;
-    };
-  }
-    where
-      meaning : (files : Files) → s0.holds ≡ Some files → (text : List ℕ) → s0.written ≡ Some text
-          → IsMeaning (edited files) status.Ok (between text s0 s1)
-      meaning files is text before = record {
-        status = refl;
-        output = same ∙ before ∙ ap Some (sym (append-nil text));
-        files = put ∙ ap (told change) is;
-        asks = asked ∙ sym (append-nil s0.asked);
-        asks_skeletons = skeletons ∙ sym (append-nil s0.skeletons);
-      }
-
-  edit_short : (files : Files) (text : List ℕ) → s0.written ≡ Some text → IsCutShort (edited files) (between text s0 s1)
-  edit_short files text before =
-      nothing_done (edited files) (between text s0 s1) s0.written same before asked skeletons nothing_printed
-
-  edit_failed : Performs by edited edited status.FolderFault s0 s1
-  edit_failed = record {
-    does = λ files is text before. edit_short files text before;
-    promise = λ files is text before. record { ends = λ known apart good. edit_short files text before };
-    frame = edit_keeps;
-    outside = edit_outside;
-    stays = edit_stays;
-    leaves = λ files is plain. absurd plain;
-  }
-
-  edit_wanting : Performs by edited edited status.NoMemory s0 s1
-  edit_wanting = record {
-    does = λ files is text before. edit_short files text before;
-    promise = λ files is text before. record { ends = λ known apart good. edit_short files text before };
-    frame = edit_keeps;
-    outside = edit_outside;
-    stays = edit_stays;
-    leaves = λ files is plain. absurd plain;
-  }
-
-module _ (by : Definitions) (path : List ℕ) (out : is_stored path ≡ false) (s0 s1 : State)
+module _ (by : Definitions) (path : List ℕ) (out : is_stored path ≡ false) (s0 s1 : State) (tools : List ToolState)
     (same : s1.written ≡ s0.written) (asked : s1.asked ≡ s0.asked) (skeletons : s1.skeletons ≡ s0.skeletons) where
-  pub write_performs : (content : List ℕ) (r : Result (Unit {0}) FolderFault)
+  pub write_does : (content : List ℕ) (r : Result (Unit {0}) FolderFault)
       → WriteLeaves r s0.holds s1.holds path content
-      → Performs by (λ files. edit path (insert files path content)) (λ files. edit path (insert files path content))
-      (edit_end r) s0 s1
-  write_performs content (Ok done) put =
-      edit_done by path content (λ files. insert files path content) out s0 s1 same asked skeletons
-      (touches_write (Ok done) s0.holds s1.holds path content put) put
-  write_performs content (Err folder.Failed) left =
-      edit_failed by path content (λ files. insert files path content) out s0 s1 same asked skeletons
-      (touches_write (Err folder.Failed) s0.holds s1.holds path content left)
-  write_performs content (Err folder.NoMemory) left =
-      edit_wanting by path content (λ files. insert files path content) out s0 s1 same asked skeletons
-      (touches_write (Err folder.NoMemory) s0.holds s1.holds path content left)
+      → Does by (λ files. without_tools (edit path (insert files path content)))
+      (λ files. without_tools (edit path (insert files path content))) (edit_end r) (stage s0 tools) (stage s1 tools)
+  write_does content r left =
+      lift_does by (λ files. edit path (insert files path content)) (λ files. edit path (insert files path content))
+      (edit_end r) s0 s1 tools (edit_no_tool r) (write_performs by path out s0 s1 same asked skeletons content r left)
 
-  abbrev gone : Files → Files
-  gone files = remove files path
-
-  touches_gone : s1.holds ≡ told gone s0.holds → Touches s0.holds s1.holds path []
-  touches_gone removed = touches_write (Err folder.Failed) s0.holds s1.holds path [] (inr (inl removed))
-
-  pub remove_performs : (r : Result (Unit {0}) FolderFault) → RemoveLeaves r s0.holds s1.holds path
-      → Performs by (λ files. edit path (remove files path)) (λ files. edit path (remove files path)) (edit_end r) s0 s1
-  remove_performs (Ok done) put =
-      edit_done by path [] gone out s0 s1 same asked skeletons (touches_gone put) put
-  remove_performs (Err folder.Failed) (inl still) =
-      edit_failed by path [] gone out s0 s1 same asked skeletons (touches_same s0.holds s1.holds path [] still)
-  remove_performs (Err folder.Failed) (inr removed) =
-      edit_failed by path [] gone out s0 s1 same asked skeletons (touches_gone removed)
-  remove_performs (Err folder.NoMemory) still =
-      edit_wanting by path [] gone out s0 s1 same asked skeletons (touches_same s0.holds s1.holds path [] still)
-
--- ---- commands
-
-pub target_outside : (target : Option (List ℕ)) (files : Files) (holds : Option Files) → KeepsOthers target files holds
-    → KeepsOutside (target_paths target) files holds
-target_outside None files holds kept = record {
-  after = kept.after;
-  tells = kept.tells;
-  kept = λ path out apart. kept.kept path out (λ same. absurd (cc (same)));
-}
-target_outside (Some target) files holds kept = record {
-  after = kept.after;
-  tells = kept.tells;
-  kept = λ path out apart. kept.kept path out (λ same.
-      let is : target ≡ path = cc (same) in apart (0, omega arith, is));
-}
-
-pub command_outside : (way : Way) (files : Files) (command : Option Command) (holds : Option Files)
-    → KeepsOthers (option_and_then (target_of files) command) files holds
-    → KeepsOutside (of_command way files command).outside files holds
-command_outside way files None holds kept = target_outside None files holds kept
-command_outside way files (Some command) holds kept = target_outside (target_of files command) files holds kept
-
-pub plain_is : (end : Status) → is_plain end ≡ true → IsPlain end
-plain_is status.Ok is = tt
-plain_is status.Diagnostic is = tt
-plain_is status.Usage is = tt
-plain_is status.FolderFault is = cc
-plain_is status.SinkFault is = cc
-plain_is status.NoMemory is = cc
-plain_is status.ToolFault is = cc
-
-pub fault_is : (end : Status) → is_plain end ≡ false → IsPlain end → ⊥
-fault_is status.Ok is plain = cc
-fault_is status.Diagnostic is plain = cc
-fault_is status.Usage is plain = cc
-fault_is status.FolderFault is plain = plain
-fault_is status.SinkFault is plain = plain
-fault_is status.NoMemory is plain = plain
-fault_is status.ToolFault is plain = plain
-
-plain_ends : (m : Meaning) (run : Run) (end : Status) → IsPlain end → Ends end m run → IsMeaning m end run
-plain_ends m run status.Ok plain e = e
-plain_ends m run status.Diagnostic plain e = e
-plain_ends m run status.Usage plain e = e
-plain_ends m run status.FolderFault plain e = absurd plain
-plain_ends m run status.SinkFault plain e = absurd plain
-plain_ends m run status.NoMemory plain e = absurd plain
-plain_ends m run status.ToolFault plain e = absurd plain
-
--- what was printed without a fault ends with the status that was given
-pub printed_plain : (result plain : Status) (old new : Option (List ℕ)) (text : List ℕ) → IsPlain result
-    → Prints result plain old new text → result ≡ plain
-printed_plain status.Ok plain old new text well prints = sym prints.0
-printed_plain status.Diagnostic plain old new text well prints = sym prints.0
-printed_plain status.Usage plain old new text well prints = sym prints.0
-printed_plain status.FolderFault plain old new text well prints = absurd well
-printed_plain status.SinkFault plain old new text well prints = absurd well
-printed_plain status.NoMemory plain old new text well prints = absurd well
-printed_plain status.ToolFault plain old new text well prints = absurd well
-
--- the line behind a command, or how its printing was cut off
-module _ (m : Meaning) (end : Status) (text : List ℕ) (s0 s1 : State) (new : Option (List ℕ))
-    (e : IsMeaning m end (between text s0 s1)) where
-  abbrev s2 : State
-  s2 = state_of new s1.holds s1.asked s1.skeletons
-
-  abbrev now : List ℕ
-  now = text ++ m.output
-
-  line_off : (printed : List ℕ) → new ≡ Some (text ++ printed) → IsCutOff (reported m) printed (between text s0 s2)
-  line_off printed is = record {
-    output = is;
-    asks = grows_all s0.asked s1.asked m.asked e.asks;
-    asks_skeletons = grows_all s0.skeletons s1.skeletons m.asked_skeletons e.asks_skeletons;
-  }
-
-  line_ends : (result : Status) → Prints result status.Ok s1.written new (status_line end)
-      → Ends result (reported m) (between text s0 s2)
-  line_ends status.Ok prints = record {
-    status = refl;
-    output = prints.1 ∙ ap (told (λ written. written ++ status_line end)) e.output
-        ∙ ap Some (append_assoc text m.output (status_line end))
-        ∙ ap (λ s. Some (text ++ (m.output ++ status_line s))) e.status;
-    files = e.files;
-    asks = e.asks;
-    asks_skeletons = e.asks_skeletons;
-  }
-  line_ends status.Diagnostic prints = let differ : status.Ok ≡ status.Diagnostic = prints.0 in cc
-  line_ends status.Usage prints = let differ : status.Ok ≡ status.Usage = prints.0 in cc
-  line_ends status.FolderFault prints = absurd prints
-  line_ends status.SinkFault prints = (
-    length m.output + prints.0,
-    line_off (take (length m.output + prints.0) (m.output ++ status_line m.status))
-        (prints.1 ∙ ap (told (λ written. written ++ take prints.0 (status_line end))) e.output
-        ∙ ap Some (append_assoc text m.output (take prints.0 (status_line end)))
-        ∙ ap (λ s. Some (text ++ (m.output ++ take prints.0 (status_line s)))) e.status
-        ∙ ap (λ l. Some (text ++ l)) (sym (take-append-add m.output (status_line m.status) prints.0))),
-  )
-  line_ends status.NoMemory prints = record {
-    printed = m.output;
-    one = Contains-append_right m.cuts (m.output ∷ []) m.output (0, omega arith, refl);
-    cut = line_off m.output (prints ∙ e.output);
-  }
-  line_ends status.ToolFault prints = absurd prints
-
-pub line_performs : (by : Definitions) (d m : Files → Meaning) (end result : Status) (s0 s1 : State)
-    (new : Option (List ℕ)) → is_plain end ≡ true → Performs by d m end s0 s1
-    → Prints result status.Ok s1.written new (status_line end)
-    → Performs by (λ files. reported (d files)) (λ files. reported (m files)) result s0
-    (state_of new s1.holds s1.asked s1.skeletons)
-line_performs by d m end result s0 s1 new plain one prints = record {
-  does = λ files is text before.
-      line_ends (d files) end text s0 s1 new
-      (plain_ends (d files) (between text s0 s1) end (plain_is end plain) (one.does files is text before)) result prints;
-  promise = λ files is text before. record {
-    ends = λ known apart good.
-        line_ends (m files) end text s0 s1 new
-        (plain_ends (m files) (between text s0 s1) end (plain_is end plain)
-        ((one.promise files is text before).ends known apart good)) result prints;
-  };
-  frame = one.frame;
-  outside = one.outside;
-  stays = λ files is. record { frame = (one.stays files is).frame; good = (one.stays files is).good };
-  leaves = λ files is well.
-      let left = one.leaves files is (plain_is end plain) in
-      let ends : result ≡ status.Ok = printed_plain result status.Ok s1.written new (status_line end) well prints in
-      record { ends = ends; does = left.does; promise_ends = λ known apart good. ends; promise = left.promise };
-}
-
--- a command that a fault cut off
-module _ (m : Meaning) (run : Run) where
-  same_off : (printed : List ℕ) → IsCutOff m printed run → IsCutOff (reported m) printed run
-  same_off printed c = record { output = c.output; asks = c.asks; asks_skeletons = c.asks_skeletons }
-
-  same_short : IsCutShort m run → IsCutShort (reported m) run
-  same_short c = record {
-    printed = c.printed;
-    one = Contains-append_left m.cuts (m.output ∷ []) c.printed c.one;
-    cut = same_off c.printed c.cut;
-  }
-
-  fault_ends : (end : Status) → (IsPlain end → ⊥) → Ends end m run → Ends end (reported m) run
-  fault_ends status.Ok fault e = absurd (fault tt)
-  fault_ends status.Diagnostic fault e = absurd (fault tt)
-  fault_ends status.Usage fault e = absurd (fault tt)
-  fault_ends status.FolderFault fault e = same_short e
-  fault_ends status.SinkFault fault e =
-      let front = take_within e.0 m.output (status_line m.status) in (
-        front.0,
-        subst (λ printed. IsCutOff (reported m) printed run) (sym front.1) (same_off (take e.0 m.output) e.1),
-      )
-  fault_ends status.NoMemory fault e = same_short e
-  fault_ends status.ToolFault fault e = same_short e
-
-pub fault_performs : (by : Definitions) (d m : Files → Meaning) (end : Status) (s0 s1 : State) → is_plain end ≡ false
-    → Performs by d m end s0 s1 → Performs by (λ files. reported (d files)) (λ files. reported (m files)) end s0 s1
-fault_performs by d m end s0 s1 fault one = record {
-  does = λ files is text before.
-      fault_ends (d files) (between text s0 s1) end (fault_is end fault) (one.does files is text before);
-  promise = λ files is text before. record {
-    ends = λ known apart good.
-        fault_ends (m files) (between text s0 s1) end (fault_is end fault)
-        ((one.promise files is text before).ends known apart good);
-  };
-  frame = one.frame;
-  outside = one.outside;
-  stays = λ files is. record { frame = (one.stays files is).frame; good = (one.stays files is).good };
-  leaves = λ files is plain. absurd (fault_is end fault plain);
-}
+  pub remove_does : (r : Result (Unit {0}) FolderFault) → RemoveLeaves r s0.holds s1.holds path
+      → Does by (λ files. without_tools (edit path (remove files path)))
+      (λ files. without_tools (edit path (remove files path))) (edit_end r) (stage s0 tools) (stage s1 tools)
+  remove_does r left =
+      lift_does by (λ files. edit path (remove files path)) (λ files. edit path (remove files path)) (edit_end r) s0 s1
+      tools (edit_no_tool r) (remove_performs by path out s0 s1 same asked skeletons r left)
 
 pub step_fault : (end : Status) → IsStepEnd end → (end ≡ status.Ok → ⊥) → IsPlain end → ⊥
 step_fault status.Ok is other plain = other refl
@@ -324,149 +53,48 @@ step_fault status.SinkFault is other plain = plain
 step_fault status.NoMemory is other plain = plain
 step_fault status.ToolFault is other plain = plain
 
--- ---- words that mean nothing
-
-usage_is : (end : Status) → IsUsageEnd end → IsPlain end → end ≡ status.Usage
-usage_is status.Ok is plain = absurd is
-usage_is status.Diagnostic is plain = absurd is
-usage_is status.Usage is plain = refl
-usage_is status.FolderFault is plain = absurd is
-usage_is status.SinkFault is plain = absurd plain
-usage_is status.NoMemory is plain = absurd plain
-usage_is status.ToolFault is plain = absurd is
-
--- .. however their line is printed
-pub usage_performs : (by : Definitions) (end : Status) (s : State) (new : Option (List ℕ)) → IsUsageEnd end
+pub usage_does : (by : Definitions) (end : Status) (s : State) (tools : List ToolState) (new : Option (List ℕ))
+    → IsUsageEnd end → end ≢ status.ToolFault
     → ((files : Files) → s.holds ≡ Some files → (text : List ℕ) → s.written ≡ Some text
     → Ends end (usage files) (between text s (state_of new s.holds s.asked s.skeletons)))
-    → Performs by usage usage end s (state_of new s.holds s.asked s.skeletons)
-usage_performs by end s new is ends = record {
-  does = ends;
-  promise = λ files at text before. record { ends = λ known apart good. ends files at text before };
-  frame = λ files at. keeps_same (Some files) s.holds [] at;
-  outside = λ files at. record { after = files; tells = at; kept = λ path out apart. refl };
-  stays = λ files at. stays_still by files (usage files) s.holds at;
-  leaves = λ files at plain.
-      let stands : end ≡ status.Usage = usage_is end is plain in
-      record { ends = stands; does = at; promise_ends = λ known apart good. stands; promise = λ known apart good. at };
-}
+    → Does by (λ files. without_tools (usage files)) (λ files. without_tools (usage files)) end (stage s tools)
+    (stage (state_of new s.holds s.asked s.skeletons) tools)
+usage_does by end s tools new is other ends =
+    lift_does by usage usage end s (state_of new s.holds s.asked s.skeletons) tools other
+    (usage_performs by end s new is ends)
 
--- ---- scripts
+pub session_no_tool : (end : Status) → plain.IsSessionEnd end → end ≢ status.ToolFault
+session_no_tool status.Ok is e = cc
+session_no_tool status.Diagnostic is e = cc
+session_no_tool status.Usage is e = cc
+session_no_tool status.FolderFault is e = cc
+session_no_tool status.SinkFault is e = cc
+session_no_tool status.NoMemory is e = cc
+session_no_tool status.ToolFault is e = is
 
--- the line of a refusal, however it is printed
-pub refused_performs : (by : Definitions) (diag : Diag) (s : State) (new : Option (List ℕ)) (result : Status)
-    (line : List ℕ) → line ≡ diag_line diag → Prints result status.Diagnostic s.written new line
-    → Performs by (λ files. refused files diag) (λ files. refused files diag) result s
-    (state_of new s.holds s.asked s.skeletons)
-refused_performs by diag s new result line is_line prints = record {
-  does = ends;
-  promise = λ files is text before. record { ends = λ known apart good. ends files is text before };
-  frame = λ files is. keeps_same (Some files) s.holds [] is;
-  outside = λ files is. record { after = files; tells = is; kept = λ path out apart. refl };
-  stays = λ files is. stays_still by files (refused files diag) s.holds is;
-  leaves = λ files is plain.
-      let stands : result ≡ status.Diagnostic =
-      printed_plain result status.Diagnostic s.written new line plain prints in
-      record { ends = stands; does = is; promise_ends = λ known apart good. stands; promise = λ known apart good. is };
-}
-  where
-    ends : (files : Files) → s.holds ≡ Some files → (text : List ℕ) → s.written ≡ Some text
-        → Ends result (refused files diag) (between text s (state_of new s.holds s.asked s.skeletons))
-    ends files is text before =
-        after_print (refused files diag) (between text s (state_of new s.holds s.asked s.skeletons)) s.written result
-        status.Diagnostic line refl is_line before is (sym (append-nil s.asked)) (sym (append-nil s.skeletons))
-        nothing_printed prints
+-- how a refusal's printing ends is an end of a session
+pub session_end : (end : Status) → plain.IsSessionEnd end → IsSessionEnd end
+session_end status.Ok is = tt
+session_end status.Diagnostic is = tt
+session_end status.Usage is = is
+session_end status.FolderFault is = tt
+session_end status.SinkFault is = tt
+session_end status.NoMemory is = tt
+session_end status.ToolFault is = tt
 
-pub brief_cut : (way : Way) (files : Files) (command : Option Command) → Contains (briefly way files command).cuts []
-brief_cut way files None = nothing_printed
-brief_cut way files (Some command) = nothing_printed
+pub usage_no_tool : (end : Status) → IsUsageEnd end → end ≢ status.ToolFault
+usage_no_tool status.Ok is e = cc
+usage_no_tool status.Diagnostic is e = cc
+usage_no_tool status.Usage is e = cc
+usage_no_tool status.FolderFault is e = cc
+usage_no_tool status.SinkFault is e = cc
+usage_no_tool status.NoMemory is e = cc
+usage_no_tool status.ToolFault is e = is
 
-part_cut : (way : Way) (files : Files) (first : Step) → Contains (of_part way files first).cuts []
-part_cut way files (step.Write path content) = nothing_printed
-part_cut way files (step.Remove path) = nothing_printed
-part_cut way files (step.Command words) = brief_cut way files (command_of words)
-
-make_cut : (way : Way) (parts : List Step) (files : Files) → Contains (make way parts files).cuts []
-make_cut way [] files = nothing_printed
-make_cut way (first ∷ parts) files =
-    let one = part_cut way files first in
-    let rest = make way parts (of_part way files first).files in
-    either_way (of_part way files first) rest (λ m. Contains m.cuts [])
-    (Contains-append_left (of_part way files first).cuts _ [] one) one
-
-pub generating_cut : (way : Way) (n : ℕ) (files : Files) → Contains (generating way n files).cuts []
-generating_cut way n files = make_cut way (generated n) files
-
-pub line_cut : (way : Way) (files : Files) (call : Option Call) → Contains (of_line way files call).cuts []
-line_cut way files None = nothing_printed
-line_cut way files (Some (call.Single command)) = nothing_printed
-line_cut way files (Some (call.Gen n)) = generating_cut way n files
-line_cut way files (Some (call.Session file)) = nothing_printed
-
-step_cut : (way : Way) (files : Files) (first : Step) → Contains (of_step way files first).cuts []
-step_cut way files (step.Write path content) = nothing_printed
-step_cut way files (step.Remove path) = nothing_printed
-step_cut way files (step.Command words) =
-    Contains-append_left (of_line way files (call_of words)).cuts _ [] (line_cut way files (call_of words))
-
-play_cut : (way : Way) (steps : List Step) (files : Files) → Contains (play way steps files).cuts []
-play_cut way [] files = nothing_printed
-play_cut way (first ∷ steps) files =
-    Contains-append_left (of_step way files first).cuts _ [] (step_cut way files first)
-
-pub script_cut : (way : Way) (files : Files) (r : Result (List Step) Diag) → Contains (of_script way files r).cuts []
-script_cut way files (Ok steps) = play_cut way steps files
-script_cut way files (Err diag) = nothing_printed
-
-pub call_cut : (way : Way) (files : Files) (call : Option Call) → Contains (of_call way files call).cuts []
-call_cut way files None = nothing_printed
-call_cut way files (Some (call.Single command)) = nothing_printed
-call_cut way files (Some (call.Gen n)) = generating_cut way n files
-call_cut way files (Some (call.Session file)) = script_cut way files (script_in files file)
-
--- nothing was done: the folder failed before, or memory was wanted
-module _ (by : Definitions) (d m : Files → Meaning) (s0 s1 : State) (written : s1.written ≡ s0.written)
-    (holds : s1.holds ≡ s0.holds) (asked : s1.asked ≡ s0.asked) (skeletons : s1.skeletons ≡ s0.skeletons)
-    (quiet : (files : Files) → Contains (d files).cuts []) (quiet' : (files : Files) → Contains (m files).cuts []) where
-  still_frame : (files : Files) → s0.holds ≡ Some files → Keeps (Some files) s1.holds (d files).paths
-  still_frame files is = keeps_same (Some files) s1.holds (d files).paths (holds ∙ is)
-
-  still_outside : (files : Files) → s0.holds ≡ Some files → KeepsOutside (d files).outside files s1.holds
-  still_outside files is = record { after = files; tells = holds ∙ is; kept = λ path out apart. refl }
-
-  does_short : (files : Files) (text : List ℕ) → s0.written ≡ Some text → IsCutShort (d files) (between text s0 s1)
-  does_short files text before =
-      nothing_done (d files) (between text s0 s1) s0.written written before asked skeletons (quiet files)
-
-  means_short : (files : Files) (text : List ℕ) → s0.written ≡ Some text → IsCutShort (m files) (between text s0 s1)
-  means_short files text before =
-      nothing_done (m files) (between text s0 s1) s0.written written before asked skeletons (quiet' files)
-
-  pub still_failed : Performs by d m status.FolderFault s0 s1
-  still_failed = record {
-    does = λ files is text before. does_short files text before;
-    promise = λ files is text before. record { ends = λ known apart good. means_short files text before };
-    frame = still_frame;
-    outside = still_outside;
-    stays = λ files is. stays_still by files (m files) s1.holds (holds ∙ is);
-    leaves = λ files is plain. absurd plain;
-  }
-
-  pub still_wanting : Performs by d m status.NoMemory s0 s1
-  still_wanting = record {
-    does = λ files is text before. does_short files text before;
-    promise = λ files is text before. record { ends = λ known apart good. means_short files text before };
-    frame = still_frame;
-    outside = still_outside;
-    stays = λ files is. stays_still by files (m files) s1.holds (holds ∙ is);
-    leaves = λ files is plain. absurd plain;
-  }
-
--- where nothing was done
-pub target_still : (call : Option Call) (files : Files) (holds : Option Files) → holds ≡ Some files
-    → KeepsTarget call files holds
-target_still None files holds is = same_outside None files holds is
-target_still (Some (call.Single command)) files holds is = same_outside (target_of files command) files holds is
-target_still (Some (call.Gen n)) files holds is =
-    record { after = files; tells = is; kept = λ path out apart. refl }
-target_still (Some (call.Session file)) files holds is = tt
+pub refused_does : (by : Definitions) (diag : Diag) (end : Status) (s0 s1 : State) (tools : List ToolState)
+    → plain.IsSessionEnd end
+    → plain.Performs by (λ files. refused files diag) (λ files. refused files diag) end s0 s1
+    → Does by (λ files. without_tools (refused files diag)) (λ files. without_tools (refused files diag)) end
+    (stage s0 tools) (stage s1 tools)
+refused_does by diag end s0 s1 tools is one =
+    lift_does by (λ files. refused files diag) (λ files. refused files diag) end s0 s1 tools (session_no_tool end is) one

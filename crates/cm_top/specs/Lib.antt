@@ -1,12 +1,7 @@
-pub mod Answers
-pub mod Faults
 pub mod Generating
 pub mod Headline
-pub mod InTurn
-pub mod Lines
 pub mod Meaning
 pub mod Performing
-pub mod ProjectBuild
+pub mod Reports
 pub mod Sessions
-pub mod Short
-pub mod Targets
+pub mod Ways

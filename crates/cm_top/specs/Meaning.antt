@@ -1,145 +1,118 @@
--- What a command means: the status, the output, the files afterwards, what the compiler is asked for, the interfaces of
--- the units that it builds, and the paths that it writes, with those of them outside the store. And what may be printed
--- where a fault of the folder or want of memory cuts it off.
-use Rattle.std.specs.Prelude.{ℕ, nat_lt, List, [], ◌∷◌, ◌++◌, map, Option, Some, None, length, if◌then◌else◌}
-use Rattle.std.specs.List.{flat_map}
-use Rattle.std.specs.FinMap.{insert}
+-- What a command means where members may be of tools' classes: what it prints, leaves and asks the compiler for, the uses
+-- of tools that its loading makes, and those of them that run their tools.
+use Rattle.std.specs.Prelude.{ℕ, List, [], ◌++◌, Option, Some, None, Result, Ok, Err}
 use Rattle.cm_base.specs.Definitions.{Definitions}
+use Rattle.cm_base.specs.Derived.{ToolRules}
 use Rattle.cm_base.specs.Files.{Files}
-use Rattle.cm_base.specs.Diags.{whole_file}
 use Rattle.cm_base.specs.declared.diag.Diag.{Diag}
-use Rattle.cm_base.specs.declared.record.BuiltUnit.{BuiltUnit}
-use Rattle.cm_base.specs.declared.record.How.{How}
-use Rattle.cm_base.specs.declared.record.How.TheVariants as how
-use Rattle.bin_store.specs.Paths.{linked_path}
-use Rattle.linker.specs.Linked.{linked_program}
+use Rattle.cm_base.specs.declared.record.Def.{Def}
+use Rattle.cm_description.specs.declared.loaded.Project.{Project}
 use Rattle.build_laws.specs.CutBuild.{Cut}
-use Rattle.build_laws.specs.Storing.{unit_paths}
+use Rattle.tool_deriving.specs.Deriving.{ToolUse}
+use Rattle.member_deriving.specs.Uses.{Outcome, Work, runs_of}
+use Rattle.use_laws.specs.Left.{record_paths}
 use Rattle.command_words.specs.Words.{command_of}
 use Rattle.command_words.specs.declared.command.Command.{Command}
-use Rattle.cm_top.specs.declared.limits.TheConstants.{LINKED}
-use Rattle.cm_top.specs.declared.status.Status.{Status}
-use Rattle.cm_top.specs.declared.status.Status.TheVariants as status
-use Rattle.cm_top.specs.Lines.{usage_line, report}
-use Rattle.cm_top.specs.ProjectBuild.{Prepared, Builder, Way, built, plain_way}
-use Rattle.cm_top.specs.Targets.{target_of, ready_of}
+use Rattle.command_words.specs.declared.command.Command.TheVariants as command
+use Rattle.command_parts.specs.Generating.{last_of, printing}
+use Rattle.command_parts.specs.InTurn as turn
+use Rattle.command_parts.specs.Lines.{report}
+use Rattle.command_parts.specs.Meaning.{ended_in, of_build, prints_last, usage}
+use Rattle.command_parts.specs.Meaning as plain
+use Rattle.command_parts.specs.ProjectBuild.{Builder, Prepared, built, of_planning}
+use Rattle.command_parts.specs.ProjectBuild as build
+use Rattle.command_parts.specs.Sessions.{refused}
+use Rattle.command_parts.specs.Targets.{out_in}
+use Rattle.command_parts.specs.declared.status.Status.TheVariants as status
+use Rattle.cm_top.specs.Ways.{Way, plain_way}
+use Rattle.cm_top.specs.declared.printed.Printed.{Printed}
+use Rattle.cm_top.specs.declared.printed.Printed.TheVariants as printed
 
+-- the meaning but for tools; the uses of tools in the order in which loading makes them, up to its diagnostic; and those
+-- that run their tools, each in the store as it stands at that use
 pub record Meaning : Type 0 where
-  pub status : Status
-  pub output : List ℕ
-  pub cuts : List (List ℕ)
-  pub files : Files
-  pub asked : List (List ℕ)
-  pub asked_skeletons : List (List ℕ)
-  pub interfaces : List (List ℕ)
-  pub paths : List (List ℕ)
-  pub outside : List (List ℕ)
+  pub effect : plain.Meaning
+  pub uses : List ToolUse
+  pub runs : List ToolUse
 
--- a command prints all at its end, so one that is cut off before has printed nothing
-abbrev pub prints_last : List (List ℕ)
-prints_last = [] ∷ []
+-- what uses no tool
+abbrev pub without_tools : plain.Meaning → Meaning
+without_tools effect = record { effect = effect; uses = []; runs = [] }
 
--- words that mean nothing
-abbrev pub usage : Files → Meaning
-usage files = record {
-  status = status.Usage;
-  output = usage_line;
-  cuts = prints_last;
-  files = files;
-  asked = [];
-  asked_skeletons = [];
-  interfaces = [];
-  paths = [];
-  outside = [];
+-- one behind the other, with the uses of both
+abbrev pub then_command : Meaning → Meaning → Meaning
+then_command first rest = record {
+  effect = turn.then_command first.effect rest.effect;
+  uses = first.uses ++ rest.uses;
+  runs = first.runs ++ rest.runs;
 }
 
--- ---- linking
+-- ---- loading
 
--- a linked program that passes its limit is 12 at its file
-unfoldable pub link_fault : List BuiltUnit → Option Diag
-link_fault units = if nat_lt LINKED (length (linked_program units)) then Some (whole_file 12 linked_path) else None
-
--- how a build ends: with its diagnostic, or with that of linking
-abbrev pub ended_with : Option Diag → List BuiltUnit → Option Diag
-ended_with (Some diag) units = Some diag
-ended_with None units = link_fault units
-
--- What success adds. A command may have a target, a path of the project: there the bytes are written too, each time.
-abbrev pub then_write : Option (List ℕ) → List ℕ → Files → Files
-then_write None bytes files = files
-then_write (Some path) bytes files = insert files path bytes
-
--- the linked program is written where no diagnostic comes, and then at the target
-abbrev pub with_linked : Option (List ℕ) → Option Diag → List BuiltUnit → Files → Files
-with_linked target None units files =
-    then_write target (linked_program units) (insert files linked_path (linked_program units))
-with_linked target (Some diag) units files = files
-
--- .. at these paths
-abbrev pub target_paths : Option (List ℕ) → List (List ℕ)
-target_paths None = []
-target_paths (Some path) = path ∷ []
-
-abbrev pub linked_paths : Option (List ℕ) → Option Diag → List (List ℕ)
-linked_paths target None = linked_path ∷ target_paths target
-linked_paths target (Some diag) = []
+-- what a loading does that makes this work of tools: it leaves a record for each use that runs, and prints nothing and
+-- asks for nothing. It does so where it ends with a diagnostic, too.
+abbrev pub loading : Files → Work → Meaning
+loading files work = record {
+  effect = record {
+    status = status.Ok;
+    output = [];
+    cuts = prints_last;
+    files = work.files;
+    asked = [];
+    asked_skeletons = [];
+    interfaces = [];
+    paths = record_paths (runs_of files work.uses);
+    outside = [];
+  };
+  uses = work.uses;
+  runs = runs_of files work.uses;
+}
 
 -- ---- builds
 
-abbrev pub status_of : Option Diag → Status
-status_of None = status.Ok
-status_of (Some diag) = status.Diagnostic
+-- what is printed of a build: its report, or the last line of that
+abbrev pub said : Printed → Cut → List ℕ
+said printed.Report cut = report cut.units (ended_in cut)
+said printed.LastLine cut = last_of cut
 
--- the interfaces of the units of a build
-abbrev pub interfaces_in : List BuiltUnit → List (List ℕ)
-interfaces_in units = map (λ unit. unit.interface) units
+-- a build of what is prepared, of which so much is printed
+abbrev pub of_prepared : Printed → Builder → Option (List ℕ) → Prepared → Files → plain.Meaning
+of_prepared part builds target ready files =
+    printing (said part (built builds files ready.units)) (of_build builds files target ready)
 
--- the paths that are written for a unit that came so: its interface's and its binfile's where it was compiled, and none
--- where it stood there already
-abbrev pub paths_by : How → BuiltUnit → List (List ℕ)
-paths_by how.Compiled unit = unit_paths unit
-paths_by how.Loaded unit = []
-paths_by how.Frozen unit = []
+-- A project that was loaded is planned and built over the files as loading leaves them. Of its refusal the line is printed.
+abbrev pub of_project : Printed → build.Way → Option (List ℕ) → List Def → Result Project Diag → Files → plain.Meaning
+of_project part works target defs (Err diag) files = refused files diag
+of_project part works target defs (Ok project) files =
+    of_prepared part works.builds target (of_planning project (works.plans files project defs)) files
 
--- .. for the units of a build
-abbrev pub paths_in : List BuiltUnit → List (List ℕ)
-paths_in units = flat_map (λ unit. paths_by unit.how unit) units
+-- the one and then the other
+abbrev pub of_loaded : Printed → build.Way → Option (List ℕ) → List Def → Files → Outcome Project → Meaning
+of_loaded part works target defs files loaded =
+    then_command (loading files loaded.work)
+    (without_tools (of_project part works target defs loaded.result loaded.work.files))
 
--- how a build ends, its linking included
-abbrev pub ended_in : Cut → Option Diag
-ended_in cut = ended_with cut.ended cut.units
+abbrev pub of_root : Printed → Way → Option (List ℕ) → List Def → List ℕ → Files → Meaning
+of_root part way target defs root files = of_loaded part way.works target defs files (way.loads files defs root)
 
--- the paths that a build writes, its linking included
-abbrev pub written_paths : Option (List ℕ) → Cut → List (List ℕ)
-written_paths target cut = paths_in cut.units ++ linked_paths target (ended_in cut)
-
--- a build with a target or none, after so many skeletons were asked for
-abbrev pub of_cut : Option (List ℕ) → List (List ℕ) → Cut → Meaning
-of_cut target skeletons cut = record {
-  status = status_of (ended_in cut);
-  output = report cut.units (ended_in cut);
-  cuts = prints_last;
-  files = with_linked target (ended_in cut) cut.units cut.files;
-  asked = cut.asked;
-  asked_skeletons = skeletons;
-  interfaces = interfaces_in cut.units;
-  paths = written_paths target cut;
-  outside = target_paths target;
-}
-
--- a build of what is prepared: what every command means that builds
-abbrev pub of_build : Builder → Files → Option (List ℕ) → Prepared → Meaning
-of_build builds files target ready = of_cut target ready.asked_skeletons (built builds files ready.units)
+-- .. of `link`, whose OUT may be refused before anything is loaded
+abbrev pub of_link : Printed → Way → List Def → List ℕ → Files → Result (List ℕ) Diag → Meaning
+of_link part way defs root files (Err diag) = without_tools (refused files diag)
+of_link part way defs root files (Ok path) = of_root part way (Some path) defs root files
 
 -- ---- commands
 
-abbrev pub of_command : Way → Files → Option Command → Meaning
-of_command way files None = usage files
-of_command way files (Some command) =
-    of_build way.builds files (target_of files command) (ready_of (way.plans files) files command)
+abbrev pub of_command : Printed → Way → Files → Command → Meaning
+of_command part way files (command.Build defs root) = of_root part way None defs root files
+of_command part way files (command.Link defs root out) = of_link part way defs root files (out_in files root out)
 
--- What the words mean in a folder, with a compiler of these two definitions. The files at entry say which units are
--- stale, and so which of them are compiled, and of which sources the compiler is asked for the skeletons. What is
--- planned is by the compiler's skeletons, and what the build gives and leaves is the plain build's: they know no store.
-abbrev pub meaning_of : Definitions → List (List ℕ) → Files → Meaning
-meaning_of by words files = of_command (plain_way by) files (command_of words)
+abbrev pub of_words : Printed → Way → Files → Option Command → Meaning
+of_words part way files None = without_tools (usage files)
+of_words part way files (Some command) = of_command part way files command
+
+-- What the words mean in a folder, with a compiler of these two definitions and tools of these classes and rules. The
+-- files at entry say which uses run their tools, which units are stale, and so which of them are compiled, and of which
+-- sources the compiler is asked for the skeletons. The texts of members are by their tools' rules, what is planned is by
+-- the compiler's skeletons, and what the build gives and leaves is the plain build's: they know no store.
+abbrev pub meaning_of : Definitions → ToolRules → List (List ℕ) → Files → Meaning
+meaning_of by rules words files = of_words printed.Report (plain_way by rules) files (command_of words)

@@ -1,124 +1,64 @@
--- What a session means: the edits and the commands of its script, one after the other, each over the files that the ones
--- before it leave. And so what the words of any call of the program mean.
-use Rattle.std.specs.Prelude.{ℕ, ◌≡◌, false, List, [], ◌∷◌, ◌++◌, map, Option, Some, None, Result, Ok, Err}
-use Rattle.std.specs.FinMap.{get, insert, remove}
+-- What a session means where there are tools, and so what the words of any call of the program mean: as without them, with
+-- the uses of tools of all its commands.
+use Rattle.std.specs.Prelude.{ℕ, List, [], ◌∷◌, Option, Some, None, Result, Ok, Err}
+use Rattle.std.specs.FinMap.{insert, remove}
 use Rattle.cm_base.specs.Definitions.{Definitions}
-use Rattle.cm_base.specs.Diags.{◌>>=◌}
-use Rattle.cm_base.specs.Files.{Files, is_stored}
+use Rattle.cm_base.specs.Derived.{ToolRules}
+use Rattle.cm_base.specs.Files.{Files}
 use Rattle.cm_base.specs.declared.diag.Diag.{Diag}
-use Rattle.path_anchors.specs.Names.{Bindings, folder_path_of}
-use Rattle.project_loading.specs.Projects.{anchors_of, command_place, root_name, there}
-use Rattle.session_scripts.specs.Scripts.{script_of}
 use Rattle.session_scripts.specs.declared.step.Step.{Step}
 use Rattle.session_scripts.specs.declared.step.Step.TheVariants as step
 use Rattle.command_words.specs.Words.{call_of}
 use Rattle.command_words.specs.declared.call.Call.{Call}
 use Rattle.command_words.specs.declared.call.Call.TheVariants as call
-use Rattle.cm_top.specs.Generating.{files_of, generating}
-use Rattle.cm_top.specs.Headline.{KeepsOthers, KeepsOutside}
-use Rattle.cm_top.specs.InTurn.{at_end, edit, then_command}
-use Rattle.cm_top.specs.Lines.{diag_line, status_line}
-use Rattle.cm_top.specs.Meaning.{Meaning, of_command, prints_last, usage}
-use Rattle.cm_top.specs.ProjectBuild.{Way, plain_way, store_way}
-use Rattle.cm_top.specs.Targets.{target_of}
-use Rattle.cm_top.specs.declared.status.Status.TheVariants as status
-
--- ---- the script
-
--- the steps of a script that is there, by its name and its text
-abbrev pub script_at : List ℕ → Option (List ℕ) → Result (List Step) Diag
-script_at name file = there command_place name file >>= λ text. script_of name text
-
-abbrev pub named_script : Files → Bindings → List ℕ → Result (List Step) Diag
-named_script files anchors file =
-    root_name anchors file >>= λ name. script_at name (get files (folder_path_of anchors name))
-
--- The steps of the script FILE, or the first refusal: pathconfig's; that of FILE, a written path at the top, at
--- `command:0:0` as ROOT is refused; 1 there where it isn't in the folder; or that of its lines.
-abbrev pub script_in : Files → List ℕ → Result (List Step) Diag
-script_in files file = anchors_of files >>= λ anchors. named_script files anchors file
-
--- an edit is one of the project: nobody but a command writes the store
-abbrev pub IsLawful : Step → Type 0
-IsLawful (step.Write path content) = is_stored path ≡ false
-IsLawful (step.Remove path) = is_stored path ≡ false
-IsLawful (step.Command words) = Unit {0}
-
--- ---- steps
+use Rattle.command_parts.specs.InTurn.{at_end, edit}
+use Rattle.command_parts.specs.Meaning.{usage}
+use Rattle.command_parts.specs.Sessions.{refused, script_in}
+use Rattle.command_parts.specs.Sessions as plain
+use Rattle.cm_top.specs.Generating.{generating}
+use Rattle.cm_top.specs.Meaning.{Meaning, of_command, then_command, without_tools}
+use Rattle.cm_top.specs.Ways.{Way, plain_way, store_way}
+use Rattle.cm_top.specs.declared.printed.Printed.TheVariants as printed
 
 -- What the words of a command mean that stands in a script: a command by itself, or a generated project. A session is
 -- none of these; no script that is read has one.
 abbrev pub of_line : Way → Files → Option Call → Meaning
-of_line way files None = usage files
-of_line way files (Some (call.Single command)) = of_command way files (Some command)
+of_line way files None = without_tools (usage files)
+of_line way files (Some (call.Single command)) = of_command printed.Report way files command
 of_line way files (Some (call.Gen n)) = generating way n files
-of_line way files (Some (call.Session file)) = usage files
+of_line way files (Some (call.Session file)) = without_tools (usage files)
 
--- A command within a session: how it ended is printed behind its output, and the session goes on. It may be cut off as
--- it is by itself, or between its output and that line.
+-- a command within a session: how it ended is printed behind its output, and the session goes on
 abbrev pub reported : Meaning → Meaning
-reported m = record {
-  status = status.Ok;
-  output = m.output ++ status_line m.status;
-  cuts = m.cuts ++ m.output ∷ [];
-  files = m.files;
-  asked = m.asked;
-  asked_skeletons = m.asked_skeletons;
-  interfaces = m.interfaces;
-  paths = m.paths;
-  outside = m.outside;
-}
+reported m = record { effect = plain.reported m.effect; uses = m.uses; runs = m.runs }
 
 abbrev pub of_step : Way → Files → Step → Meaning
-of_step way files (step.Write path content) = edit path (insert files path content)
-of_step way files (step.Remove path) = edit path (remove files path)
+of_step way files (step.Write path content) = without_tools (edit path (insert files path content))
+of_step way files (step.Remove path) = without_tools (edit path (remove files path))
 of_step way files (step.Command words) = reported (of_line way files (call_of words))
 
 abbrev pub play : Way → List Step → Files → Meaning
-play way [] files = at_end files
-play way (first ∷ steps) files = then_command (of_step way files first) (play way steps (of_step way files first).files)
-
--- ---- sessions
-
--- a session that is refused: nothing is done
-abbrev pub refused : Files → Diag → Meaning
-refused files diag = record {
-  status = status.Diagnostic;
-  output = diag_line diag;
-  cuts = prints_last;
-  files = files;
-  asked = [];
-  asked_skeletons = [];
-  interfaces = [];
-  paths = [];
-  outside = [];
-}
+play way [] files = without_tools (at_end files)
+play way (first ∷ steps) files =
+    then_command (of_step way files first) (play way steps (of_step way files first).effect.files)
 
 abbrev pub of_script : Way → Files → Result (List Step) Diag → Meaning
-of_script way files (Err diag) = refused files diag
+of_script way files (Err diag) = without_tools (refused files diag)
 of_script way files (Ok steps) = play way steps files
 
 -- ---- calls of the program
 
 abbrev pub of_call : Way → Files → Option Call → Meaning
-of_call way files None = usage files
-of_call way files (Some (call.Single command)) = of_command way files (Some command)
+of_call way files None = without_tools (usage files)
+of_call way files (Some (call.Single command)) = of_command printed.Report way files command
 of_call way files (Some (call.Gen n)) = generating way n files
 of_call way files (Some (call.Session file)) = of_script way files (script_in files file)
 
 -- What the words of a call mean in a folder, as `meaning_of` says of a command by itself.
-abbrev pub meaning_of_call : Definitions → List (List ℕ) → Files → Meaning
-meaning_of_call by words files = of_call (plain_way by) files (call_of words)
+abbrev pub meaning_of_call : Definitions → ToolRules → List (List ℕ) → Files → Meaning
+meaning_of_call by rules words files = of_call (plain_way by rules) files (call_of words)
 
 -- .. and what they do over a store as it stands, whoever wrote it. Over a good store, where no two differing interfaces
 -- share a hash, it is what they mean.
-abbrev pub doing_of_call : Definitions → List (List ℕ) → Files → Meaning
-doing_of_call by words files = of_call (store_way by) files (call_of words)
-
--- a command by itself changes nothing outside the store but its target, and that only once the linked program stands;
--- and a generated project nothing there but its files
-abbrev pub KeepsTarget : Option Call → Files → Option Files → Type 0
-KeepsTarget None files new = KeepsOthers None files new
-KeepsTarget (Some (call.Single command)) files new = KeepsOthers (target_of files command) files new
-KeepsTarget (Some (call.Gen n)) files new = KeepsOutside (files_of n) files new
-KeepsTarget (Some (call.Session file)) files new = Unit {0}
+abbrev pub doing_of_call : Definitions → ToolRules → List (List ℕ) → Files → Meaning
+doing_of_call by rules words files = of_call (store_way by rules) files (call_of words)

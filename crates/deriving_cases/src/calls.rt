@@ -2,14 +2,13 @@
 
 use crate::shown::{fault_line, nothing, source_of, unit_lines};
 use crate::tools::tool_of;
-use bundled_tools::BundledTool;
 use case_files::{CaseFault, Section, number_of};
 use case_scenes::{Answer, Asked, Files, Stage, look_at, look_of, unknown};
 use cm_base::{Def, List, NoMemory, Text, Tool};
 use cm_description::Project;
-use deriving_loader::load;
+use group_loader::load;
+use member_tools::{BundledTool, Toolbox};
 use std::alloc::Global;
-use tool_deriving::Toolbox;
 
 /// A folder, a box of tools, and the project that was loaded last.
 #[derive(Drop)]

@@ -4,7 +4,7 @@ use case_files::{CaseFault, Part, push_all, push_parts};
 use case_scenes::push_diag;
 use cm_base::{Diag, List, NoMemory, Text};
 use cm_description::{Project, Unit, UnitBody};
-use deriving_loader::LoadingFault;
+use group_loader::LoadFault;
 use std::alloc::Global;
 
 /// No project.
@@ -48,12 +48,12 @@ fn diag_line(alloc: Global, diag: &Diag) -> Result<Text, NoMemory> {
 }
 
 /// How a loading ended that gave no project.
-pub fn fault_line(alloc: Global, fault: LoadingFault) -> Result<Text, CaseFault> {
+pub fn fault_line(alloc: Global, fault: LoadFault) -> Result<Text, CaseFault> {
     match fault {
-        LoadingFault::Diag(diag) => Ok(diag_line(alloc, &diag)?),
-        LoadingFault::Folder => Ok(Text::from_bytes(alloc, b"[folder fault]\n")?),
-        LoadingFault::Tool => Ok(Text::from_bytes(alloc, b"[tool fault]\n")?),
-        LoadingFault::NoMemory => Err(CaseFault::NoMemory),
+        LoadFault::Diag(diag) => Ok(diag_line(alloc, &diag)?),
+        LoadFault::Folder => Ok(Text::from_bytes(alloc, b"[folder fault]\n")?),
+        LoadFault::Tool => Ok(Text::from_bytes(alloc, b"[tool fault]\n")?),
+        LoadFault::NoMemory => Err(CaseFault::NoMemory),
     }
 }
 

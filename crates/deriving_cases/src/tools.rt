@@ -1,7 +1,7 @@
 //! The tools of a case, by their classes.
 
-use bundled_tools::{BundledTool, Embed, Literate, Prelude};
 use cm_base::{NoMemory, Text};
+use member_tools::{BundledTool, Embed, Literate, Prelude};
 use std::alloc::Global;
 
 /// The tool of a class, with what it is given: the value's name of `embed`, the head of `prelude`.

@@ -1,10 +1,8 @@
-pub mod DescentSteps
-pub mod Fronts
-pub mod GoingOn
-pub mod GroupSteps
+pub mod Adding
+pub mod Counting
+pub mod Ending
+pub mod Groups
+pub mod Headline
+pub mod Making
 pub mod MemberSteps
-pub mod Promises
-pub mod ReadGroups
-pub mod Steps
-pub mod Tables
-pub mod WholeSteps
+pub mod Whole

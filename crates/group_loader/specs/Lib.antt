@@ -1,4 +1,4 @@
 pub mod Answers
-pub mod LoadedProjects
-pub mod Loaders
-pub mod StepsInARow
+pub mod Laws
+pub mod Loading
+pub mod Makers

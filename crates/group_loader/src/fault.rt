@@ -1,12 +1,15 @@
-//! Why a project wasn't loaded.
+//! Why a project wasn't loaded whose members may be of tools' classes.
 
-use cm_base::{Diag, Fault, FolderFault, NoMemory};
+use cm_base::{Diag, Fault, NoMemory};
+use loader_parts::ReadFault;
+use member_deriving::MemberFault;
 
-/// Why a project wasn't loaded: a diagnostic, a failing folder, or want of memory.
+/// Why a project wasn't loaded: a diagnostic, a failing folder, a failing tool, or want of memory.
 #[derive(Debug, Drop)]
 pub enum LoadFault {
     Diag(Diag),
     Folder,
+    Tool,
     NoMemory,
 }
 
@@ -21,20 +24,6 @@ impl From<NoMemory> for LoadFault {
     }
 }
 
-impl From<FolderFault> for LoadFault {
-    ghost use Rattle.std.specs.Prelude.{◌≡◌};
-    ghost use Rattle.group_loader.specs.Answers.{of_folder};
-
-    ghost from_gives = { λ error fault. fault ≡ of_folder error };
-
-    fn from(error: FolderFault) -> Self {
-        match error {
-            FolderFault::Failed => LoadFault::Folder,
-            FolderFault::NoMemory => LoadFault::NoMemory,
-        }
-    }
-}
-
 impl From<Fault> for LoadFault {
     ghost use Rattle.std.specs.Prelude.{◌≡◌};
     ghost use Rattle.group_loader.specs.Answers.{of_refusal};
@@ -45,6 +34,37 @@ impl From<Fault> for LoadFault {
         match error {
             Fault::Diag(diag) => LoadFault::Diag(diag),
             Fault::NoMemory => LoadFault::NoMemory,
+        }
+    }
+}
+
+impl From<ReadFault> for LoadFault {
+    ghost use Rattle.std.specs.Prelude.{◌≡◌};
+    ghost use Rattle.group_loader.specs.Answers.{of_plain};
+
+    ghost from_gives = { λ error fault. fault ≡ of_plain error };
+
+    fn from(error: ReadFault) -> Self {
+        match error {
+            ReadFault::Diag(diag) => LoadFault::Diag(diag),
+            ReadFault::Folder => LoadFault::Folder,
+            ReadFault::NoMemory => LoadFault::NoMemory,
+        }
+    }
+}
+
+impl From<MemberFault> for LoadFault {
+    ghost use Rattle.std.specs.Prelude.{◌≡◌};
+    ghost use Rattle.group_loader.specs.Answers.{of_member};
+
+    ghost from_gives = { λ error fault. fault ≡ of_member error };
+
+    fn from(error: MemberFault) -> Self {
+        match error {
+            MemberFault::Diag(diag) => LoadFault::Diag(diag),
+            MemberFault::Folder => LoadFault::Folder,
+            MemberFault::Tool => LoadFault::Tool,
+            MemberFault::NoMemory => LoadFault::NoMemory,
         }
     }
 }

@@ -1,4 +1,4 @@
--- Each step of a history finds a good store, where each kind of step keeps one good.
+-- Each step of a history finds a good store, where each kind of step keeps one good; and each call ends as it means.
 use Rattle.std.proofs.Common.{◌≡◌, ◌∙◌, sym, ap, subst, refl, ℕ, false, List, [], ◌∷◌, ◌++◌, Option, Some, None, append_assoc, append-nil}
 use Rattle.std.specs.Prelude.{Contains}
 use Rattle.std.proofs.lemmas.List.Elements.{Contains-append_left}
@@ -10,11 +10,17 @@ use Rattle.bin_store.specs.GoodStore.{IsGoodStore}
 use Rattle.bin_store.proofs.Elsewhere.{no_store_good, put_keeps_good, remove_keeps_good}
 use Rattle.bin_store.proofs.GoodAfter.{good_is_told}
 use Rattle.loading_laws.proofs.Outside.{part_same}
-use Rattle.cm_top.specs.Headline.{Run}
-use Rattle.cm_top.specs.Meaning.{of_command}
-use Rattle.cm_top.specs.ProjectBuild.{plain_way}
+use Rattle.command_parts.specs.Headline.{Run}
+use Rattle.command_parts.specs.declared.status.Status.{Status}
+use Rattle.cm_base.specs.Derived.{ToolRules}
+use Rattle.tool_deriving.specs.Deriving.{ToolState}
+use Rattle.command_words.specs.declared.call.Call.{Call}
+use Rattle.command_words.specs.declared.command.Command.{Command}
+use Rattle.cm_top.specs.Meaning.{of_words}
+use Rattle.cm_top.specs.Performing.{rules_among}
 use Rattle.cm_top.specs.Sessions.{of_call}
-use Rattle.cm_top.specs.declared.status.Status.{Status}
+use Rattle.cm_top.specs.Ways.{plain_way}
+use Rattle.cm_top.specs.declared.printed.Printed.TheVariants as printed
 use Rattle.history_laws.specs.Calls.{Event, IsLawfulEvent, effect_of_event}
 use Rattle.history_laws.specs.Calls.Event.{call, edit as change}
 use Rattle.history_laws.specs.FromNothing.{MeansTheSame, build_in}
@@ -27,14 +33,17 @@ use Rattle.history_laws.proofs.Meanings.{same_command}
 -- ---- one command
 
 pub commands_know_no_store : CommandsKnowNoStore
-commands_know_no_store by words files meant clean is alone =
-    subst (λ o. MeansTheSame by files clean meant (build_in by clean meant) (of_command (plain_way by) files o)
-    (of_command (plain_way by) clean o)) (sym is) (same_command by meant files clean alone)
+commands_know_no_store by rules words files meant clean is alone =
+    subst (λ (o : Option Command). MeansTheSame by rules files clean meant (build_in by rules clean meant)
+    (of_words printed.Report (plain_way by rules) files o) (of_words printed.Report (plain_way by rules) clean o)) (sym is)
+    (same_command by rules files clean alone meant)
 
-calls_know_no_store : (by : Definitions) (words : List (List ℕ)) (files : Files) → CallMeansTheSameAlone by words files
-calls_know_no_store by words files meant clean is alone =
-    subst (λ o. MeansTheSame by files clean meant (build_in by clean meant) (of_call (plain_way by) files o)
-    (of_call (plain_way by) clean o)) (sym is) (same_command by meant files clean alone)
+calls_know_no_store : (by : Definitions) (rules : ToolRules) (words : List (List ℕ)) (files : Files)
+    → CallMeansTheSameAlone by rules words files
+calls_know_no_store by rules words files meant clean is alone =
+    subst (λ (o : Option Call). MeansTheSame by rules files clean meant (build_in by rules clean meant)
+    (of_call (plain_way by rules) files o) (of_call (plain_way by rules) clean o)) (sym is)
+    (same_command by rules files clean alone meant)
 
 pub projects_stand_alone : ProjectsStandAlone
 projects_stand_alone files = record { project = part_same files; none = project_apart files }
@@ -149,15 +158,15 @@ edit_keeps by known files path (Some bytes) outside good =
 step_keeps : (by : Definitions) → GivesSmallSkeletons by → Keeps by (effect_of_step by) IsLawful
 step_keeps by small files (edit path content) known outside apart good =
     edit_keeps by known files path content outside good
-step_keeps by small files (command words) known lawful apart good =
-    commands_keep_good by words files known small apart good
+step_keeps by small files (command rules words) known lawful apart good =
+    commands_keep_good by rules words files known small apart good
 
 pub every_history : EveryHistory
 every_history by start steps small is = record {
-  commands = λ before later words split.
-      let found = finds by (effect_of_step by) IsLawful (step_keeps by small) start before later (command words)
+  commands = λ before later rules words split.
+      let found = finds by (effect_of_step by) IsLawful (step_keeps by small) start before later (command rules words)
       (subst (IsHistory (effect_of_step by) IsLawful start) split is) in
-      record { good = found.good; apart = found.apart; same = commands_know_no_store by words _ };
+      record { good = found.good; apart = found.apart; same = commands_know_no_store by rules words _ };
   good = all_good by (effect_of_step by) IsLawful (step_keeps by small) start steps is;
 }
 
@@ -166,25 +175,31 @@ every_history by start steps small is = record {
 event_keeps : (by : Definitions) → Keeps by (effect_of_event by) (IsLawfulEvent by)
 event_keeps by files (change path content) known outside apart good =
     edit_keeps by known files path content outside good
-event_keeps by files (call words end run left) known is apart good =
+event_keeps by files (call words tools end run after left) known is apart good =
     good_is_told (is.stays.good known apart good) left is.told
 
 -- what a call finds
-called : (by : Definitions) (start : Files) (events before later : List Event) (words : List (List ℕ)) (end : Status)
-    (run : Run) (left : Files) → IsHistory (effect_of_event by) (IsLawfulEvent by) start events
-    → events ≡ before ++ call words end run left ∷ later
-    → Finds by (effect_of_event by) (IsLawfulEvent by) (event_keeps by) start before (call words end run left)
-called by start events before later words end run left is split =
-    finds by (effect_of_event by) (IsLawfulEvent by) (event_keeps by) start before later (call words end run left)
-    (subst (IsHistory (effect_of_event by) (IsLawfulEvent by) start) split is)
+called : (by : Definitions) (start : Files) (events before later : List Event) (words : List (List ℕ))
+    (tools : List ToolState) (end : Status) (run : Run) (after : List ToolState) (left : Files)
+    → IsHistory (effect_of_event by) (IsLawfulEvent by) start events
+    → events ≡ before ++ call words tools end run after left ∷ later
+    → Finds by (effect_of_event by) (IsLawfulEvent by) (event_keeps by) start before (call words tools end run after left)
+called by start events before later words tools end run after left is split =
+    finds by (effect_of_event by) (IsLawfulEvent by) (event_keeps by) start before later
+    (call words tools end run after left) (subst (IsHistory (effect_of_event by) (IsLawfulEvent by) start) split is)
 
 pub every_list_of_calls : EveryListOfCalls
 every_list_of_calls by start events is = record {
-  calls = λ before later words end run left split.
-      let found = called by start events before later words end run left is split in
+  calls = λ before later words tools end run after left split.
+      let found = called by start events before later words tools end run after left is split in
       record {
         ends = found.lawful.promise.ends _ found.apart found.good;
-        done = record { good = found.good; apart = found.apart; same = calls_know_no_store by words _ };
+        ran = found.lawful.promise.ran _ found.apart found.good;
+        done = record {
+          good = found.good;
+          apart = found.apart;
+          same = calls_know_no_store by (rules_among tools) words _;
+        };
       };
   good = all_good by (effect_of_event by) (IsLawfulEvent by) (event_keeps by) start events is;
 }

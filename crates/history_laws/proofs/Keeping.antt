@@ -1,16 +1,15 @@
 -- A command keeps a store good.
-use Rattle.std.proofs.Common.{◌≡◌, ◌∙◌, sym, ap, subst, refl, ℕ, List, [], ◌++◌, Option, Some, None}
+use Rattle.std.proofs.Common.{◌≡◌, sym, subst, refl, ℕ, List, [], ◌++◌, Option, Some, None, false}
 use Rattle.std.specs.Prelude.{Result, Ok, Err, Contains}
 use Rattle.std.specs.FinMap.{insert}
 use Rattle.std.proofs.lemmas.List.Elements.{Contains-append_left, Contains-append_right}
 use Rattle.cm_base.specs.Definitions.{Definitions}
 use Rattle.cm_base.specs.Files.{Files}
+use Rattle.cm_base.proofs.KeepingLemmas.{touches_written}
 use Rattle.cm_base.specs.declared.diag.Diag.{Diag}
 use Rattle.cm_base.specs.declared.record.BuiltUnit.{BuiltUnit}
 use Rattle.cm_base.specs.declared.record.PlannedUnit.{PlannedUnit}
-use Rattle.cm_base.proofs.KeepingLemmas.{touches_written}
 use Rattle.cm_bytes.specs.Hashes.{HashesApart}
-use Rattle.project_planning.specs.Planning.{plain_plan}
 use Rattle.bin_store.specs.GoodStore.{IsGoodStore}
 use Rattle.bin_store.specs.Paths.{linked_path}
 use Rattle.bin_store.proofs.Elsewhere.{put_keeps_good}
@@ -23,18 +22,30 @@ use Rattle.build_laws.specs.Storing.{with_units}
 use Rattle.command_words.specs.Words.{command_of}
 use Rattle.command_words.specs.declared.command.Command.{Command}
 use Rattle.linker.specs.Linked.{linked_program}
-use Rattle.cm_top.specs.Answers.{IsOutside}
-use Rattle.cm_top.specs.Meaning.{Meaning, ended_with, meaning_of, of_command, with_linked}
-use Rattle.cm_top.specs.ProjectBuild.{plain_way}
-use Rattle.cm_top.specs.Targets.{ready_of, target_of}
-use Rattle.cm_top.proofs.Showing.{interfaces_marked}
-use Rattle.history_laws.specs.FromNothing.{build_of}
+use Rattle.command_parts.specs.Answers.{IsOutside}
+use Rattle.command_parts.specs.Meaning.{ended_with, with_linked}
+use Rattle.command_parts.specs.Targets.{out_in, path_in}
+use Rattle.command_parts.proofs.Showing.{interfaces_marked}
+use Rattle.cm_base.specs.Derived.{ToolRules}
+use Rattle.cm_base.specs.declared.record.Def.{Def}
+use Rattle.cm_description.specs.declared.loaded.Project.{Project}
+use Rattle.member_deriving.specs.Uses.{after_uses}
+use Rattle.member_deriving.proofs.Good.{uses_good}
+use Rattle.tool_loading.specs.Projects.{project_of, tool_uses}
+use Rattle.command_words.specs.declared.command.Command.TheVariants as command
+use Rattle.command_parts.specs.Meaning as plain
+use Rattle.command_parts.proofs.OutNames.{out_outside}
+use Rattle.cm_top.specs.Meaning.{of_command, of_link, of_root, of_words}
+use Rattle.cm_top.specs.Ways.{plain_way}
+use Rattle.cm_top.specs.declared.printed.Printed.TheVariants as printed
+use Rattle.history_laws.specs.FromNothing.{build_of, units_of}
 use Rattle.history_laws.specs.Laws.{CommandsKeepGood, GivesSmallSkeletons}
 use Rattle.history_laws.proofs.Building.{good_units}
-use Rattle.history_laws.proofs.Meanings.{coming_to, means, units_in}
-use Rattle.history_laws.proofs.Planned.{ready_lawful, target_outside}
+use Rattle.history_laws.proofs.Coming.{coming_to, units_in}
+use Rattle.history_laws.proofs.Planned.{HaveAll, loading_has}
+use Rattle.history_laws.proofs.Roots.{built_of, effect_is, skeletons_at}
 
--- ---- one command
+-- ---- a build
 
 target_good : (by : Definitions) (texts : List (List ℕ)) (target : Option (List ℕ)) (units : List BuiltUnit)
     (files : Files) → IsOutside target → IsGoodStore by texts (insert files linked_path (linked_program units))
@@ -67,7 +78,7 @@ built_good by texts apart small files (Err diag) lawful inside good = good
 
 module _ (by : Definitions) (files : Files) (target : Option (List ℕ)) (skeletons : List (List ℕ))
     (r : Result (List PlannedUnit) Diag) where
-  abbrev m : Meaning
+  abbrev m : plain.Meaning
   m = coming_to by files target skeletons r
 
   pub coming_good : (known : List (List ℕ)) → GivesSmallSkeletons by → IsOutside target
@@ -82,25 +93,54 @@ module _ (by : Definitions) (files : Files) (target : Option (List ℕ)) (skelet
       (subst (λ is. Contains is t) (sym (interfaces_marked files (build_of by r))) h))
       (good_more (λ t h. Contains-append_left known m.interfaces t h) good))
 
--- what every command of some words keeps
-abbrev Keeps : Definitions → Files → List (List ℕ) → Meaning → Type 0
-Keeps by files known m = HashesApart (known ++ m.interfaces) → IsGoodStore by (known ++ m.interfaces) m.files
+-- ---- commands
 
-by_command : (by : Definitions) (words : List (List ℕ)) (files : Files) (known : List (List ℕ)) → GivesSmallSkeletons by
-    → IsGoodStore by known files → (o : Option Command) → command_of words ≡ o
-    → Keeps by files known (meaning_of by words files)
-by_command by words files known small good None is =
-    subst (Keeps by files known) (sym (ap (of_command (plain_way by) files) is))
-    (λ apart. good_more (λ t h. Contains-append_left known [] t h) good)
-by_command by words files known small good (Some command) is =
-    subst (Keeps by files known)
-    (sym (ap (of_command (plain_way by) files) is ∙ means by command files (target_of files command)
-    (ready_of (plain_plan by.skel files) files command).units refl refl))
-    (λ apart. coming_good by files (target_of files command)
-    (ready_of (plain_plan by.skel files) files command).asked_skeletons
-    (ready_of (plain_plan by.skel files) files command).units known small (target_outside files command)
-    (ready_lawful by files command) apart good)
+module _ (by : Definitions) (small : GivesSmallSkeletons by) (known : List (List ℕ)) where
+  abbrev Keeps : plain.Meaning → Type 0
+  Keeps m = HashesApart (known ++ m.interfaces) → IsGoodStore by (known ++ m.interfaces) m.files
+
+  -- what changes no file
+  rests : (files : Files) → IsGoodStore by known files → IsGoodStore by (known ++ []) files
+  rests files good = good_more (λ t h. Contains-append_left known [] t h) good
+
+  -- a project that is built, or refused
+  project_keeps : (target : Option (List ℕ)) → IsOutside target → (defs : List Def) (r : Result Project Diag)
+      (files : Files) → IsGoodStore by known files → Keeps (built_of by target defs r files)
+  project_keeps target outside defs r files good apart =
+      let skeletons = skeletons_at by target defs r files in
+      let units = units_of by files defs r in
+      let is = effect_is by target defs r files in
+      subst (λ (here : Files). IsGoodStore by (known ++ (built_of by target defs r files).interfaces) here) (sym is.files)
+      (subst (λ (texts : List (List ℕ)). IsGoodStore by (known ++ texts)
+      (coming_to by files target skeletons units).files) (sym is.interfaces)
+      (coming_good by files target skeletons units known small outside
+      (λ (planned : List PlannedUnit) same. subst (HaveAll by) same (loading_has by files defs r))
+      (subst (λ (texts : List (List ℕ)). HashesApart (known ++ texts)) is.interfaces apart) good))
+
+  module _ (rules : ToolRules) (files : Files) (good : IsGoodStore by known files) where
+    -- .. over the files as loading leaves them
+    root_keeps : (target : Option (List ℕ)) → IsOutside target → (defs : List Def) (root : List ℕ)
+        → Keeps (of_root printed.Report (plain_way by rules) target defs root files).effect
+    root_keeps target outside defs root =
+        let uses = tool_uses files rules defs root in
+        project_keeps target outside defs (project_of files rules defs root false) (after_uses files uses)
+        (uses_good by known files uses good)
+
+    link_keeps : (defs : List Def) (root out : List ℕ) (r : Result (List ℕ) Diag) → out_in files root out ≡ r
+        → Keeps (of_link printed.Report (plain_way by rules) defs root files r).effect
+    link_keeps defs root out (Ok path) is =
+        root_keeps (Some path) (subst (λ (r : Result (List ℕ) Diag). IsOutside (path_in r)) is (out_outside files root out))
+        defs root
+    link_keeps defs root out (Err diag) is = λ apart. rests files good
+
+    command_keeps : (meant : Command) → Keeps (of_command printed.Report (plain_way by rules) files meant).effect
+    command_keeps (command.Build defs root) = root_keeps None tt defs root
+    command_keeps (command.Link defs root out) = link_keeps defs root out (out_in files root out) refl
+
+    words_keep : (meant : Option Command) → Keeps (of_words printed.Report (plain_way by rules) files meant).effect
+    words_keep None = λ apart. rests files good
+    words_keep (Some meant) = command_keeps meant
 
 pub commands_keep_good : CommandsKeepGood
-commands_keep_good by words files known small apart good =
-    by_command by words files known small good (command_of words) refl apart
+commands_keep_good by rules words files known small apart good =
+    words_keep by small known rules files good (command_of words) apart

@@ -4,6 +4,8 @@ pub mod Building
 pub mod Alone
 pub mod Linking
 pub mod Planned
+pub mod Coming
+pub mod Roots
 pub mod Meanings
 pub mod Keeping
 pub mod Histories

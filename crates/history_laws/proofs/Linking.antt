@@ -15,8 +15,8 @@ use Rattle.linker.specs.Linked.{import_at, link_of, linked_program, place_from, 
 use Rattle.linker.specs.Spelling.{linked_file}
 use Rattle.linker.specs.declared.program.LinkedImport.{LinkedImport}
 use Rattle.linker.specs.declared.program.LinkedUnit.{LinkedUnit}
-use Rattle.cm_top.specs.declared.limits.TheConstants.{LINKED}
-use Rattle.cm_top.specs.Meaning.{ended_with, link_fault}
+use Rattle.command_parts.specs.declared.limits.TheConstants.{LINKED}
+use Rattle.command_parts.specs.Meaning.{ended_with, link_fault}
 
 -- each unit as it came
 abbrev shown : Files → List PlainUnit → List BuiltUnit

@@ -1,252 +1,159 @@
--- What a command means, whatever the store holds, is what it means where the same project stands alone.
-use Rattle.std.proofs.Common.{◌≡◌, ◌≢◌, ◌∙◌, sym, ap, ap₂, subst, refl, inl, inr, ℕ, zero, suc, true, false, List, [], ◌∷◌, Option, Some, None, arith}
+-- What a command with tools means, whatever the store holds, is what it means where the same project stands alone.
+use Rattle.std.proofs.Common.{◌≡◌, ◌∙◌, sym, ap, subst, refl, ℕ, false, List, [], Some, None, arith}
 use Rattle.std.specs.Prelude.{Result, Ok, Err, Contains}
-use Rattle.std.specs.FinMap.{get, insert}
-use Rattle.std.proofs.lemmas.List.Elements.{Contains-append_cases}
 use Rattle.cm_base.specs.Definitions.{Definitions}
-use Rattle.cm_base.specs.Files.{Files, is_stored}
+use Rattle.cm_base.specs.Derived.{ToolRules}
+use Rattle.cm_base.specs.Files.{Files}
 use Rattle.cm_base.specs.declared.diag.Diag.{Diag}
-use Rattle.cm_base.specs.declared.record.BuiltUnit.{BuiltUnit}
-use Rattle.cm_base.specs.declared.record.PlannedUnit.{PlannedUnit}
-use Rattle.cm_base.proofs.FileLemmas.{get-insert_other, get-insert_same}
-use Rattle.loading_laws.specs.Laws.{LoadsAlike}
+use Rattle.cm_base.specs.declared.record.Def.{Def}
 use Rattle.loading_laws.proofs.Alike.{loading_reads}
-use Rattle.project_planning.specs.Planning.{plain_plan}
-use Rattle.storeless_builds.proofs.Leaving.{builds_leave}
-use Rattle.bin_formats.specs.Format.{binfile, interface_file}
-use Rattle.bin_store.specs.Paths.{bin_path, interface_path, linked_path}
-use Rattle.bin_store.proofs.Elsewhere.{bin_stored, interface_stored, linked_stored}
-use Rattle.bin_store.proofs.PathLaws.{bin_is_not_linked, interface_is_not_linked}
-use Rattle.build_laws.specs.PlainBuild.{Build, PlainUnit, compiled_unit, compiled_units}
-use Rattle.build_laws.specs.Planned.{paths_of}
-use Rattle.build_laws.specs.Stale.{marked}
-use Rattle.build_laws.specs.Storing.{bin_of_unit, unit_paths, with_unit, with_units}
-use Rattle.command_words.specs.Words.{command_of}
+use Rattle.build_laws.specs.PlainBuild.{Build}
+use Rattle.tool_loading.specs.Projects.{project_of}
 use Rattle.command_words.specs.declared.command.Command.{Command}
-use Rattle.linker.specs.Linked.{linked_program}
-use Rattle.cm_top.specs.Answers.{IsOutside}
-use Rattle.cm_top.specs.Lines.{report}
-use Rattle.cm_top.specs.Meaning.{Meaning, meaning_of, of_command, of_cut, status_of, with_linked}
-use Rattle.cm_top.specs.ProjectBuild.{built, coming, plain_over, plain_way}
-use Rattle.cm_top.specs.Targets.{ready_of, target_of}
-use Rattle.cm_top.proofs.Showing.{interfaces_marked}
-use Rattle.history_laws.specs.FromNothing.{HasProjectAlone, MeansTheSame, build_in, build_of, end_of, project_in, unread_in}
-use Rattle.history_laws.proofs.Alone.{alone_asked, alone_compiled}
-use Rattle.history_laws.proofs.Linking.{end_same, linked_same}
-use Rattle.history_laws.proofs.Planned.{asked_of, project_same, ready_same, target_outside, target_same, unread_alone}
-
--- ---- a meaning by its plain build
-
-abbrev pub units_in : Result (List PlannedUnit) Diag → List PlannedUnit
-units_in (Ok planned) = planned
-units_in (Err diag) = []
-
-pub built_is : (by : Definitions) (files : Files) (r : Result (List PlannedUnit) Diag)
-    → built (plain_over by) files r ≡ coming files (units_in r) (build_of by r)
-built_is by files (Ok planned) = refl
-built_is by files (Err diag) = refl
-
--- what a build means that comes so over files
-abbrev pub coming_to : Definitions → Files → Option (List ℕ) → List (List ℕ) → Result (List PlannedUnit) Diag → Meaning
-coming_to by files target skeletons r = of_cut target skeletons (coming files (units_in r) (build_of by r))
-
-pub means : (by : Definitions) (command : Command) (files : Files) (target : Option (List ℕ))
-    (r : Result (List PlannedUnit) Diag) → target_of files command ≡ target
-    → (ready_of (plain_plan by.skel files) files command).units ≡ r
-    → of_command (plain_way by) files (Some command)
-    ≡ coming_to by files target (ready_of (plain_plan by.skel files) files command).asked_skeletons r
-means by command files target r at ready =
-    let skeletons = (ready_of (plain_plan by.skel files) files command).asked_skeletons in
-    ap₂ (λ t u. of_cut t skeletons (built (plain_over by) files u)) at ready
-    ∙ ap (of_cut target skeletons) (built_is by files r)
-
--- ---- what linking adds
-
-stored_apart : (path q : List ℕ) → is_stored path ≡ false → is_stored q ≡ true → q ≢ path
-stored_apart path q outside inside same = let at = ap is_stored same in absurd (cc (outside, inside, at))
-
-linked_other : (target : Option (List ℕ)) (ended : Option Diag) (units : List BuiltUnit) (files : Files) (path : List ℕ)
-    → path ≢ linked_path → target ≢ Some path → get (with_linked target ended units files) path ≡ get files path
-linked_other target (Some diag) units files path other apart = refl
-linked_other None None units files path other apart =
-    get-insert_other files linked_path (linked_program units) path other
-linked_other (Some at) None units files path other apart =
-    get-insert_other (insert files linked_path (linked_program units)) at (linked_program units) path
-    (λ same. apart (ap Some (sym same)))
-    ∙ get-insert_other files linked_path (linked_program units) path other
-
-linked_there : (target : Option (List ℕ)) (units : List BuiltUnit) (files : Files) → IsOutside target
-    → get (with_linked target None units files) linked_path ≡ Some (linked_program units)
-linked_there None units files outside = get-insert_same files linked_path (linked_program units)
-linked_there (Some at) units files outside =
-    get-insert_other (insert files linked_path (linked_program units)) at (linked_program units) linked_path
-    (stored_apart at linked_path outside linked_stored)
-    ∙ get-insert_same files linked_path (linked_program units)
-
-target_there : (target : Option (List ℕ)) (path : List ℕ) (units : List BuiltUnit) (files : Files) → target ≡ Some path
-    → get (with_linked target None units files) path ≡ Some (linked_program units)
-target_there None path units files is = cc
-target_there (Some at) path units files is =
-    let same : at ≡ path = cc in
-    subst (λ q. get (with_linked (Some at) None units files) q ≡ Some (linked_program units)) same
-    (get-insert_same (insert files linked_path (linked_program units)) at (linked_program units))
-
-target_apart : (target : Option (List ℕ)) (path : List ℕ) → IsOutside target → is_stored path ≡ true
-    → target ≢ Some path
-target_apart target path outside stored is = stored_apart path path (subst IsOutside is outside) stored refl
-
--- ---- the paths of units
-
-unit_outside : (files : Files) (p : PlannedUnit) (u : BuiltUnit) (q : List ℕ) → is_stored q ≡ false
-    → get (with_unit files p u) q ≡ get files q
-unfolding with_unit
-unit_outside files p u q outside =
-    get-insert_other (insert files (interface_path u.hash) (interface_file u.interface)) (bin_path p.unit)
-    (binfile (bin_of_unit p u)) q (λ same. stored_apart q (bin_path p.unit) outside (bin_stored p.unit) (sym same))
-    ∙ get-insert_other files (interface_path u.hash) (interface_file u.interface) q
-    (λ same. stored_apart q (interface_path u.hash) outside (interface_stored u.hash) (sym same))
-
-units_outside : (ps : List PlannedUnit) (us : List BuiltUnit) (files : Files) (q : List ℕ) → is_stored q ≡ false
-    → get (with_units files ps us) q ≡ get files q
-units_outside [] us files q outside = refl
-units_outside (p ∷ ps) [] files q outside = refl
-units_outside (p ∷ ps) (u ∷ us) files q outside =
-    units_outside ps us (with_unit files p u) q outside ∙ unit_outside files p u q outside
-
--- a path of the store that isn't the linked program's
-record IsOfUnits (path : List ℕ) : Type 0 where
-  stored : is_stored path ≡ true
-  other : path ≢ linked_path
-
-unit_path_is : (u : BuiltUnit) (path : List ℕ) → Contains (unit_paths u) path → IsOfUnits path
-unit_path_is u path (zero, within, at) =
-    subst IsOfUnits at (record { stored = interface_stored u.hash; other = interface_is_not_linked u.hash })
-unit_path_is u path (suc zero, within, at) =
-    subst IsOfUnits at (record { stored = bin_stored u.unit; other = bin_is_not_linked u.unit })
-unit_path_is u path (suc (suc n), within, at) = absurd (omega (arith, within))
+use Rattle.command_words.specs.declared.command.Command.TheVariants as command
+use Rattle.command_parts.specs.Answers.{IsOutside}
+use Rattle.command_parts.specs.Sessions.{refused}
+use Rattle.command_parts.specs.Targets.{out_in, path_in, target_of}
+use Rattle.command_parts.proofs.OutNames.{out_outside}
+use Rattle.cm_top.specs.Meaning.{Meaning, of_command, of_link, of_root, without_tools}
+use Rattle.cm_top.specs.Ways.{plain_way}
+use Rattle.cm_top.specs.declared.printed.Printed.TheVariants as printed
+use Rattle.history_laws.specs.FromNothing.{HasProjectAlone, build_of, if_loaded, sources_in, unless_refused, unread_in}
+use Rattle.history_laws.proofs.Planned.{out_same}
+use Rattle.history_laws.specs.FromNothing.{MeansTheSame, build_in, project_in, units_of, unless_out_is}
+use Rattle.history_laws.proofs.Roots.{root_asked, root_asked_alone, root_build, root_interfaces, root_linked, root_output, root_output_alone, root_project, root_runs, root_skeletons, root_skeletons_alone, root_status, root_target, root_units, root_uses}
 
 none_within : (path : List ℕ) → Contains [] path → ⊥
 none_within path (n, within, at) = omega (arith, within)
 
-path_is : (us : List PlainUnit) (path : List ℕ) → Contains (paths_of us) path → IsOfUnits path
-path_is [] path within = absurd (none_within path within)
-path_is (u ∷ us) path within =
-    elim (Contains-append_cases (unit_paths (compiled_unit u)) (paths_of us) path within) [
-      | inl here ↦ unit_path_is (compiled_unit u) path here
-      | inr later ↦ path_is us path later
-    ]
+some_is_none : (diag : Diag) → Some diag ≡ None → ⊥
+some_is_none diag is = cc
 
--- ---- over two folders
+module _ (by : Definitions) (rules : ToolRules) (files clean : Files) (alone : HasProjectAlone files clean) where
+  abbrev means : Files → Command → Meaning
+  means here command = of_command printed.Report (plain_way by rules) here command
 
-units_alike : (by : Definitions) (a b : Files) (r : Result (List PlannedUnit) Diag) (path : List ℕ)
-    → Contains (paths_of (build_of by r).units) path
-    → get (with_units a (units_in r) (compiled_units (build_of by r).units)) path
-    ≡ get (with_units b (units_in r) (compiled_units (build_of by r).units)) path
-units_alike by a b (Ok planned) path within = (builds_leave by.compiled planned a b).units path within
-units_alike by a b (Err diag) path within = absurd (none_within path within)
+  same_build : (defs : List Def) (root : List ℕ) → MeansTheSame by rules files clean (command.Build defs root)
+      (build_in by rules clean (command.Build defs root)) (means files (command.Build defs root))
+      (means clean (command.Build defs root))
+  same_build defs root = record {
+    build = ap (build_of by) (root_build by rules files clean alone None tt defs root);
+    status = root_status by rules files clean alone None tt defs root;
+    output = root_output by rules files clean alone None tt defs root;
+    output_alone = root_output_alone by rules files clean alone None tt defs root;
+    units = root_units by rules files clean alone None tt defs root;
+    linked = root_linked by rules files clean alone None tt defs root;
+    target = root_target by rules files clean alone None tt defs root;
+    project = root_project by rules files clean alone None tt defs root;
+    asked = root_asked by rules files clean alone None tt defs root;
+    asked_alone = root_asked_alone by rules files clean alone None tt defs root;
+    skeletons = root_skeletons by rules files clean alone None tt defs root;
+    skeletons_alone = root_skeletons_alone by rules files clean alone None tt defs root;
+    interfaces = root_interfaces by rules files clean alone None tt defs root;
+    uses = root_uses by rules files clean alone None tt defs root;
+    runs = root_runs by rules files clean alone None tt defs root files;
+    runs_alone = root_runs by rules files clean alone None tt defs root clean;
+  }
 
-module _ (by : Definitions) (files clean : Files) (target : Option (List ℕ)) (outside : IsOutside target)
-    (r : Result (List PlannedUnit) Diag) (skeletons others : List (List ℕ)) where
-  abbrev b : Build
-  b = build_of by r
+  -- .. of `link`, whose OUT is found or refused in both folders alike
+  module _ (defs : List Def) (root out : List ℕ) where
+    abbrev link : Command
+    link = command.Link defs root out
 
-  -- the files with the units, in each folder
-  abbrev left : Files → Files
-  left here = with_units here (units_in r) (compiled_units b.units)
+    abbrev Same : Result (List ℕ) Diag → Result (List ℕ) Diag → Type 0
+    Same a b = out_in files root out ≡ a → out_in clean root out ≡ b
+        → MeansTheSame by rules files clean link (build_in by rules clean link)
+        (of_link printed.Report (plain_way by rules) defs root files a)
+        (of_link printed.Report (plain_way by rules) defs root clean b)
 
-  abbrev linked : Files → Option Diag → Files
-  linked here ended = with_linked target ended (marked here b) (left here)
+    -- the plain build and the project of `link`, by what its OUT is
+    build_by : (here : Files) (r : Result (List ℕ) Diag) → out_in here root out ≡ r
+        → build_in by rules here link
+        ≡ build_of by (unless_out_is r (units_of by here defs (project_of here rules defs root false)))
+    build_by here r is =
+        ap (λ (out_is : Result (List ℕ) Diag).
+        build_of by (unless_out_is out_is (units_of by here defs (project_of here rules defs root false)))) is
 
-  files_are : (here : Files) (asked : List (List ℕ))
-      → (coming_to by here target asked r).files ≡ linked here (end_of b)
-  files_are here asked = ap (linked here) (end_same here b b.ended)
+    project_by : (r : Result (List ℕ) Diag) → out_in clean root out ≡ r
+        → project_in rules clean link ≡ unless_refused r (if_loaded (project_of clean rules defs root false))
+    project_by r is =
+        ap (λ (out_is : Result (List ℕ) Diag).
+        unless_refused out_is (if_loaded (project_of clean rules defs root false))) is
 
-  pub path_alike : (path : List ℕ) → Contains (paths_of b.units) path
-      → get (coming_to by files target skeletons r).files path ≡ get (coming_to by clean target others r).files path
-  path_alike path within =
-      let is = path_is b.units path within in
-      let at : (here : Files) (asked : List (List ℕ)) → get (coming_to by here target asked r).files path
-      ≡ get (left here) path =
-      λ here asked. ap (λ (f : Files). get f path) (files_are here asked)
-      ∙ linked_other target (end_of b) (marked here b) (left here) path is.other
-      (target_apart target path outside is.stored) in
-      at files skeletons ∙ units_alike by files clean r path within ∙ sym (at clean others)
+    target_by : (r : Result (List ℕ) Diag) → out_in files root out ≡ r → target_of files link ≡ path_in r
+    target_by r is = ap path_in is
 
-  -- where no diagnostic comes
-  well : (here : Files) (asked : List (List ℕ)) → end_of b ≡ None
-      → (coming_to by here target asked r).files ≡ linked here None
-  well here asked none = files_are here asked ∙ ap (linked here) none
+    refused_same : (diag : Diag) → Same (Err diag) (Err diag)
+    refused_same diag here there =
+        subst (λ (b : Build). MeansTheSame by rules files clean link b (without_tools (refused files diag))
+        (without_tools (refused clean diag)))
+        (sym (build_by clean (Err diag) there))
+        (record {
+          build = build_by files (Err diag) here;
+          status = refl;
+          output = refl;
+          output_alone = refl;
+          units = λ path within. absurd (none_within path within);
+          linked = λ none. absurd (some_is_none diag none);
+          target = λ path none is. absurd (some_is_none diag none);
+          project = λ path outside apart. refl;
+          asked = refl;
+          asked_alone = refl;
+          skeletons = sym (ap (unread_in by files) (project_by (Err diag) there));
+          skeletons_alone = sym (ap (sources_in by) (project_by (Err diag) there));
+          interfaces = refl;
+          uses = refl;
+          runs = refl;
+          runs_alone = refl;
+        })
 
-  pub linked_alike : end_of b ≡ None
-      → get (coming_to by files target skeletons r).files linked_path
-      ≡ get (coming_to by clean target others r).files linked_path
-  linked_alike none =
-      let at : (here : Files) (asked : List (List ℕ)) → get (coming_to by here target asked r).files linked_path
-      ≡ Some (linked_program (compiled_units b.units)) =
-      λ here asked. ap (λ (f : Files). get f linked_path) (well here asked none)
-      ∙ linked_there target (marked here b) (left here) outside ∙ ap Some (linked_same here b) in
-      at files skeletons ∙ sym (at clean others)
+    found_same : (path : List ℕ) → Same (Ok path) (Ok path)
+    found_same path here there =
+        let outside : IsOutside (Some path) =
+        subst (λ (r : Result (List ℕ) Diag). IsOutside (path_in r)) there (out_outside clean root out) in
+        let project = project_by (Ok path) there in
+        let target = target_by (Ok path) here in
+        subst (λ (b : Build). MeansTheSame by rules files clean link b
+        (of_root printed.Report (plain_way by rules) (Some path) defs root files)
+        (of_root printed.Report (plain_way by rules) (Some path) defs root clean))
+        (sym (build_by clean (Ok path) there))
+        (record {
+          build = build_by files (Ok path) here
+              ∙ ap (build_of by) (root_build by rules files clean alone (Some path) outside defs root);
+          status = root_status by rules files clean alone (Some path) outside defs root;
+          output = root_output by rules files clean alone (Some path) outside defs root;
+          output_alone = root_output_alone by rules files clean alone (Some path) outside defs root;
+          units = root_units by rules files clean alone (Some path) outside defs root;
+          linked = root_linked by rules files clean alone (Some path) outside defs root;
+          target = λ q none is.
+              root_target by rules files clean alone (Some path) outside defs root q none (sym target ∙ is);
+          project = λ q out apart.
+              root_project by rules files clean alone (Some path) outside defs root q out (λ is. apart (target ∙ is));
+          asked = root_asked by rules files clean alone (Some path) outside defs root;
+          asked_alone = root_asked_alone by rules files clean alone (Some path) outside defs root;
+          skeletons = root_skeletons by rules files clean alone (Some path) outside defs root
+              ∙ sym (ap (unread_in by files) project);
+          skeletons_alone = root_skeletons_alone by rules files clean alone (Some path) outside defs root
+              ∙ sym (ap (sources_in by) project);
+          interfaces = root_interfaces by rules files clean alone (Some path) outside defs root;
+          uses = root_uses by rules files clean alone (Some path) outside defs root;
+          runs = root_runs by rules files clean alone (Some path) outside defs root files;
+          runs_alone = root_runs by rules files clean alone (Some path) outside defs root clean;
+        })
 
-  pub target_alike : (path : List ℕ) → end_of b ≡ None → target ≡ Some path
-      → get (coming_to by files target skeletons r).files path ≡ get (coming_to by clean target others r).files path
-  target_alike path none is =
-      let at : (here : Files) (asked : List (List ℕ)) → get (coming_to by here target asked r).files path
-      ≡ Some (linked_program (compiled_units b.units)) =
-      λ here asked. ap (λ (f : Files). get f path) (well here asked none)
-      ∙ target_there target path (marked here b) (left here) is ∙ ap Some (linked_same here b) in
-      at files skeletons ∙ sym (at clean others)
+    by_out : (r : Result (List ℕ) Diag) → Same r r
+    by_out (Ok path) = found_same path
+    by_out (Err diag) = refused_same diag
 
-  pub project_kept : (path : List ℕ) → is_stored path ≡ false → target ≢ Some path
-      → get (coming_to by files target skeletons r).files path ≡ get files path
-  project_kept path out apart =
-      ap (λ (f : Files). get f path) (files_are files skeletons)
-      ∙ linked_other target (end_of b) (marked files b) (left files) path
-      (λ same. stored_apart path linked_path out linked_stored (sym same)) apart
-      ∙ units_outside (units_in r) (compiled_units b.units) files path out
+    same_link : MeansTheSame by rules files clean link (build_in by rules clean link) (means files link)
+        (means clean link)
+    same_link =
+        let same = out_same by files clean (loading_reads files clean alone.project) root out in
+        subst (λ (r : Result (List ℕ) Diag). MeansTheSame by rules files clean link (build_in by rules clean link)
+        (of_link printed.Report (plain_way by rules) defs root files r) (means clean link)) (sym same)
+        (by_out (out_in clean root out) same refl)
 
--- ---- the law
-
-pub same_command : (by : Definitions) (command : Command) (files clean : Files) → HasProjectAlone files clean
-    → MeansTheSame by files clean command (build_in by clean command) (of_command (plain_way by) files (Some command))
-    (of_command (plain_way by) clean (Some command))
-same_command by command files clean alone =
-    subst (λ m. MeansTheSame by files clean command b m (of_command (plain_way by) clean (Some command)))
-    (sym (means by command files target r refl (ready_same by files clean alike command)))
-    (subst (λ s. MeansTheSame by files clean command b (coming_to by files target skeletons r) s)
-    (sym (means by command clean target r (sym (target_same by files clean alike command)) refl))
-    (record {
-      build = ap (build_of by) (ready_same by files clean alike command);
-      status = ap status_of (end_same files b b.ended) ∙ sym (ap status_of (end_same clean b b.ended));
-      output = ap (report (marked files b)) (end_same files b b.ended);
-      output_alone = ap₂ report (alone_compiled clean b alone.none) (end_same clean b b.ended);
-      units = path_alike by files clean target outside r skeletons others;
-      linked = linked_alike by files clean target outside r skeletons others;
-      target = target_alike by files clean target outside r skeletons others;
-      project = project_kept by files clean target outside r skeletons others;
-      asked = refl;
-      asked_alone = alone_asked clean b alone.none;
-      skeletons = asked_of by files command ∙ ap (unread_in by files) (project_same by files clean alike command);
-      skeletons_alone = asked_of by clean command ∙ unread_alone by clean (project_in clean command) alone.none;
-      interfaces = interfaces_marked files b ∙ sym (interfaces_marked clean b);
-    }))
-  where
-    alike : LoadsAlike files clean
-    alike = loading_reads files clean alone.project
-
-    target : Option (List ℕ)
-    target = target_of files command
-
-    outside : IsOutside target
-    outside = target_outside files command
-
-    r : Result (List PlannedUnit) Diag
-    r = (ready_of (plain_plan by.skel clean) clean command).units
-
-    b : Build
-    b = build_of by r
-
-    skeletons : List (List ℕ)
-    skeletons = (ready_of (plain_plan by.skel files) files command).asked_skeletons
-
-    others : List (List ℕ)
-    others = (ready_of (plain_plan by.skel clean) clean command).asked_skeletons
+  pub same_command : (meant : Command) → MeansTheSame by rules files clean meant (build_in by rules clean meant)
+      (means files meant) (means clean meant)
+  same_command (command.Build defs root) = same_build defs root
+  same_command (command.Link defs root out) = same_link defs root out

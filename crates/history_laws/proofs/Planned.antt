@@ -1,5 +1,6 @@
--- What a command builds, and its target, are those of the project alone; and its units have the compiler's skeletons.
-use Rattle.std.proofs.Common.{◌≡◌, ◌∙◌, sym, ap, ap₂, subst, refl, ℕ, List, [], Option, Some, None, false}
+-- OUT of a folder is that of the project alone; what is asked there; and the units of a project have the compiler's
+-- skeletons.
+use Rattle.std.proofs.Common.{◌≡◌, ◌∙◌, sym, ap, refl, ℕ, List, [], Option, Some, None}
 use Rattle.std.specs.Prelude.{Result, Ok, Err}
 use Rattle.cm_base.specs.Definitions.{Definitions}
 use Rattle.cm_base.specs.Diags.{◌>>=◌}
@@ -10,7 +11,6 @@ use Rattle.cm_base.specs.declared.record.PlannedUnit.{PlannedUnit}
 use Rattle.cm_base.specs.declared.record.Skeleton.{Skeleton}
 use Rattle.cm_description.specs.declared.loaded.Project.{Project}
 use Rattle.path_anchors.specs.Names.{Bindings}
-use Rattle.project_loading.specs.Projects.{project_of}
 use Rattle.loading_laws.specs.Laws.{LoadsAlike}
 use Rattle.dependency_graph.specs.Order.{Placed}
 use Rattle.visibility.specs.Naming.{names_of}
@@ -23,56 +23,15 @@ use Rattle.project_planning.specs.Planning.{edges_of, in_order, plain_plan, plan
 use Rattle.project_planning.specs.declared.plan.Plan.{Plan}
 use Rattle.project_planning.proofs.Planned.{planned_have}
 use Rattle.build_laws.specs.Planned.{HaveSkeletons}
-use Rattle.command_words.specs.declared.command.Command.{Command}
-use Rattle.command_words.specs.declared.command.Command.TheVariants as command
-use Rattle.cm_top.specs.Answers.{IsOutside}
-use Rattle.cm_top.specs.ProjectBuild.{of_loading, prepared, units_of}
-use Rattle.cm_top.specs.Targets.{out_in, out_path, path_in, ready_of, ready_with, target_of}
-use Rattle.cm_top.proofs.OutNames.{out_outside}
-use Rattle.history_laws.specs.FromNothing.{if_loaded, project_in, sources_in, unless_refused as if_target, unread_in}
+use Rattle.command_parts.specs.ProjectBuild.{of_loading, units_of}
+use Rattle.command_parts.specs.Targets.{out_in, out_path}
+use Rattle.history_laws.specs.FromNothing.{if_loaded, sources_in, unread_in}
 
 -- ---- over two folders with one project
 
 module _ (by : Definitions) (a b : Files) (alike : LoadsAlike a b) where
   pub out_same : (root out : List ℕ) → out_in a root out ≡ out_in b root out
   out_same root out = ap (λ (r : Result Bindings Diag). r >>= λ anchors. out_path anchors root out) alike.anchors
-
-  pub target_same : (command : Command) → target_of a command ≡ target_of b command
-  target_same (command.Build defs root) = refl
-  target_same (command.Link defs root out) = ap path_in (out_same root out)
-
-  loading_same : (defs : List Def) (r : Result Project Diag)
-      → (of_loading (plain_plan by.skel a) defs r).units ≡ (of_loading (plain_plan by.skel b) defs r).units
-  loading_same defs (Ok project) = refl
-  loading_same defs (Err diag) = refl
-
-  prepared_same : (defs : List Def) (root : List ℕ)
-      → (prepared (plain_plan by.skel a) a defs root).units ≡ (prepared (plain_plan by.skel b) b defs root).units
-  prepared_same defs root =
-      ap (λ (r : Result Project Diag). (of_loading (plain_plan by.skel a) defs r).units) (alike.project defs root false)
-      ∙ loading_same defs (project_of b defs root false)
-
-  with_same : (defs : List Def) (root : List ℕ) (r : Result (List ℕ) Diag)
-      → (ready_with (plain_plan by.skel a) a defs root r).units
-      ≡ (ready_with (plain_plan by.skel b) b defs root r).units
-  with_same defs root (Ok path) = prepared_same defs root
-  with_same defs root (Err diag) = refl
-
-  pub ready_same : (command : Command)
-      → (ready_of (plain_plan by.skel a) a command).units ≡ (ready_of (plain_plan by.skel b) b command).units
-  ready_same (command.Build defs root) = prepared_same defs root
-  ready_same (command.Link defs root out) =
-      ap (λ (r : Result (List ℕ) Diag). (ready_with (plain_plan by.skel a) a defs root r).units) (out_same root out)
-      ∙ with_same defs root (out_in b root out)
-
-  -- the project
-  loaded_same : (defs : List Def) (root : List ℕ)
-      → if_loaded (project_of a defs root false) ≡ if_loaded (project_of b defs root false)
-  loaded_same defs root = ap if_loaded (alike.project defs root false)
-
-  pub project_same : (command : Command) → project_in a command ≡ project_in b command
-  project_same (command.Build defs root) = loaded_same defs root
-  project_same (command.Link defs root out) = ap₂ if_target (out_same root out) (loaded_same defs root)
 
 -- ---- what is asked
 
@@ -81,18 +40,6 @@ pub asked_loading : (by : Definitions) (files : Files) (defs : List Def) (r : Re
 asked_loading by files defs (Ok project) = refl
 asked_loading by files defs (Err diag) = refl
 
-asked_with : (by : Definitions) (files : Files) (defs : List Def) (root : List ℕ) (r : Result (List ℕ) Diag)
-    → (ready_with (plain_plan by.skel files) files defs root r).asked_skeletons
-    ≡ unread_in by files (if_target r (if_loaded (project_of files defs root false)))
-asked_with by files defs root (Ok path) = asked_loading by files defs (project_of files defs root false)
-asked_with by files defs root (Err diag) = refl
-
-pub asked_of : (by : Definitions) (files : Files) (command : Command)
-    → (ready_of (plain_plan by.skel files) files command).asked_skeletons
-    ≡ unread_in by files (project_in files command)
-asked_of by files (command.Build defs root) = asked_loading by files defs (project_of files defs root false)
-asked_of by files (command.Link defs root out) = asked_with by files defs root (out_in files root out)
-
 -- where no store was begun, all
 pub unread_alone : (by : Definitions) (files : Files) (project : Option Project) → HasNoStore files
     → unread_in by files project ≡ sources_in by project
@@ -100,12 +47,6 @@ unread_alone by files None none = refl
 unread_alone by files (Some project) none =
     ap (λ (all : Skeletons). all.asked)
     (sym (stored_same by [] files project (no_store_good by files none)) ∙ all_asked by.skel files project none)
-
--- ---- the target
-
-pub target_outside : (files : Files) (command : Command) → IsOutside (target_of files command)
-target_outside files (command.Build defs root) = tt
-target_outside files (command.Link defs root out) = out_outside files root out
 
 -- ---- skeletons
 
@@ -151,17 +92,3 @@ loading_has by files defs (Ok project) =
     units_have by project (plan_of by.skel project defs).result
     (λ plan is. after_has by project defs (skeletons_of by.skel project).ended plan refl is)
 loading_has by files defs (Err diag) = tt
-
-with_has : (by : Definitions) (files : Files) (defs : List Def) (root : List ℕ) (r : Result (List ℕ) Diag)
-    → HaveAll by (ready_with (plain_plan by.skel files) files defs root r).units
-with_has by files defs root (Ok path) = loading_has by files defs (project_of files defs root false)
-with_has by files defs root (Err diag) = tt
-
-ready_has : (by : Definitions) (files : Files) (command : Command)
-    → HaveAll by (ready_of (plain_plan by.skel files) files command).units
-ready_has by files (command.Build defs root) = loading_has by files defs (project_of files defs root false)
-ready_has by files (command.Link defs root out) = with_has by files defs root (out_in files root out)
-
-pub ready_lawful : (by : Definitions) (files : Files) (command : Command) (planned : List PlannedUnit)
-    → (ready_of (plain_plan by.skel files) files command).units ≡ Ok planned → HaveSkeletons by.skel planned
-ready_lawful by files command planned is = subst (HaveAll by) is (ready_has by files command)

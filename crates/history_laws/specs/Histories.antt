@@ -4,6 +4,7 @@ use Rattle.std.specs.FinMap.{insert, remove}
 use Rattle.cm_base.specs.Definitions.{Definitions}
 use Rattle.cm_base.specs.Files.{Files, HasNoStore, is_stored}
 use Rattle.cm_bytes.specs.Hashes.{HashesApart}
+use Rattle.cm_base.specs.Derived.{ToolRules}
 use Rattle.cm_top.specs.Meaning.{meaning_of}
 
 -- ---- of any kind of step
@@ -39,10 +40,10 @@ pub record IsHistory {S : Type 0} (effect : Effect S) (P : Files → S → Type 
 
 -- ---- changes of the project, and commands that do what they mean
 
--- a file gets new bytes or is taken away, or a command is done
+-- a file gets new bytes or is taken away, or a command is done with tools of these classes and rules
 pub data Step : Type 0 where
   edit : (path : List ℕ) → (content : Option (List ℕ)) → Step
-  command : (words : List (List ℕ)) → Step
+  command : (rules : ToolRules) → (words : List (List ℕ)) → Step
 
 abbrev pub edited : Files → List ℕ → Option (List ℕ) → Files
 edited files path None = remove files path
@@ -50,11 +51,11 @@ edited files path (Some bytes) = insert files path bytes
 
 abbrev pub step_leaves : Definitions → Files → Step → Files
 step_leaves by files (edit path content) = edited files path content
-step_leaves by files (command words) = (meaning_of by words files).files
+step_leaves by files (command rules words) = (meaning_of by rules words files).effect.files
 
 abbrev pub step_interfaces : Definitions → Files → Step → List (List ℕ)
 step_interfaces by files (edit path content) = []
-step_interfaces by files (command words) = (meaning_of by words files).interfaces
+step_interfaces by files (command rules words) = (meaning_of by rules words files).effect.interfaces
 
 abbrev pub effect_of_step : Definitions → Effect Step
 effect_of_step by = record { leaves = step_leaves by; interfaces = step_interfaces by }
@@ -62,4 +63,4 @@ effect_of_step by = record { leaves = step_leaves by; interfaces = step_interfac
 -- a change is one of the project: nobody but a command writes the store
 abbrev pub IsLawful : Files → Step → Type 0
 IsLawful files (edit path content) = is_stored path ≡ false
-IsLawful files (command words) = Unit {0}
+IsLawful files (command rules words) = Unit {0}

@@ -1,5 +1,5 @@
-//! The theorem over lists of edits and commands: whatever was built before, a command does what it does from nothing,
-//! and asks the compiler for what changed. The one call here ties it to the program.
+//! The theorem over lists of edits and calls where members may be of tools' classes: whatever was built before, a command
+//! does what it does from nothing, asks the compiler for what changed, and runs a tool where its record differs.
 #![tactic(auto)]
 
 mod laws;

@@ -7,7 +7,7 @@ use case_scenes::{Answer, Files, Stage, lines_of, unknown};
 use cm_base::{Def, List, NoMemory, Text};
 use cm_description::{Project, UnitBody};
 use group_loader::{LoadFault, load};
-use member_tools::Toolbox;
+use member_tools::{BundledTool, Toolbox};
 use std::alloc::Global;
 
 /// A folder, what is loaded from it and how, and the project that was loaded last.
@@ -85,6 +85,7 @@ fn fault_lines(alloc: Global, fault: LoadFault) -> Result<Text, CaseFault> {
     match fault {
         LoadFault::Diag(diag) => Ok(refused_lines(alloc, &diag)?),
         LoadFault::Folder => Ok(Text::from_bytes(alloc, b"[folder fault]\n")?),
+        LoadFault::Tool => Ok(Text::from_bytes(alloc, b"[tool fault]\n")?),
         LoadFault::NoMemory => Err(CaseFault::NoMemory),
     }
 }
@@ -110,10 +111,10 @@ impl ProjectCalls {
         })
     }
 
-    /// Loads the project.
+    /// Loads the project, with an empty box of tools.
     fn loaded(&mut self, alloc: Global) -> Result<Project, LoadFault> {
         self.files.begin();
-        let mut tools = Toolbox::new(alloc);
+        let mut tools: Toolbox<BundledTool> = Toolbox::new(alloc);
         load(
             alloc,
             &mut self.files.folder,

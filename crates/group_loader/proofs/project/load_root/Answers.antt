@@ -1,29 +1,50 @@
-use Rattle.std.proofs.Common.{◌≡◌, ◌∙◌, Ok, sym, subst}
+use Rattle.std.proofs.Common.{Ok, sym, subst}
 use Rattle.project_checks.specs.Whole.{Descends, IsWhole}
 use Rattle.project_checks.specs.declared.progress.Progress.{Progress}
 use Rattle.project_checks.proofs.Sounding.{whole_from}
-use Rattle.project_loading.specs.Projects.{setting_of}
-use Rattle.group_loader.specs.StepsInARow.{reached}
-use Rattle.group_loader.proofs.WholeSteps.{group_stops, group_done}
+use Rattle.tool_loading.specs.Projects.{reached_from}
+use Rattle.group_loader.specs.Loading.{setting_at}
+use Rattle.group_loader.proofs.Ending.{value_is}
+use Rattle.group_loader.proofs.Whole.{described_so, description_stops, members_stop, name_stops, place_stops}
 use Rattle.group_loader.proofs.project.load_root.Goals as goal
 
-pub returns-in_err-load_described-clause-gives : goal.returns-in_err-load_described-clause-gives
-returns-in_err-load_described-clause-gives g c = λ files is.
-    group_stops (setting_of files c.args.context.now.anchors.now c.args.context.now.defs.now) c.args.root.now
-    c.in_ok-name.name c.in_ok-at.at c.new-loader.result.progress c.in_ok-name.ensures c.in_ok-at.ensures
-    c.new-loader.ensures.nothing c.from_residual-in_err-load_described.result c.in_err-load_described.field-0.0
-    c.in_ok-description.description c.load_described.new.loader.progress (c.in_ok-description.ensures.gives files is)
-    c.from_residual-in_err-load_described.ensures.1
-    (c.in_err-load_described.ensures.gives files (c.in_ok-description.ensures.same ∙ is))
+pub returns-in_err-name-clause-loads : goal.returns-in_err-name-clause-loads
+returns-in_err-name-clause-loads g c =
+    name_stops c.args.context.now.defs.now c.args.context.now.anchors.now c.args.root.now c.from_residual.result
+    c.in_err-name.field-0.0 _ c.from_residual.ensures.1 c.in_err-name.ensures
 
-pub returns-clause-gives : goal.returns-clause-gives
-returns-clause-gives g c = λ files is.
-    let setting = setting_of files c.args.context.now.anchors.now c.args.context.now.defs.now in
-    subst (λ (p : Progress). reached setting c.args.root.now ≡ Ok p) (sym c.into_progress.ensures)
-    (group_done setting c.args.root.now c.in_ok-name.name c.in_ok-at.at c.new-loader.result.progress
-    c.in_ok-name.ensures c.in_ok-at.ensures c.new-loader.ensures.nothing c.in_ok-description.description
-    c.load_described.new.loader.progress (c.in_ok-description.ensures.gives files is)
-    (c.in_ok-load_described.ensures.gives files (c.in_ok-description.ensures.same ∙ is)))
+pub returns-in_err-at-clause-loads : goal.returns-in_err-at-clause-loads
+returns-in_err-at-clause-loads g c =
+    place_stops c.args.context.now.defs.now c.args.context.now.anchors.now c.args.root.now
+    c.from_residual-in_err-at.result _ c.from_residual-in_err-at.ensures.1
+
+pub returns-in_err-description-clause-loads : goal.returns-in_err-description-clause-loads
+returns-in_err-description-clause-loads g c =
+    description_stops c.args.context.now.defs.now c.args.context.now.anchors.now c.args.root.now c.in_ok-name.name
+    c.in_ok-at.at c.new-loader.result.progress c.in_ok-name.ensures c.in_ok-at.ensures c.new-loader.ensures.nothing
+    _ _ _ _ _ c.in_err-description.ensures.same c.from_residual-in_err-description.result
+    c.in_err-description.field-0.0 c.from_residual-in_err-description.ensures.1 c.in_err-description.ensures.cause
+    c.in_err-description.ensures.gives
+
+pub returns-in_err-load_described-clause-loads : goal.returns-in_err-load_described-clause-loads
+returns-in_err-load_described-clause-loads g c =
+    members_stop c.args.context.now.defs.now c.args.context.now.anchors.now c.args.root.now c.in_ok-name.name
+    c.in_ok-at.at c.new-loader.result.progress c.in_ok-name.ensures c.in_ok-at.ensures c.new-loader.ensures.nothing
+    _ _ _ _ _ c.in_ok-description.ensures.same c.in_ok-description.description
+    c.in_ok-description.ensures.cause.later c.in_ok-description.ensures.gives
+    c.from_residual-in_err-load_described.result c.in_err-load_described.field-0.0 _
+    c.from_residual-in_err-load_described.ensures.1 c.in_err-load_described.ensures.loads
+
+pub returns-clause-loads : goal.returns-clause-loads
+returns-clause-loads g c =
+    value_is c.load_described.new.loader.progress c.into_progress.result _ _
+    (λ origin work. reached_from (setting_at origin c.args.context.now.defs.now c.args.context.now.anchors.now)
+    c.args.root.now work) c.into_progress.ensures
+    (described_so c.args.context.now.defs.now c.args.context.now.anchors.now c.args.root.now c.in_ok-name.name
+    c.in_ok-at.at c.new-loader.result.progress c.in_ok-name.ensures c.in_ok-at.ensures c.new-loader.ensures.nothing
+    _ _ _ _ _ c.in_ok-description.ensures.same c.in_ok-description.description
+    c.in_ok-description.ensures.cause.later c.in_ok-description.ensures.gives
+    (Ok c.load_described.new.loader.progress) _ c.in_ok-load_described.ensures.loads)
 
 pub returns-clause-whole : goal.returns-clause-whole
 returns-clause-whole g c =

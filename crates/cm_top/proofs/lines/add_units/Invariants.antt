@@ -1,8 +1,0 @@
-use Rattle.std.proofs.Common.{◌≡◌, ◌++◌, drop}
-use Rattle.std.specs.List.{flat_map}
-use Rattle.cm_top.specs.Lines.{unit_line}
-use Rattle.cm_top.proofs.lines.add_units.Given as goal
-
-abbrev pub invariant-loop-unit : goal.invariant-loop-unit
-invariant-loop-unit l =
-    l.out.items ++ flat_map unit_line (drop l.unit-index l.units) ≡ l.fn.out.items ++ flat_map unit_line l.units

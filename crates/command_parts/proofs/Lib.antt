@@ -1,0 +1,14 @@
+pub mod Agreeing
+pub mod Showing
+pub mod Steps
+pub mod LinkLeaves
+pub mod Doing
+pub mod Ending
+pub mod ShortLemmas
+pub mod Framing
+pub mod Shadows
+pub mod TargetLeaves
+pub mod OutNames
+pub mod Pieces
+pub mod Parts
+pub mod ScriptLaws

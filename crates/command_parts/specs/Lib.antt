@@ -1,0 +1,12 @@
+pub mod Answers
+pub mod Faults
+pub mod Generating
+pub mod Headline
+pub mod InTurn
+pub mod Lines
+pub mod Meaning
+pub mod Performing
+pub mod ProjectBuild
+pub mod Sessions
+pub mod Short
+pub mod Targets

@@ -1,4 +1,0 @@
-pub mod Answers
-pub mod Laws
-pub mod Loading
-pub mod Makers

@@ -1,7 +1,0 @@
-use Rattle.group_loader.proofs.Steps.{unread}
-use Rattle.group_loader.proofs.reading.read_member_group.Goals as goal
-
-pub returns-in_err-is_frozen-clause-gives : goal.returns-in_err-is_frozen-clause-gives
-returns-in_err-is_frozen-clause-gives g c = λ files is.
-    unread c.from_residual.result c.in_err-is_frozen.field-0.0 _ _ c.from_residual.ensures.1
-    (c.in_err-is_frozen.ensures.gives files is)

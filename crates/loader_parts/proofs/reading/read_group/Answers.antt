@@ -1,0 +1,28 @@
+use Rattle.std.proofs.Common.{◌∙◌, ap, sym}
+use Rattle.std.specs.FinMap.{get}
+use Rattle.path_anchors.specs.Names.{folder_path_of}
+use Rattle.project_loading.specs.Projects.{described_by}
+use Rattle.loader_parts.proofs.Steps.{failed, read_is, unread}
+use Rattle.loader_parts.proofs.Fronts.{described_front}
+use Rattle.loader_parts.proofs.reading.read_group.Goals as goal
+
+pub returns-in_err-found-clause-gives : goal.returns-in_err-found-clause-gives
+returns-in_err-found-clause-gives g c = λ files is.
+    unread c.from_residual.result c.in_err-found.field-0.0 _ _ c.from_residual.ensures.1
+    (c.in_err-found.ensures.gives files is)
+
+pub returns-in_err-description_found-clause-gives : goal.returns-in_err-description_found-clause-gives
+returns-in_err-description_found-clause-gives g c = λ files is.
+    failed c.from_residual-in_err-description_found.result c.in_err-description_found.field-0.0 _ _
+    c.from_residual-in_err-description_found.ensures.1
+    (ap (described_by c.args.at.now c.args.name.now c.args.progress.now) (read_is _ c.in_ok-found.found (c.in_ok-found.ensures.gives files is))
+    ∙ described_front c.args.at.now c.args.name.now c.args.progress.now
+    (get files (folder_path_of c.args.context.now.anchors.now c.args.name.now)))
+    c.in_err-description_found.ensures.gives
+
+pub returns-clause-gives : goal.returns-clause-gives
+returns-clause-gives g c = λ files is.
+    sym (ap (described_by c.args.at.now c.args.name.now c.args.progress.now) (read_is _ c.in_ok-found.found (c.in_ok-found.ensures.gives files is))
+    ∙ described_front c.args.at.now c.args.name.now c.args.progress.now
+    (get files (folder_path_of c.args.context.now.anchors.now c.args.name.now)))
+    ∙ c.in_ok-description_found.ensures.gives

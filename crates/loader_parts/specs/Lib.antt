@@ -1,0 +1,4 @@
+pub mod Answers
+pub mod LoadedProjects
+pub mod Loaders
+pub mod StepsInARow

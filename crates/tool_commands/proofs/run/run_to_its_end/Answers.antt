@@ -1,4 +1,0 @@
-use Rattle.tool_commands.proofs.run.run_to_its_end.Goals as goal
-
-pub returns : goal.returns
-returns g c = c.run_cm.ensures.complete

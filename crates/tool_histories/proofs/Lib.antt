@@ -1,4 +1,0 @@
-pub mod Roots
-pub mod Meanings
-pub mod Keeping
-pub mod Histories

@@ -1,4 +1,0 @@
-pub mod Calls
-pub mod FromNothing
-pub mod Laws
-pub mod Steps

@@ -1,0 +1,1 @@
+structure Main = struct val n = Numbers.answer end
