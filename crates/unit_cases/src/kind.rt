@@ -14,13 +14,30 @@ pub enum Kind {
     Last,
     /// `accepted`: `ok`.
     Accepted,
+    /// `interface`: the bytes of its interface in hex, as that of the unit `a.sml`. Those that it has as the unit `b.sml`
+    /// are a second line, where they are others.
+    Interface,
+    /// `interface-size`: how many bytes its interface has, in the same way.
+    InterfaceSize,
+}
+
+impl Kind {
+    /// Whether interfaces are asked for.
+    pub fn is_of_interfaces(self) -> bool {
+        match self {
+            Kind::Interface | Kind::InterfaceSize => true,
+            Kind::Defined | Kind::Last | Kind::Accepted => false,
+        }
+    }
 }
 
 /// The kinds with their names.
-const KINDS: [(&[u8], Kind); 3] = [
+const KINDS: [(&[u8], Kind); 5] = [
     (b"defined", Kind::Defined),
     (b"last", Kind::Last),
     (b"accepted", Kind::Accepted),
+    (b"interface", Kind::Interface),
+    (b"interface-size", Kind::InterfaceSize),
 ];
 
 /// The kind of a name.

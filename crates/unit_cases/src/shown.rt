@@ -3,7 +3,10 @@
 ghost use Rattle.sml_modules.specs.Graphs.{HasTop};
 
 use crate::kind::Kind;
-use cm_base::NoMemory;
+use case_files::{Part, push_parts};
+use case_texts::{line, refusal};
+use cm_base::{NoMemory, Text};
+use env_pickle::pickle;
 use sml_modules::{EnvGraph, TopId};
 use sml_trees::{BareUnit, FunBind, FunsigBind, SigBind, StrBind, TopDec};
 use std::alloc::Global;
@@ -117,11 +120,43 @@ fn push_defined(
     }
 }
 
-/// The lines that a case of a kind has for a unit and for what it defines.
+/// Bytes in hex, as a line.
+fn hex_line(alloc: Global, bytes: &[u8]) -> Result<Vec<u8>, NoMemory> {
+    let digits = hex::encode(alloc, bytes)?;
+    line(alloc, digits.as_bytes())
+}
+
+/// How many bytes there are, as a line.
+fn size_line(alloc: Global, bytes: &[u8]) -> Result<Vec<u8>, NoMemory> {
+    let mut out = Vec::new(alloc);
+    let count = bytes.len() as u64;
+    push_parts(alloc, &mut out, &[Part::Number(count), Part::Text(b"\n")])?;
+    Ok(out)
+}
+
+/// The line of an interface, as it stands or as its size, or its refusal.
+fn interface_line(
+    alloc: Global,
+    home: &Text,
+    graph: &EnvGraph,
+    top: TopId,
+    is_whole: bool,
+) -> Result<Vec<u8>, NoMemory>
+    requires { HasTop graph.now top }
+{
+    match pickle(graph, top, home) {
+        Ok(text) if is_whole => hex_line(alloc, text.as_bytes()),
+        Ok(text) => size_line(alloc, text.as_bytes()),
+        Err(fault) => refusal(alloc, &fault),
+    }
+}
+
+/// The lines that a case of a kind has for a unit of this name and for what it defines.
 pub fn lines_of(
     alloc: Global,
     kind: Kind,
     unit: &BareUnit,
+    name: &Text,
     graph: &EnvGraph,
     top: TopId,
 ) -> Result<Vec<u8>, NoMemory>
@@ -129,6 +164,8 @@ pub fn lines_of(
 {
     let mut out = Vec::new(alloc);
     match kind {
+        Kind::Interface => return interface_line(alloc, name, graph, top, true),
+        Kind::InterfaceSize => return interface_line(alloc, name, graph, top, false),
         Kind::Defined => {
             let mut numbers = NameNumbers::by_order(alloc);
             push_top(alloc, &mut out, &mut numbers, graph, top)?;
