@@ -41,12 +41,12 @@ fn word_of(function: &TypeFn) -> &'static [u8] {
 }
 
 /// Adds a constructor of a datatype behind a word.
-fn push_constructor(
+fn push_constructor<'x>(
     alloc: Global,
     out: &mut Vec<u8>,
     numbers: &mut NameNumbers,
-    word: &[u8],
-    con: &ConEntry,
+    word: &'x [u8],
+    con: &'x ConEntry,
 ) -> Result<(), NoMemory> {
     push_parts(
         alloc,

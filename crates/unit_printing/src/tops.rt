@@ -13,7 +13,12 @@ use type_printing::NameNumbers;
 const LEVELS: u32 = 1024;
 
 /// Adds a word and a name.
-fn push_head(alloc: Global, out: &mut Vec<u8>, word: &[u8], name: &Text) -> Result<(), NoMemory> {
+fn push_head<'x>(
+    alloc: Global,
+    out: &mut Vec<u8>,
+    word: &'x [u8],
+    name: &'x Text,
+) -> Result<(), NoMemory> {
     push_parts(alloc, out, &[Part::Text(word), Part::Text(name.as_bytes())])
 }
 
