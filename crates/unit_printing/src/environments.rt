@@ -47,19 +47,8 @@ fn push_values(
     Ok(())
 }
 
-/// Adds `structure NAME : ` and what an environment has.
-#[cycle(push_env)]
-fn push_inner(
-    alloc: Global,
-    out: &mut Vec<u8>,
-    numbers: &mut NameNumbers,
-    g: &EnvGraph,
-    name: &Text,
-    env: EnvId,
-    levels: u32,
-) -> Result<(), NoMemory>
-    requires { HasEnv g.now env }
-{
+/// Adds the head of a structure.
+fn push_structure_head(alloc: Global, out: &mut Vec<u8>, name: &Text) -> Result<(), NoMemory> {
     push_parts(
         alloc,
         out,
@@ -68,13 +57,11 @@ fn push_inner(
             Part::Text(name.as_bytes()),
             Part::Text(b" : "),
         ],
-    )?;
-    push_env(alloc, out, numbers, g, env, levels)
+    )
 }
 
 /// Adds what an environment has between `sig` and `end`: structures, types and values, each in the byte order of their
 /// names. Of structures that lie deeper than so many levels `..` is told.
-#[cycle(push_env)]
 pub(crate) fn push_env(
     alloc: Global,
     out: &mut Vec<u8>,
@@ -92,7 +79,8 @@ pub(crate) fn push_env(
     let names = g.names_structure(env)?;
     for name in names.as_slice() {
         if let Some(inner) = g.find_structure(env, name)? {
-            push_inner(alloc, out, numbers, g, name, inner, levels - 1)?;
+            push_structure_head(alloc, out, name)?;
+            push_env(alloc, out, numbers, g, inner, levels - 1)?;
         }
     }
     push_types(alloc, out, numbers, g, env)?;
