@@ -1,7 +1,10 @@
 //! Units are read, made bare and elaborated.
 
+ghost use Rattle.std.specs.Prelude.{◌≡◌, []};
+
 use crate::kind::Kind;
 use crate::shown::lines_of;
+use basis_laws::units_begin_with_the_basis;
 use case_texts::refusal;
 use cm_base::{Fault, NoMemory, Options, Text};
 use derived_forms::to_bare;
@@ -24,7 +27,7 @@ fn bare_unit(alloc: Global, file: &Text, source: &Text) -> Result<BareUnit, Faul
     to_bare(alloc, &unit)
 }
 
-/// What is answered to a unit of this name that is elaborated in a graph of nothing.
+/// What is answered to a unit of this name that is elaborated in a graph of nothing, over a table of nothing.
 fn elaborated_in(
     alloc: Global,
     g: &mut EnvGraph,
@@ -33,7 +36,10 @@ fn elaborated_in(
     options: Options,
     name: &Text,
     unit: &BareUnit,
-) -> Result<Vec<u8>, NoMemory> {
+) -> Result<Vec<u8>, NoMemory>
+    requires { t.old.trail ≡ [] }
+{
+    units_begin_with_the_basis();
     g.enter(name)?;
     let given = g.empty_top()?;
     match elab_unit(g, t, unit, given, options) {
