@@ -1,5 +1,5 @@
 -- Names that are bound in order, and what may stand beside them.
-use Rattle.std.proofs.Common.{◌≡◌, ℕ, suc, List, [], ◌∷◌, ◌++◌, refl, sym, ap, ap₂, ◌∙◌, subst, Bool, true, false, ◌&&◌, ◌||◌, eqb, ltb, not}
+use Rattle.std.proofs.Common.{◌≡◌, ℕ, suc, List, [], ◌∷◌, ◌++◌, refl, sym, ap, ap₂, ◌∙◌, subst, Bool, true, false, ◌&&◌, ◌||◌, eqb, ltb, not, nat_eq}
 use Rattle.std.specs.Prelude.{◌↔◌}
 use Rattle.std.specs.Cmp.Lexicographic.{nat_list_eq_equiv, same_text as same_bytes}
 use Rattle.unification.proofs.Walking.{or_right, or_either, and_left}
@@ -10,7 +10,7 @@ use Rattle.semantic_objects.specs.declared.symbol.Symbol.{Symbol}
 use Rattle.semantic_objects.specs.declared.symbol.Symbol.TheVariants as symbol
 use Rattle.semantic_objects.specs.Symbols.{same_text, same_owner, same_name}
 use Rattle.semantic_objects.proofs.Same.{text_is, text_same}
-use Rattle.name_trails.specs.Trails.{same}
+use lib.Pointwise.{pointwise}
 use Rattle.realisation.specs.Names.{is_listed}
 use Rattle.static_semantics.specs.DatatypeInference.{same_as_home}
 use Rattle.static_semantics.specs.Holding.{AllItems}
@@ -19,15 +19,15 @@ use Rattle.unit_laws.specs.Parts.{allowing, AreBoundFrom}
 
 -- ---- owners
 
-pub texts_alike : (a b : List ℕ) → same_text a b ≡ same b a
-texts_alike a b = by_tests (same_text a b) (same b a) refl refl
+pub texts_alike : (a b : List ℕ) → same_text a b ≡ pointwise nat_eq b a
+texts_alike a b = by_tests (same_text a b) (pointwise nat_eq b a) refl refl
   where
-    by_tests : (c d : Bool) → same_text a b ≡ c → same b a ≡ d → c ≡ d
+    by_tests : (c d : Bool) → same_text a b ≡ c → pointwise nat_eq b a ≡ d → c ≡ d
     by_tests true true e f = refl
     by_tests false false e f = refl
     by_tests true false e f =
-        let k : same a a ≡ true = nat_list_eq_equiv.refl a in
-        let l : same a a ≡ false = subst (λ z. same z a ≡ false) (sym (text_is a b e)) f in
+        let k : pointwise nat_eq a a ≡ true = nat_list_eq_equiv.refl a in
+        let l : pointwise nat_eq a a ≡ false = subst (λ z. pointwise nat_eq z a ≡ false) (sym (text_is a b e)) f in
         absurd (cc)
     by_tests false true e f =
         let k : same_text a a ≡ true = text_same a in

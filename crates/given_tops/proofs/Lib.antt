@@ -1,7 +1,7 @@
 pub mod Holding
-pub mod Entries
+pub mod Constructors
 pub mod Rows
 pub mod Walking
 pub mod Bound
-pub mod Tops
+pub mod Conditions
 pub mod Knowing

@@ -90,12 +90,7 @@ fn fields_hold(
 }
 
 /// The answer for what stands at an id, from those for nodes.
-fn id_holds(
-    t: &TypeTable,
-    limits: &Limits,
-    held: &List<bool>,
-    id: TyId,
-) -> Result<bool, NoMemory>
+fn id_holds(t: &TypeTable, limits: &Limits, held: &List<bool>, id: TyId) -> Result<bool, NoMemory>
     requires has { Has t.now id }
     requires told { AreTold t.now (nodes_of limits.now) held.now }
     ensures { IfOk result (Says t.now (nodes_of limits.now) id) }

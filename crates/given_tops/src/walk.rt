@@ -82,12 +82,7 @@ fn tables_rise(alloc: Global, tables: &EnvTables) -> Result<(), NoMemory>
 }
 
 /// The environment at a place is done, as all its parts are. Another one is refused as want of memory is.
-fn leave(
-    g: &EnvGraph,
-    limits: &Limits,
-    place: usize,
-    done: &mut Images,
-) -> Result<(), NoMemory>
+fn leave(g: &EnvGraph, limits: &Limits, place: usize, done: &mut Images) -> Result<(), NoMemory>
     requires { AreFit (nodes_of limits.now) g.now.items done.old }
     ensures { OnOk result (AreFit (nodes_of limits.now) g.now.items done.new) }
 {
@@ -218,12 +213,7 @@ fn whole(g: &EnvGraph, limits: &Limits, root: usize, done: &Images) -> Result<bo
 }
 
 /// Whether what stands at a place may be given. What isn't done after 2^64 - 1 steps is refused as want of memory is.
-fn walk(
-    g: &EnvGraph,
-    limits: &Limits,
-    root: usize,
-    done: &mut Images,
-) -> Result<bool, NoMemory>
+fn walk(g: &EnvGraph, limits: &Limits, root: usize, done: &mut Images) -> Result<bool, NoMemory>
     requires { AreFit (nodes_of limits.now) g.now.items done.old }
     ensures fit { OnOk result (AreFit (nodes_of limits.now) g.now.items done.new) }
     ensures fits { IfOk result (λ fits. IsTrue fits ↔ ItemFits (nodes_of limits.now) (at g.now.items root)) }

@@ -160,24 +160,42 @@ module _ (home : List ℕ) (k : ℕ) where
   top_rises : (top : Top) → TopFits (below_number home k) top → RisingTop top
   top_rises top h = record {
     env = h.env.rises;
-    signatures = (h.signatures.0, rows_more (SignatureFits (below_number home k)) RisingSignature top.signatures
-        signature_rises h.signatures.1);
-    functors = (h.functors.0, rows_more (FunctorFits (below_number home k)) RisingFunctor top.functors functor_rises
-        h.functors.1);
-    funsigs = (h.funsigs.0, rows_more (FunctorFits (below_number home k)) RisingFunctor top.funsigs functor_rises
-        h.funsigs.1);
+    signatures = (
+      h.signatures.0,
+      rows_more (SignatureFits (below_number home k)) RisingSignature top.signatures
+          signature_rises h.signatures.1,
+    );
+    functors = (
+      h.functors.0,
+      rows_more (FunctorFits (below_number home k)) RisingFunctor top.functors functor_rises
+          h.functors.1,
+    );
+    funsigs = (
+      h.funsigs.0,
+      rows_more (FunctorFits (below_number home k)) RisingFunctor top.funsigs functor_rises
+          h.funsigs.1,
+    );
   }
 
   fits_top : (top : Top) → TopOf (below_number home k) top → RisingTop top → IsClosedTop top
       → TopFits (below_number home k) top
   fits_top top h r c = record {
     env = fits_env (below_number home k) top.env h.env c.env r.env;
-    signatures = (r.signatures.0, rows_three (SignatureOf (below_number home k)) IsClosedSignature RisingSignature
-        (SignatureFits (below_number home k)) top.signatures fits_signature h.signatures c.signatures r.signatures.1);
-    functors = (r.functors.0, rows_three (FunctorOf (below_number home k)) IsClosedFunctor RisingFunctor
-        (FunctorFits (below_number home k)) top.functors fits_functor h.functors c.functors r.functors.1);
-    funsigs = (r.funsigs.0, rows_three (FunctorOf (below_number home k)) IsClosedFunctor RisingFunctor
-        (FunctorFits (below_number home k)) top.funsigs fits_functor h.funsigs c.funsigs r.funsigs.1);
+    signatures = (
+      r.signatures.0,
+      rows_three (SignatureOf (below_number home k)) IsClosedSignature RisingSignature
+          (SignatureFits (below_number home k)) top.signatures fits_signature h.signatures c.signatures r.signatures.1,
+    );
+    functors = (
+      r.functors.0,
+      rows_three (FunctorOf (below_number home k)) IsClosedFunctor RisingFunctor
+          (FunctorFits (below_number home k)) top.functors fits_functor h.functors c.functors r.functors.1,
+    );
+    funsigs = (
+      r.funsigs.0,
+      rows_three (FunctorOf (below_number home k)) IsClosedFunctor RisingFunctor
+          (FunctorFits (below_number home k)) top.funsigs fits_functor h.funsigs c.funsigs r.funsigs.1,
+    );
   }
 
   pub top_is : (top : Top) (b : Bool) → (b ≡ true) ↔ TopFits (below_number home k) top
