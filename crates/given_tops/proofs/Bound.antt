@@ -2,7 +2,7 @@
 use Rattle.std.proofs.Common.{◌≡◌, ℕ, suc, List, [], ◌∷◌, ◌++◌, refl, sym, ap, ap₂, ◌∙◌, subst, Bool, true, false, ◌&&◌, ◌||◌, eqb, ltb, not, nat_eq}
 use Rattle.std.specs.Prelude.{◌↔◌}
 use Rattle.std.specs.Cmp.Lexicographic.{nat_list_eq_equiv, same_text as same_bytes}
-use Rattle.unification.proofs.Walking.{or_right, or_either, and_left}
+use Rattle.unification.proofs.Walking.{not_both, or_right, or_either, and_left}
 use Rattle.semantic_objects.specs.declared.name.Owner.{Owner}
 use Rattle.semantic_objects.specs.declared.name.Owner.TheVariants as owner
 use Rattle.semantic_objects.specs.declared.name.TyName.{TyName}
@@ -53,13 +53,11 @@ bound_next n rest more all name first b e s t h = (
 pub bound_fails : (n : ℕ) (rest more all : List TyName) (name : TyName) (first : ℕ) (b : Bool) → rest ≡ name ∷ more
     → (b ≡ true) ↔ AreBoundFrom n (name ∷ []) → b ≡ false → AreBoundFrom n rest ↔ AreBoundFrom first all
     → AreBoundFrom first all → ⊥
-bound_fails n rest more all name first b e s f h k = refute (s.1 (front (subst (AreBoundFrom n) e (h.1 k))))
+bound_fails n rest more all name first b e s f h k =
+    not_both b f (s.1 (front (subst (AreBoundFrom n) e (h.1 k))))
   where
     front : AreBoundFrom n (name ∷ more) → AreBoundFrom n (name ∷ [])
     front l = (l.0, l.1, tt)
-
-    refute : b ≡ true → ⊥
-    refute t = absurd (cc)
 
 -- ---- what is bound may stand anyway
 

@@ -1,6 +1,7 @@
 -- What may be given is what the rules ask of it.
 use Rattle.std.proofs.Common.{◌≡◌, ℕ, List, [], ◌∷◌, ◌++◌, length, map, drop, refl, sym, ap, ◌∙◌, subst, Bool, true, false, ◌≤◌}
 use Rattle.std.specs.Prelude.{◌↔◌}
+use Rattle.unification.proofs.Walking.{not_both}
 use Rattle.env_parts.proofs.Tabling.{drop_past}
 use Rattle.semantic_objects.specs.declared.entry.ConEntry.{ConEntry}
 use Rattle.semantic_objects.specs.declared.entry.TypeFn.{TypeFn}
@@ -223,7 +224,7 @@ pub signature_not : (q : Nodes) (items : List Item) (place : ℕ) (sig : SigNode
 signature_not q items place sig a s o f =
     subst (λ x. (false ≡ true) ↔ SignatureFits q (as_signature x)) (sym s.is) (
       λ t. absurd (cc),
-      λ h. let t : a ≡ true = o.1 h.bound in absurd (cc),
+      λ h. absurd (not_both a f (o.1 h.bound)),
     )
 
 abbrev pub BindsInOrder : FunNode → Type 0
@@ -246,7 +247,7 @@ pub functor_unbound : (q : Nodes) (items : List Item) (place : ℕ) (fun : FunNo
 functor_unbound q items place fun a s o f =
     subst (λ x. (false ≡ true) ↔ FunctorFits q (as_functor x)) (sym s.is) (
       λ t. absurd (cc),
-      λ h. let t : a ≡ true = o.1 (h.bound, h.further) in absurd (cc),
+      λ h. absurd (not_both a f (o.1 (h.bound, h.further))),
     )
 
 pub functor_not : (q : Nodes) (items : List Item) (place : ℕ) (fun : FunNode) (p : Bool)
@@ -255,7 +256,7 @@ pub functor_not : (q : Nodes) (items : List Item) (place : ℕ) (fun : FunNode) 
 functor_not q items place fun p s e f =
     subst (λ x. (false ≡ true) ↔ FunctorFits q (as_functor x)) (sym s.is) (
       λ t. absurd (cc),
-      λ h. let t : p ≡ true = e.1 h.param in absurd (cc),
+      λ h. absurd (not_both p f (e.1 h.param)),
     )
 
 -- ---- tables of places
@@ -271,7 +272,7 @@ module _ (P : ℕ → Type 0) where
   pub place_fails : (rest more all : List ℕ) (place : ℕ) (b : Bool) → rest ≡ place ∷ more → (b ≡ true) ↔ P place
       → b ≡ false → AllItems P rest ↔ AllItems P all → AllItems P all → ⊥
   place_fails rest more all place b e s f h k =
-      let t : b ≡ true = s.1 (subst (AllItems P) e (h.1 k)).0 in absurd (cc)
+      not_both b f (s.1 (subst (AllItems P) e (h.1 k)).0)
 
   pub places_end : (all items : List ℕ) (k : ℕ) → items ≡ all → length items ≤ k
       → AllItems P (drop k all) ↔ AllItems P all → AllItems P all

@@ -4,6 +4,7 @@ use Rattle.std.specs.Prelude.{◌↔◌}
 use Rattle.semantic_objects.specs.declared.name.TyId.{TyId}
 use Rattle.semantic_objects.specs.declared.name.TyId.TheVariants as id
 use Rattle.semantic_objects.specs.declared.symbol.Symbol.{Symbol}
+use Rattle.unification.proofs.Walking.{not_both}
 use Rattle.unification.specs.Types.{Ty, Types, size, size_all}
 use Rattle.type_nodes.specs.Tables.{Table, state, whole, whole_all}
 use Rattle.sml_types.specs.Looking.{LooksVariable}
@@ -60,13 +61,10 @@ module _ (t : Table) (q : Nodes) where
 
   pub made_not : (a : TyId) (c : Symbol) (ids : List TyId) → whole t a ≡ Ty.Made c (whole_all t ids)
       → q c (count_types (whole_all t ids)) ≡ false → Says t q a false
-  made_not a c ids e s k = refute (front (subst (TyOf q) e k))
+  made_not a c ids e s k = not_both (q c (count_types (whole_all t ids))) s (front (subst (TyOf q) e k))
     where
       front : TyOf q (Ty.Made c (whole_all t ids)) → q c (count_types (whole_all t ids)) ≡ true
       front w = w.0
-
-      refute : q c (count_types (whole_all t ids)) ≡ true → ⊥
-      refute f = absurd (cc)
 
   -- ---- answers one after another
 

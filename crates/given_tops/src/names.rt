@@ -1,6 +1,6 @@
 //! Type names of a unit with numbers below another.
 
-ghost use Rattle.std.specs.Prelude.{◌≡◌, ◌↔◌, ◌≤◌, ◌^◌, IsTrue, length};
+ghost use Rattle.std.specs.Prelude.{◌≡◌, ◌↔◌, ◌≤◌, ◌^◌, [], ◌∷◌, IsTrue};
 ghost use Rattle.semantic_objects.specs.declared.symbol.Symbol.TheVariants as symbol;
 ghost use Rattle.static_semantics.specs.DatatypeInference.{same_as_home};
 ghost use Rattle.unit_laws.specs.Parts.{AreBoundFrom};
@@ -52,7 +52,7 @@ fn is_bound_as(name: &TyName, number: u64) -> bool
 {
     match name.owner {
         Owner::Bound => name.number == number,
-        _ => false,
+        Owner::Basis | Owner::Unit(_) => false,
     }
 }
 

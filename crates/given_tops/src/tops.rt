@@ -50,7 +50,8 @@ fn binds_in_order(fun: &FunNode) -> bool
     ensures { IsTrue result
         ↔ (AreBoundFrom 0 fun.now.bound × AreBoundFrom (length fun.now.bound) fun.now.further) }
 {
-    are_bound_from(0, &fun.bound) && are_bound_from(fun.bound.len(), &fun.further)
+    let count = fun.bound.as_slice().len();
+    are_bound_from(0, &fun.bound) && are_bound_from(count, &fun.further)
 }
 
 /// Whether the functor, or the signature of functors, at a place may be given.
