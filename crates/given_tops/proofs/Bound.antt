@@ -36,12 +36,12 @@ texts_alike a b = by_tests (same_text a b) (pointwise nat_eq b a) refl refl
 
 -- ---- one after another
 
-pub bound_next : (n : ℕ) (rest more all : List TyName) (name : TyName) (first : ℕ) (b : Bool) → rest ≡ name ∷ more
-    → (b ≡ true) ↔ AreBoundFrom n (name ∷ []) → b ≡ true → AreBoundFrom n rest ↔ AreBoundFrom first all
-    → AreBoundFrom (suc n) more ↔ AreBoundFrom first all
-bound_next n rest more all name first b e s t h = (
-  λ k. h.0 (subst (AreBoundFrom n) (sym e) (with_more (s.0 t) k)),
-  λ k. behind (subst (AreBoundFrom n) e (h.1 k)),
+pub bound_next : (n m : ℕ) (rest more all : List TyName) (name : TyName) (first : ℕ) (b : Bool) → m ≡ suc n
+    → rest ≡ name ∷ more → (b ≡ true) ↔ AreBoundFrom n (name ∷ []) → b ≡ true
+    → AreBoundFrom n rest ↔ AreBoundFrom first all → AreBoundFrom m more ↔ AreBoundFrom first all
+bound_next n m rest more all name first b i e s t h = (
+  λ k. h.0 (subst (AreBoundFrom n) (sym e) (with_more (s.0 t) (subst (λ z. AreBoundFrom z more) i k))),
+  λ k. subst (λ z. AreBoundFrom z more) (sym i) (behind (subst (AreBoundFrom n) e (h.1 k))),
 )
   where
     with_more : AreBoundFrom n (name ∷ []) → AreBoundFrom (suc n) more → AreBoundFrom n (name ∷ more)
@@ -58,6 +58,10 @@ bound_fails n rest more all name first b e s f h k =
   where
     front : AreBoundFrom n (name ∷ more) → AreBoundFrom n (name ∷ [])
     front l = (l.0, l.1, tt)
+
+pub bound_end : (n : ℕ) (rest all : List TyName) (first : ℕ) → rest ≡ [] → AreBoundFrom n rest ↔ AreBoundFrom first all
+    → AreBoundFrom first all
+bound_end n rest all first e h = h.0 (subst (AreBoundFrom n) (sym e) tt)
 
 -- ---- what is bound may stand anyway
 

@@ -134,6 +134,17 @@ node_is l k made (node.Bound i) = refl
 node_is l k made (node.Free n) = refl
 node_is l k made (node.Made c ps) = ap (λ b. may_stand l c && b) (at_is l k made ps)
 
+pub made_fits : (l : Limits) (k : ℕ) (held : List Bool) (x : TypeNode) (c : Symbol) (ps : List ℕ) (m b : Bool)
+    → x ≡ node.Made c ps → m ≡ may_stand l c → m ≡ true → b ≡ all_at (fits l k nowhere) held ps
+    → b ≡ node_fits l k held x
+made_fits l k held x c ps m b e f t h =
+    h ∙ sym (ap (λ z. z && all_at (fits l k nowhere) held ps) (sym f ∙ t)) ∙ ap (node_fits l k held) (sym e)
+
+pub made_not : (l : Limits) (k : ℕ) (held : List Bool) (x : TypeNode) (c : Symbol) (ps : List ℕ) (m : Bool)
+    → x ≡ node.Made c ps → m ≡ may_stand l c → m ≡ false → false ≡ node_fits l k held x
+made_not l k held x c ps m e f t =
+    sym (ap (node_fits l k held) e ∙ ap (λ z. z && all_at (fits l k nowhere) held ps) (sym f ∙ t))
+
 -- the answers for nodes in their order
 abbrev pub held_after : Limits → ℕ → List Bool → List TypeNode → List Bool
 held_after l k held [] = held

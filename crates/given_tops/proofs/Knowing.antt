@@ -1,11 +1,14 @@
 -- What stands for the variables of a table, by the answers for its nodes.
-use Rattle.std.proofs.Common.{◌≡◌, ℕ, zero, suc, ◌+◌, ◌<◌, ◌≤◌, List, [], ◌∷◌, ◌++◌, length, drop, refl, sym, ap, ap₂, ◌∙◌, subst, Some, Bool, true, false, arith, ◌⊎◌, inl, inr, slice_get}
+use Rattle.std.proofs.Common.{◌≡◌, ℕ, zero, suc, ◌+◌, ◌<◌, ◌≤◌, List, [], ◌∷◌, ◌++◌, length, drop, refl, sym, ap, ap₂, ◌∙◌, subst, Some, Bool, true, false, arith, ◌⊎◌, inl, inr, slice_get, eqb, ltb}
 use Rattle.std.specs.Prelude.{◌↔◌}
+use Rattle.std.proofs.lemmas.Bool.{eqb-true, eqb-false, ltb-true, ltb-false}
+use Rattle.std.proofs.lemmas.List.{length-append}
 use Rattle.semantic_objects.specs.declared.name.TyId.{TyId}
 use Rattle.semantic_objects.specs.declared.name.TyId.TheVariants as id
 use Rattle.semantic_objects.specs.declared.symbol.Symbol.{Symbol}
 use Rattle.unification.proofs.Walking.{not_both}
 use Rattle.unification.specs.Types.{Ty, Types, size, size_all}
+use Rattle.type_nodes.specs.Keeping.{IsKept}
 use Rattle.type_nodes.specs.Tables.{Table, state, whole, whole_all}
 use Rattle.sml_types.specs.Looking.{LooksVariable}
 use Rattle.inference_laws.specs.Nodes.{Nodes, TyOf, TysOf, StateOf, count_types}
@@ -103,3 +106,64 @@ module _ (t : Table) (q : Nodes) where
 
   pub state_not : (v : ℕ) → Says t q (id.Variable v) false → StateOf q (state t) → ⊥
   state_not v h s = h (s v)
+
+  sure_beyond : (v : ℕ) → (state t).stands v ≡ Ty.Var v → IsSure t q (id.Variable v)
+  sure_beyond v e n up le = subst (TyOf q) (sym e) tt
+
+  -- ---- one after another
+
+  pub args_next : (args rest more : List TyId) (a : TyId) (part : Bool) → rest ≡ a ∷ more → SaysPart t q a part
+      → part ≡ true → ((b : Bool) → SaysAll t q rest b → SaysAll t q args b) → (b : Bool) → SaysAll t q more b
+      → SaysAll t q args b
+  args_next args rest more a part e s f h b k =
+      h b (subst (λ z. SaysAll t q z b) (sym e) (says_more a more b (subst (SaysPart t q a) f s) k))
+
+  pub args_fail : (args rest more : List TyId) (a : TyId) (part : Bool) → rest ≡ a ∷ more → SaysPart t q a part
+      → part ≡ false → ((b : Bool) → SaysAll t q rest b → SaysAll t q args b) → SaysAll t q args false
+  args_fail args rest more a part e s f h =
+      h false (subst (λ z. SaysAll t q z false) (sym e) (says_not a more (subst (SaysPart t q a) f s)))
+
+  pub args_end : (args rest : List TyId) → rest ≡ [] → ((b : Bool) → SaysAll t q rest b → SaysAll t q args b)
+      → SaysAll t q args true
+  args_end args rest e h = h true (subst (λ z. SaysAll t q z true) (sym e) tt)
+
+  pub two_say : (a c : TyId) (first b : Bool) → SaysPart t q a first → first ≡ true → SaysPart t q c b
+      → SaysAll t q (a ∷ c ∷ []) b
+  two_say a c first b s e k = says_more a (c ∷ []) b (subst (SaysPart t q a) e s) (says_one c b k)
+
+  pub one_says_not : (a c : TyId) (first : Bool) → SaysPart t q a first → first ≡ false
+      → SaysAll t q (a ∷ c ∷ []) false
+  one_says_not a c first s e = says_not a (c ∷ []) (subst (SaysPart t q a) e s)
+
+  pub held_next : (held new : List Bool) (at : ℕ) (b : Bool) → new ≡ held ++ b ∷ [] → AreTold t q held
+      → length held ≡ at → Says t q (id.Made at) b → AreTold t q new
+  held_next held new at b e h k s = subst (AreTold t q) (sym e) (told_more held at b h k s)
+
+  pub held_counted : (held new : List Bool) (at : ℕ) (b : Bool) → new ≡ held ++ b ∷ [] → length held ≡ at
+      → length new ≡ at + 1
+  held_counted held new at b e k =
+      let f : length (held ++ b ∷ []) ≡ length held + 1 = length-append held (b ∷ []) in
+      ap length e ∙ f ∙ ap (λ n. n + 1) k
+
+  pub sure_next : (at : ℕ) (b : Bool) → ((v : ℕ) → v < at → IsSure t q (id.Variable v)) → Says t q (id.Variable at) b
+      → b ≡ true → (v : ℕ) → v < at + 1 → IsSure t q (id.Variable v)
+  sure_next at b h s e v lt = by_place (eqb v at) refl
+    where
+      by_place : (same : Bool) → eqb v at ≡ same → IsSure t q (id.Variable v)
+      by_place true i =
+          subst (λ n. IsSure t q (id.Variable n)) (sym (eqb-true v at i)) (subst (Says t q (id.Variable at)) e s)
+      by_place false i = h v (let n : v ≡ at → ⊥ = eqb-false v at i in omega (arith, lt, n))
+
+  pub all_sure : (at count : ℕ) → IsKept t → count ≡ length t.births → count ≤ at
+      → ((v : ℕ) → v < at → IsSure t q (id.Variable v)) → StateOf q (state t)
+  all_sure at count k e le h = state_of sure
+    where
+      sure : (v : ℕ) → IsSure t q (id.Variable v)
+      sure v = by_place (ltb v at) refl
+        where
+          by_place : (below : Bool) → ltb v at ≡ below → IsSure t q (id.Variable v)
+          by_place true i = h v (ltb-true v at i)
+          by_place false i =
+              let l : at ≤ v = ltb-false v at i in
+              let n : (state t).next ≡ count = k.next ∙ sym e in
+              sure_beyond v (k.fit.beyond v (omega (arith, l, le, n)))

@@ -1,3 +1,4 @@
+pub mod Looping
 pub mod Holding
 pub mod Constructors
 pub mod Rows
