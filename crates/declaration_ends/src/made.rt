@@ -45,7 +45,7 @@ fn is_large_value(
             if !t.has(id) {
                 return Err(NoMemory);
             }
-            let counted = t.tree_size(id)?;
+            let counted = t.sized(id)?;
             Ok(counted > 65_536)
         }
     }

@@ -47,14 +47,22 @@ pub fn unify_at(
     }
 }
 
-/// Answers the type of a phrase, or 38 at it where it has more than 65,536 nodes by now.
-pub fn sized(alloc: Global, g: &EnvGraph, t: &TypeTable, at: At, id: TyId) -> Result<TyId, Fault>
-    requires { Has t.now id }
+/// Answers the type of a phrase, or 38 at it where it has more than 65,536 nodes by now. The table stands for what it did;
+/// the next look at the type needs no walk until something is put in for a variable of it.
+pub fn sized(
+    alloc: Global,
+    g: &EnvGraph,
+    t: &mut TypeTable,
+    at: At,
+    id: TyId,
+) -> Result<TyId, Fault>
+    requires { Has t.old id }
     ensures answer { Answers
-        (inferring.sized (home_scope g.now) at (type_of t.now id) (progress t.now g.now)) (λ (same : TyId). tt) result }
+        (inferring.sized (home_scope g.now) at (type_of t.old id) (progress t.old g.now)) (λ (same : TyId). tt) result }
     ensures same { IfOk result (λ same. same ≡ id) }
+    ensures table { t.new ≡ t.old }
 {
-    if t.tree_size(id)? > 65_536 {
+    if t.sized(id)? > 65_536 {
         return Err(refuse(alloc, g, 38, at));
     }
     Ok(id)

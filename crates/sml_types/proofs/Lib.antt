@@ -5,6 +5,7 @@ pub mod Solving
 pub mod Heights
 pub mod Pairing
 pub mod Sizing
+pub mod Weighing
 pub mod Looking
 pub mod Sides
 pub mod Sorting

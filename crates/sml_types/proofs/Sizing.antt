@@ -25,11 +25,11 @@ pub have_front : (t : Table) (xs ys : List TyId) → HaveAll t (xs ++ ys) → Ha
 have_front t [] ys h = (tt, h)
 have_front t (a ∷ xs) ys h = (let k = have_front t xs ys h.1 in ((h.0, k.0), k.1))
 
-sizes_all : (t : Table) (ids : List TyId) → sizes t ids ≡ size_all (whole_all t ids)
+pub sizes_all : (t : Table) (ids : List TyId) → sizes t ids ≡ size_all (whole_all t ids)
 sizes_all t [] = refl
 sizes_all t (a ∷ ids) = ap (λ n. size (whole t a) + n) (sizes_all t ids)
 
-have_each : (t : Table) (ids : List TyId) → ((i : ℕ) (a : TyId) → slice_get ids i ≡ Some a → Has t a) → HaveAll t ids
+pub have_each : (t : Table) (ids : List TyId) → ((i : ℕ) (a : TyId) → slice_get ids i ≡ Some a → Has t a) → HaveAll t ids
 have_each t [] h = tt
 have_each t (a ∷ ids) h = (h 0 a refl, have_each t ids (λ i b e. h (suc i) b e))
 
@@ -48,7 +48,7 @@ counted_fixed t a i before f left k e g b h =
     let m : 1 ≤ size (whole t a) = size_some (whole t a) in
     record { same = omega (arith, n); less = omega (arith, m); all = h; within = omega arith }
 
-subst_have : (t : Table) (new left parts : List TyId) → new ≡ left ++ parts → HaveAll t (left ++ parts) → HaveAll t new
+pub subst_have : (t : Table) (new left parts : List TyId) → new ≡ left ++ parts → HaveAll t (left ++ parts) → HaveAll t new
 subst_have t new left parts e h = subst (HaveAll t) (sym e) h
 
 pub counted_node : (t : Table) (a : TyId) (i before : ℕ) (x : Node) (left new : List TyId) → IsKept t → whole t (id.Made i) ≡ whole t a

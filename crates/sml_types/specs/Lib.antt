@@ -5,5 +5,6 @@ pub mod Frames
 pub mod Occurring
 pub mod Requiring
 pub mod Sizing
+pub mod Weighing
 pub mod Pairs
 pub mod Covering

@@ -15,6 +15,7 @@ mod require;
 mod size;
 mod table;
 mod unify;
+mod weigh;
 
 pub use fault::TypeFault;
 pub use look::{Look, LookField};

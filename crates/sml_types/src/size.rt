@@ -19,7 +19,7 @@ fn more(counted: u32, by: u32) -> u32
 }
 
 /// Adds ids behind others.
-fn add_all(ids: &mut List<TyId>, more: &List<TyId>) -> Result<(), NoMemory>
+pub(crate) fn add_all(ids: &mut List<TyId>, more: &List<TyId>) -> Result<(), NoMemory>
     ensures { OnOk result (ids.new ≡ ids.old ++ more.now) }
 {
     for id in more.as_slice() {

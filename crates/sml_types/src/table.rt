@@ -23,6 +23,7 @@ use crate::look::{Look, copied, fields_of, look_at};
 use crate::record::in_order;
 use crate::size::tree_size;
 use crate::unify::unify_below;
+use crate::weigh::weigh;
 use cm_base::{List, NoMemory, Text};
 use semantic_objects::{Scheme, Symbol, TyId, TyName};
 use std::alloc::Global;
@@ -179,6 +180,16 @@ impl TypeTable {
         ensures { IfOk result (λ count. count ≡ capped (size (whole self.now id))) }
     {
         tree_size(&self.bindings, self.alloc, id)
+    }
+
+    /// The same. Where a walk was needed its answer is kept, so that the next look at this type or at one over it needs none
+    /// until something is put in for a variable of it.
+    pub fn sized(&mut self, id: TyId) -> Result<u32, NoMemory>
+        requires { Has self.old id }
+        ensures size { IfOk result (λ count. count ≡ capped (size (whole self.old id))) }
+        ensures same { self.new ≡ self.old }
+    {
+        Ok(weigh(&mut self.bindings, self.alloc, id)?)
     }
 
     /// Makes what two ids stand for one, or leaves the table as it is.

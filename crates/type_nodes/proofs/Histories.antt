@@ -232,7 +232,7 @@ state_variable t b h =
     ∙ ap₂ (λ z f. cond (eqb n z) b.rigid (f n)) (sym k.next) (sym k.rigid)))
 
 -- a node more
-bound_has : (t : Table) (i v : ℕ) (a : TyId) → IsHistory t → slice_get t.trail i ≡ Some (entry.Bound v a) → Has t a
+pub bound_has : (t : Table) (i v : ℕ) (a : TyId) → IsHistory t → slice_get t.trail i ≡ Some (entry.Bound v a) → Has t a
 bound_has t i v a h e = (let m : MayStand (cut i t) v a = h.follows i (entry.Bound v a) e in m.has)
 
 pub state_node : (t : Table) (x : Node) → IsHistory t → state (with_node_of x t) ≡ state t

@@ -4,4 +4,5 @@ pub mod Playing
 pub mod Binding
 pub mod Histories
 pub mod Cells
+pub mod Stamps
 pub mod Ways

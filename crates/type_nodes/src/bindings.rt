@@ -1,19 +1,22 @@
 //! Variables and nodes with what was put in for variables.
 
-ghost use Rattle.std.specs.Prelude.{◌≡◌, ◌<◌, ◌≤◌, ◌-◌, [], length, slice_get, Some, OnOk, IfOk, IfSome, OnErr};
+ghost use Rattle.std.specs.Prelude.{◌≡◌, ◌<◌, ◌≤◌, ◌-◌, [], length, drop, slice_get, true, Some, OnOk, IfOk, IfSome, OnErr};
 ghost use Rattle.type_nodes.specs.Nodes.{IsNode};
 ghost use Rattle.type_nodes.specs.Facts.{facts_of};
 ghost use Rattle.unification.specs.Instances.{with_variable};
 ghost use Rattle.type_nodes.specs.Tables.{Has, store_of, type_of, state, whole, LinkOf, LinkedTo, IsEnd, with_variable_of, with_node_of, with_entry, cut, IsFrontOf, bound_in, marked_state};
+ghost use Rattle.type_nodes.specs.Stamps.{Weighs, Holds, AreAbove};
 ghost use Rattle.type_nodes.specs.Keeping.{MayStand, MayMark, IsKept, IsHistory, last_variable, links_without, marks_without};
 
 use crate::both::push_both;
 use crate::entry::Entry;
 use crate::facts::Facts;
+use crate::kept::{keep_at, kept_at};
 use crate::mark::Mark;
 use crate::node::{Birth, Node};
 use crate::nodes::TypeNodes;
-use crate::way::{Way, next_era, set_way, way_at};
+use crate::stamp::{Stamp, Weight, are_above_since};
+use crate::way::{Way, next_era};
 use cm_base::NoMemory;
 use semantic_objects::TyId;
 use std::alloc::Global;
@@ -28,7 +31,9 @@ pub struct TypeBindings {
     marks: Vec<bool>,
     trail: Vec<Entry>,
     ways: Vec<Option<Way>>,
+    stamps: Vec<Option<Stamp>>,
     era: usize,
+    cuts: usize,
 }
 
 impl Model for TypeBindings {
@@ -40,7 +45,7 @@ impl Model for TypeBindings {
     ghost view = { λ t. record { births = t.types.births; nodes = t.types.nodes; trail = t.trail.items } };
 
     ghost invariant = { λ t. IsShortened (record { births = t.types.births; nodes = t.types.nodes; trail = t.trail.items })
-        t.links.items t.marks.items t.ways.items t.era };
+        t.links.items t.marks.items t.ways.items t.stamps.items t.era t.cuts };
 }
 
 /// Takes an entry back from the links and the marks.
@@ -67,7 +72,9 @@ impl TypeBindings {
             marks: Vec::new(alloc),
             trail: Vec::new(alloc),
             ways: Vec::new(alloc),
+            stamps: Vec::new(alloc),
             era: 0,
+            cuts: 0,
         }
     }
 
@@ -166,7 +173,7 @@ impl TypeBindings {
     fn way(&self, variable: usize) -> Option<TyId>
         ensures { IfSome result (LinkedTo self.now variable) }
     {
-        match way_at(&self.ways, variable) {
+        match kept_at(&self.ways, variable) {
             Some(way) => {
                 if way.era == self.era && self.era < usize::MAX {
                     Some(way.to)
@@ -187,7 +194,7 @@ impl TypeBindings {
     }
 
     /// What a variable comes to next, if anything stands for it.
-    fn link(&self, variable: usize) -> Option<TyId>
+    pub fn link(&self, variable: usize) -> Option<TyId>
         requires { variable < length self.now.births }
         ensures { LinkOf self.now variable result }
     {
@@ -203,7 +210,7 @@ impl TypeBindings {
         ensures { self.new ≡ self.old }
     {
         let era = self.era;
-        set_way(&mut self.ways, variable, Way { to, era });
+        keep_at(&mut self.ways, variable, Way { to, era });
     }
 
     /// What a variable comes to in two steps, if there are two. That is one step from now on.
@@ -240,6 +247,68 @@ impl TypeBindings {
             }
         }
         at
+    }
+
+    /// What was counted of a node's type, if no entry was taken back since.
+    fn stamp(&self, node: usize) -> Option<Stamp>
+        ensures { IfSome result (Holds self.now node) }
+    {
+        match kept_at(&self.stamps, node) {
+            Some(stamp) => {
+                if stamp.cuts == self.cuts && self.cuts < usize::MAX {
+                    Some(stamp)
+                } else {
+                    None
+                }
+            }
+            None => None,
+        }
+    }
+
+    /// The size of what a node stands for, where that was kept and nothing was put in since for a variable that may stand
+    /// in it. It looks at no more entries of the trail than the type has nodes.
+    pub fn weight(&self, node: usize) -> Option<Weight>
+        ensures { IfSome result (Weighs self.now node) }
+    {
+        match self.stamp(node) {
+            Some(stamp) => {
+                let weight = stamp.weight;
+                if self.is_steady(stamp.entries, weight) {
+                    Some(weight)
+                } else {
+                    None
+                }
+            }
+            None => None,
+        }
+    }
+
+    /// Whether nothing was put in since an entry for a variable that may stand in a type of this size.
+    fn is_steady(&self, entries: usize, weight: Weight) -> bool
+        ensures { result ≡ true → AreAbove weight.above (drop entries self.now.trail) }
+    {
+        are_above_since(
+            self.trail.as_slice(),
+            entries,
+            weight.above,
+            weight.size as usize,
+        )
+    }
+
+    /// Keeps the size of what a node stands for, if there is memory for it.
+    pub fn keep_weight(&mut self, node: usize, weight: Weight)
+        requires has { node < length self.old.nodes }
+        requires weighs { Weighs self.old node weight }
+        ensures { self.new ≡ self.old }
+    {
+        let cuts = self.cuts;
+        let entries = self.trail.len();
+        let stamp = Stamp {
+            weight,
+            entries,
+            cuts,
+        };
+        keep_at(&mut self.stamps, node, stamp);
     }
 
     /// Whether a variable is an equality variable.
@@ -297,7 +366,10 @@ impl TypeBindings {
     {
         if let Some(last) = self.trail.pop() {
             take_back(last, &mut self.links, &mut self.marks);
-            self.era = next_era(self.era);
+            let era = next_era(self.era);
+            let cuts = next_era(self.cuts);
+            self.era = era;
+            self.cuts = cuts;
         }
     }
 
@@ -334,6 +406,7 @@ impl TypeBindings {
         self.types.truncate(variables, to.nodes);
         self.links.truncate(variables);
         self.marks.truncate(variables);
+        self.stamps.truncate(to.nodes);
         self.era = next_era(self.era);
     }
 }

@@ -6,9 +6,11 @@ mod bindings;
 mod both;
 mod entry;
 mod facts;
+mod kept;
 mod mark;
 mod node;
 mod nodes;
+mod stamp;
 mod way;
 
 pub use bindings::TypeBindings;
@@ -17,3 +19,4 @@ pub use facts::{Facts, LARGE};
 pub use mark::Mark;
 pub use node::{Birth, Node};
 pub use nodes::TypeNodes;
+pub use stamp::Weight;

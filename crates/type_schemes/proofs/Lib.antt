@@ -2,6 +2,7 @@ pub mod Items
 pub mod Adding
 pub mod Reading
 pub mod Noticing
+pub mod Heading
 pub mod Reaching
 pub mod Numbering
 pub mod Flattening

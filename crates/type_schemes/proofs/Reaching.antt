@@ -21,6 +21,8 @@ use Rattle.type_schemes.specs.declared.places.Places.{Places}
 use Rattle.type_schemes.specs.declared.reach.Reached.{Reached}
 use Rattle.type_schemes.specs.declared.reach.Step.{Step}
 use Rattle.type_schemes.specs.declared.reach.Step.TheVariants as step
+use Rattle.type_schemes.specs.declared.heads.Heads.{Heads}
+use Rattle.type_schemes.specs.Heads.{AreHeads, IsHeadOf}
 use Rattle.type_schemes.specs.Schemes.{HaveAll}
 use Rattle.type_schemes.specs.Reaching.{place_in, variables_of, noticed_all, found, IsPassed, AllPassed, IsReached, MayBePlaceOf, StepHas, StepsHave, found_by, found_after, weight, weights, entered, parts_at, IsOpened, StepTaken}
 use Rattle.type_schemes.proofs.Items.{item_at}
@@ -62,6 +64,19 @@ variable_among (id.Variable w ∷ ids) v (suc p) h =
 variable_among (id.Made i ∷ ids) v zero h = absurd (cc)
 variable_among (id.Made i ∷ ids) v (suc p) h = variable_among ids v p h
 
+-- ---- nothing was reached
+
+pub reached_none : (t : Table) (r : Reached) → r.ids ≡ [] → ((n : ℕ) → place_in r.nodes n ≡ None)
+    → ((n : ℕ) → place_in r.variables n ≡ None) → AreHeads t r.heads → IsReached t r
+reached_none t r ids nodes variables heads = record {
+  ends = λ p a e. absurd (let k : slice_get {X = TyId} [] p ≡ Some a = sym (ap (λ z. slice_get z p) ids) ∙ e in cc);
+  nodes = λ i p e. absurd (let k : None ≡ Some p = sym (nodes i) ∙ e in cc);
+  variables = λ v p e. absurd (let k : None ≡ Some p = sym (variables v) ∙ e in cc);
+  passed = λ i p e. absurd (let k : None ≡ Some p = sym (nodes i) ∙ e in cc);
+  placed = λ v e. absurd (let k : is_among v [] ≡ true = sym (ap (λ z. is_among v (variables_of z)) ids) ∙ e in cc);
+  heads = heads;
+}
+
 -- ---- one more was reached
 
 passed_more : (t : Table) (old new : Reached) (a b : TyId) → new.ids ≡ old.ids ++ b ∷ [] → IsPassed t old a → IsPassed t new a
@@ -93,8 +108,8 @@ IsSet old new n place = (m : ℕ) → place_in new m ≡ cond (nat_eq n m) (Some
 
 pub reached_variable : (t : Table) (old new : Reached) (v place : ℕ) → IsReached t old → Has t (id.Variable v) → IsEnd t (id.Variable v)
     → place ≡ length old.ids → new.ids ≡ old.ids ++ id.Variable v ∷ [] → new.nodes ≡ old.nodes
-    → IsSet old.variables new.variables v place → IsReached t new
-reached_variable t old new v place h has end len ids nodes set = record {
+    → IsSet old.variables new.variables v place → new.heads ≡ old.heads → IsReached t new
+reached_variable t old new v place h has end len ids nodes set heads = record {
   ends = λ p a e. ends_more t old (id.Variable v) p a h (has, end)
       (get_snoc old.ids (id.Variable v) a p (sym (ap (λ z. slice_get z p) ids) ∙ e));
   nodes = λ i p e. ap (λ z. slice_get z p) ids
@@ -109,12 +124,13 @@ reached_variable t old new v place h has end len ids nodes set = record {
       (λ k. set_some v w place (place_in old.variables w) (h.placed w k))
       (λ k. subst (λ x. is_some (cond (nat_eq v x) (Some place) (place_in old.variables x)) ≡ true) (sym k)
       (set_it v place (place_in old.variables v)));
+  heads = subst (AreHeads t) (sym heads) h.heads;
 }
 
 pub reached_node : (t : Table) (old new : Reached) (i place : ℕ) → IsReached t old → i < length t.nodes → IsPassed t old (id.Made i)
     → place ≡ length old.ids → new.ids ≡ old.ids ++ id.Made i ∷ [] → new.variables ≡ old.variables
-    → IsSet old.nodes new.nodes i place → IsReached t new
-reached_node t old new i place h has pass len ids variables set = record {
+    → IsSet old.nodes new.nodes i place → new.heads ≡ old.heads → IsReached t new
+reached_node t old new i place h has pass len ids variables set heads = record {
   ends = λ p a e. ends_more t old (id.Made i) p a h (has, tt)
       (get_snoc old.ids (id.Made i) a p (sym (ap (λ z. slice_get z p) ids) ∙ e));
   nodes = λ j p e. ap (λ z. slice_get z p) ids ∙ set_or i j p place (place_in old.nodes j) (sym (set j) ∙ e)
@@ -128,6 +144,19 @@ reached_node t old new i place h has pass len ids variables set = record {
   placed = λ w e. ap (λ z. is_some (place_in z w)) variables ∙ h.placed w
       (sym (ap (λ z. is_among w (variables_of z)) ids ∙ ap (is_among w) (variables_more old.ids (id.Made i ∷ [])
       ∙ append-nil (variables_of old.ids))) ∙ e);
+  heads = subst (AreHeads t) (sym heads) h.heads;
+}
+
+-- only what is known of variables is another
+pub reached_heads : (t : Table) (old : Reached) (heads : Heads) → IsReached t old → AreHeads t heads
+    → IsReached t (record { ids = old.ids; nodes = old.nodes; variables = old.variables; heads = heads })
+reached_heads t old heads h k = record {
+  ends = h.ends;
+  nodes = h.nodes;
+  variables = h.variables;
+  passed = h.passed;
+  placed = h.placed;
+  heads = k;
 }
 
 -- what is found then
@@ -270,6 +299,13 @@ pub taken_passed : (t : Table) (a : TyId) (i p : ℕ) (r : Reached) (ss : List S
 taken_passed t a i p r ss h e k = taken_alone t a r r ss h
     (λ kept. sym (found_passed t r (id.Made i) (h.passed i p k) kept) ∙ ap (λ u. found_in kept u (found kept r)) e)
 
+-- a variable
+pub taken_variable : (t : Table) (a : TyId) (v : ℕ) (old new : Reached) (ss : List Step) → IsHeadOf t a (id.Variable v)
+    → IsReached t new → ((kept : ℕ → Bool) → found kept new ≡ noticed (kept v) v (found kept old))
+    → StepTaken t (step.Enter a) old new ss ss
+taken_variable t a v old new ss h k f = taken_alone t a old new ss k
+    (λ kept. f kept ∙ ap (λ u. found_in kept u (found kept old)) (sym h.end.1 ∙ h.whole))
+
 pub taken_open : (t : Table) (a : TyId) (i : ℕ) (x : Node) (r : Reached) (ss new : List Step) → IsKept t → IsReached t r
     → slice_get t.nodes i ≡ Some x → whole t (id.Made i) ≡ whole t a → IsOpened t i ss new
     → StepTaken t (step.Enter a) r r ss new
@@ -297,6 +333,17 @@ pub taken_opened : (t : Table) (a : TyId) (i : ℕ) (r : Reached) (ss new : List
 taken_opened t a i r ss new k h l e o =
     let x : Node = get_or t.nodes i (record { symbol = symbol.Arrow; parts = [] }) in
     taken_open t a i x r ss new k h (slice_get-get_or t.nodes i (record { symbol = symbol.Arrow; parts = [] }) l) e o
+
+-- what was found before is the same
+pub taken_since : (t : Table) (s : Step) (old mid new : Reached) (before after : List Step)
+    → ((kept : ℕ → Bool) → found kept mid ≡ found kept old) → StepTaken t s mid new before after
+    → StepTaken t s old new before after
+taken_since t s old mid new before after e h = record {
+  reached = h.reached;
+  finds = λ kept. h.finds kept ∙ ap (λ z. found_after kept t before (found_by kept t s z)) (e kept);
+  less = h.less;
+  have = h.have;
+}
 
 -- all steps
 pub found_on : (kept : ℕ → Bool) (t : Table) (s : Step) (old new : Reached) (all ss after : List Step) (vs : List ℕ)

@@ -1,5 +1,5 @@
 -- Types of a table as nodes of a tree. Only private functions cite this file.
-use Rattle.std.specs.Prelude.{◌≡◌, ℕ, ◌<◌, List, length, map, slice_get, Some}
+use Rattle.std.specs.Prelude.{◌≡◌, ℕ, ◌<◌, List, [], ◌∷◌, ◌++◌, length, map, slice_get, Some, ◌⊎◌}
 use Rattle.semantic_objects.specs.declared.name.TyId.{TyId}
 use Rattle.semantic_objects.specs.declared.node.TypeNode.{TypeNode}
 use Rattle.semantic_objects.specs.Trees.{Tree}
@@ -7,15 +7,30 @@ use Rattle.semantic_objects.specs.Nodes.{node_tree, trees_at, unfolded, tree_at,
 use Rattle.unification.specs.Types.{Ty}
 use Rattle.unification.specs.Closing.{closed_over}
 use Rattle.type_nodes.specs.Tables.{Table, whole}
+use Rattle.type_schemes.specs.declared.flat.Flat.{Flat}
 
 -- the types that ids stand for, closed over these variables
 abbrev pub closed_all : Table → List ℕ → List TyId → List Tree
 closed_all t vs ids = map (λ a. closed_over vs (whole t a)) ids
 
--- the first of these ids have their nodes
-pub record AreFlat (t : Table) (vs : List ℕ) (ids : List TyId) (xs : List TypeNode) : Type 0 where
-  pub nodes : AreNodes xs
-  pub each : (p : ℕ) (a : TyId) → slice_get ids p ≡ Some a → p < length xs → tree_at xs p ≡ closed_over vs (whole t a)
+-- at a place stands the tree of what an id stands for
+pub record IsTreeAt (t : Table) (vs : List ℕ) (nodes : List TypeNode) (a : TyId) (place : ℕ) : Type 0 where
+  pub within : place < length nodes
+  pub tree : tree_at nodes place ≡ closed_over vs (whole t a)
+
+-- the first of these ids have their places
+pub record AreFlat (t : Table) (vs : List ℕ) (ids : List TyId) (f : Flat) : Type 0 where
+  pub nodes : AreNodes f.nodes
+  pub each : (p place : ℕ) (a : TyId) → slice_get ids p ≡ Some a → slice_get f.places p ≡ Some place → IsTreeAt t vs f.nodes a place
+
+-- a node stood at a place, or was added there
+abbrev pub StandsAt : List TypeNode → List TypeNode → TypeNode → ℕ → Type 0
+StandsAt old new x place =
+    ((new ≡ old) × (slice_get old place ≡ Some x)) ⊎ ((new ≡ old ++ x ∷ []) × (place ≡ length old))
+
+pub record IsPlaced (old new : Flat) (x : TypeNode) (place : ℕ) : Type 0 where
+  pub nodes : StandsAt old.nodes new.nodes x place
+  pub places : new.places ≡ old.places
 
 -- a node that may come next
 pub record IsFlat (t : Table) (vs : List ℕ) (nodes : List TypeNode) (a : TyId) (x : TypeNode) : Type 0 where

@@ -9,6 +9,7 @@ use Rattle.semantic_objects.specs.declared.symbol.Symbol.TheVariants as symbol
 use Rattle.unification.specs.Types.{occurs, size}
 use Rattle.unification.specs.Closing.{is_among, noticed, found_in}
 use Rattle.type_nodes.specs.Tables.{Table, Has, IsEnd, whole}
+use Rattle.type_schemes.specs.Heads.{AreHeads}
 use Rattle.type_schemes.specs.declared.places.Places.{Places}
 use Rattle.type_schemes.specs.declared.reach.Reached.{Reached}
 use Rattle.type_schemes.specs.declared.reach.Step.{Step}
@@ -46,6 +47,7 @@ pub record IsReached (t : Table) (r : Reached) : Type 0 where
   pub variables : (v p : ℕ) → place_in r.variables v ≡ Some p → slice_get r.ids p ≡ Some (id.Variable v)
   pub passed : (i p : ℕ) → place_in r.nodes i ≡ Some p → IsPassed t r (id.Made i)
   pub placed : (v : ℕ) → is_among v (variables_of r.ids) ≡ true → is_some (place_in r.variables v) ≡ true
+  pub heads : AreHeads t r.heads
 
 -- at a place stands what an id comes to
 pub record IsPlaceOf (t : Table) (r : Reached) (a : TyId) (p : ℕ) : Type 0 where

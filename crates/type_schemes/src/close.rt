@@ -8,7 +8,7 @@ ghost use Rattle.type_schemes.specs.Reaching.{IsReached};
 ghost use Rattle.type_schemes.specs.Numbering.{AreNumbers, HasAllVariables, keeps};
 ghost use Rattle.type_schemes.specs.Schemes.{HaveAll, closed_scheme, schemes_since, is_left, MayBeFirstOf};
 
-use crate::flat::flat_nodes;
+use crate::flat::{flat_nodes, flat_place};
 use crate::kept::Kept;
 use crate::number::{Numbers, number};
 use crate::reach::{Reached, reach, reach_one};
@@ -32,16 +32,12 @@ fn closed_nodes(
     ensures nodes { IfOk result AreTree }
     ensures root { IfOk result (λ nodes. root nodes ≡ closed_over numbers.now.variables (whole table.now ty)) }
 {
-    let nodes = flat_nodes(table, alloc, reached, numbers)?;
-    match reached.place_of(table, ty) {
-        Some(place) => {
-            if place < nodes.len() && nodes.len() - place == 1 {
-                Ok(nodes)
-            } else {
-                Err(NoMemory)
-            }
-        }
-        None => Err(NoMemory),
+    let flat = flat_nodes(table, alloc, reached, numbers)?;
+    let place = flat_place(table, reached, numbers, ty, &flat)?;
+    if flat.nodes.len() - place == 1 {
+        Ok(flat.nodes)
+    } else {
+        Err(NoMemory)
     }
 }
 

@@ -4,8 +4,10 @@
 
 mod close;
 mod flat;
+mod heads;
 mod instances;
 mod kept;
+mod key;
 mod number;
 mod places;
 mod reach;

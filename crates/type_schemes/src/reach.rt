@@ -5,9 +5,11 @@ ghost use Rattle.std.specs.Prelude.{◌≡◌, ◌++◌, ◌<◌, [], ℕ, lengt
 ghost use Rattle.unification.specs.Closing.{found_in, found_in_all, noticed};
 ghost use Rattle.type_nodes.specs.Tables.{Table, Has, IsEnd, whole, whole_all};
 ghost use Rattle.type_schemes.specs.Schemes.{HaveAll};
+ghost use Rattle.type_schemes.specs.Heads.{IsHeadOf};
 ghost use Rattle.type_schemes.specs.Numbering.{keeps, is_reached};
 ghost use Rattle.type_schemes.specs.Reaching.{StepHas, IsReached, IsPassed, AllPassed, MayBePlaceOf, StepTaken, IsOpened, entered, found};
 
+use crate::heads::Heads;
 use crate::kept::Kept;
 use crate::places::Places;
 use cm_base::{List, NoMemory};
@@ -22,12 +24,14 @@ pub(crate) enum Step {
     Leave(usize),
 }
 
-/// The variables and the nodes that were reached, in the order in which they were done, with the place of each.
+/// The variables and the nodes that were reached, in the order in which they were done, with the place of each, and what
+/// the variables come to that stand for them.
 #[derive(Drop)]
 pub(crate) struct Reached {
     pub(crate) ids: List<TyId>,
     pub(crate) nodes: Places,
     pub(crate) variables: Places,
+    heads: Heads,
 }
 
 impl Reached {
@@ -40,6 +44,7 @@ impl Reached {
             ids: List::new(alloc),
             nodes: Places::new(alloc),
             variables: Places::new(alloc),
+            heads: Heads::new(alloc),
         }
     }
 
@@ -84,13 +89,24 @@ impl Reached {
         Ok(self.nodes.set(at, place)?)
     }
 
+    /// What an id comes to. Each step between variables is gone once.
+    fn head(&mut self, table: &TypeBindings, id: TyId) -> Result<TyId, NoMemory>
+        requires has { Has table.now id }
+        requires reached { IsReached table.now self.old }
+        ensures head { IfOk result (IsHeadOf table.now id) }
+        ensures reached { OnOk result (IsReached table.now self.new) }
+        ensures found { OnOk result ((kept : ℕ → Bool) → found kept self.new ≡ found kept self.old) }
+    {
+        Ok(self.heads.find(table, id)?)
+    }
+
     /// The place of what an id comes to, if that was reached.
     pub(crate) fn place_of(&self, table: &TypeBindings, id: TyId) -> Option<usize>
         requires has { Has table.now id }
         requires reached { IsReached table.now self.now }
         ensures { MayBePlaceOf table.now self.now id result }
     {
-        match table.head(id) {
+        match self.heads.head_of(table, id) {
             TyId::Variable(number) => self.variables.of(number),
             TyId::Made(at) => self.nodes.of(at),
         }
@@ -132,6 +148,28 @@ fn open(table: &TypeBindings, at: usize, steps: &mut List<Step>) -> Result<(), N
     Ok(enter_all(&table.node(at).parts, steps)?)
 }
 
+/// Looks at what an id comes to.
+fn enter_head(
+    table: &TypeBindings,
+    id: TyId,
+    head: TyId,
+    reached: &mut Reached,
+    steps: &mut List<Step>,
+) -> Result<(), NoMemory>
+    requires head { IsHeadOf table.now id head }
+    requires reached { IsReached table.now reached.old }
+    ensures { OnOk result (StepTaken table.now (Step.Enter id) reached.old reached.new steps.old steps.new) }
+{
+    table.is_kept();
+    match head {
+        TyId::Variable(number) => Ok(reached.add_variable(table, number)?),
+        TyId::Made(at) => match reached.nodes.of(at) {
+            Some(_) => Ok(()),
+            None => Ok(open(table, at, steps)?),
+        },
+    }
+}
+
 /// Looks at an id.
 fn enter(
     table: &TypeBindings,
@@ -143,14 +181,8 @@ fn enter(
     requires reached { IsReached table.now reached.old }
     ensures { OnOk result (StepTaken table.now (Step.Enter id) reached.old reached.new steps.old steps.new) }
 {
-    table.is_kept();
-    match table.head(id) {
-        TyId::Variable(number) => Ok(reached.add_variable(table, number)?),
-        TyId::Made(at) => match reached.nodes.of(at) {
-            Some(_) => Ok(()),
-            None => Ok(open(table, at, steps)?),
-        },
-    }
+    let head = reached.head(table, id)?;
+    Ok(enter_head(table, id, head, reached, steps)?)
 }
 
 /// The parts of a node are done.

@@ -4,10 +4,12 @@
 
 ghost use Rattle.std.specs.Prelude.{◌≡◌, ◌<◌, ◌≤◌, ◌+◌, ◌++◌, ℕ, length, IfOk, OnOk};
 ghost use Rattle.type_nodes.specs.Tables.{Has, IsFrontOf, state};
+ghost use Rattle.type_schemes.specs.Heads.{AreHeads};
 ghost use Rattle.type_schemes.specs.Numbering.{keeps};
 ghost use Rattle.type_schemes.specs.Schemes.{HaveAll, stays_since};
 ghost use Rattle.type_schemes.specs.Ages.{MetNode, MetEntries, IsStepped, HasMet, HaveMet};
 
+use crate::heads::Heads;
 use crate::kept::Kept;
 use crate::places::Places;
 use cm_base::{List, NoMemory};
@@ -58,12 +60,21 @@ impl Young {
     }
 
     /// Looks at an id.
-    fn step(&mut self, table: &TypeBindings, id: TyId, ids: &mut List<TyId>) -> Result<(), NoMemory>
-        requires { Has table.now id }
-        ensures { OnOk result (IsStepped table.now id self.old self.new ids.old ids.new) }
+    fn step(
+        &mut self,
+        table: &TypeBindings,
+        heads: &mut Heads,
+        id: TyId,
+        ids: &mut List<TyId>,
+    ) -> Result<(), NoMemory>
+        requires has { Has table.now id }
+        requires heads { AreHeads table.now heads.old }
+        ensures step { OnOk result (IsStepped table.now id self.old self.new ids.old ids.new) }
+        ensures heads { OnOk result (AreHeads table.now heads.new) }
     {
         table.is_kept();
-        match table.head(id) {
+        let head = heads.find(table, id)?;
+        match head {
             TyId::Variable(variable) => {
                 if variable < self.older {
                     Ok(())
@@ -75,15 +86,23 @@ impl Young {
         }
     }
 
-    /// Looks at an id and at all that stands below it. Each node is gone through once.
-    fn meet(&mut self, table: &TypeBindings, alloc: Global, id: TyId) -> Result<(), NoMemory>
-        requires { Has table.now id }
-        ensures { OnOk result (HasMet table.now id self.old self.new) }
+    /// Looks at an id and at all that stands below it. Each node is gone through once, as each step between variables.
+    fn meet(
+        &mut self,
+        table: &TypeBindings,
+        alloc: Global,
+        heads: &mut Heads,
+        id: TyId,
+    ) -> Result<(), NoMemory>
+        requires has { Has table.now id }
+        requires heads { AreHeads table.now heads.old }
+        ensures met { OnOk result (HasMet table.now id self.old self.new) }
+        ensures heads { OnOk result (AreHeads table.now heads.new) }
     {
         let mut ids = List::new(alloc);
         ids.add(id)?;
         while let Some(next) = ids.pop() {
-            self.step(table, next, &mut ids)?;
+            self.step(table, heads, next, &mut ids)?;
         }
         Ok(())
     }
@@ -93,27 +112,37 @@ impl Young {
         &mut self,
         table: &TypeBindings,
         alloc: Global,
+        heads: &mut Heads,
         ids: &[TyId],
     ) -> Result<(), NoMemory>
-        requires { HaveAll table.now ids.now }
+        requires have { HaveAll table.now ids.now }
+        requires heads { AreHeads table.now heads.old }
         ensures { OnOk result (HaveMet table.now ids.now (length ids.now) self.old self.new) }
     {
         for id in ids {
-            self.meet(table, alloc, *id)?;
+            self.meet(table, alloc, heads, *id)?;
         }
         Ok(())
     }
 
     /// Looks at what an entry of the trail put in for an older variable.
-    fn meet_entry(&mut self, table: &TypeBindings, alloc: Global, at: usize) -> Result<(), NoMemory>
-        requires { at < length table.now.trail }
-        ensures { OnOk result (MetEntries table.now at (at + 1) self.old self.new) }
+    fn meet_entry(
+        &mut self,
+        table: &TypeBindings,
+        alloc: Global,
+        heads: &mut Heads,
+        at: usize,
+    ) -> Result<(), NoMemory>
+        requires within { at < length table.now.trail }
+        requires heads { AreHeads table.now heads.old }
+        ensures met { OnOk result (MetEntries table.now at (at + 1) self.old self.new) }
+        ensures heads { OnOk result (AreHeads table.now heads.new) }
     {
         table.is_kept();
         match table.entry(at) {
             Entry::Bound(variable, to) => {
                 if variable < self.older {
-                    Ok(self.meet(table, alloc, to)?)
+                    Ok(self.meet(table, alloc, heads, to)?)
                 } else {
                     Ok(())
                 }
@@ -127,13 +156,16 @@ impl Young {
         &mut self,
         table: &TypeBindings,
         alloc: Global,
+        heads: &mut Heads,
         from: usize,
     ) -> Result<(), NoMemory>
-        requires { from ≤ length table.now.trail }
-        ensures { OnOk result (MetEntries table.now from (length table.now.trail) self.old self.new) }
+        requires within { from ≤ length table.now.trail }
+        requires heads { AreHeads table.now heads.old }
+        ensures met { OnOk result (MetEntries table.now from (length table.now.trail) self.old self.new) }
+        ensures heads { OnOk result (AreHeads table.now heads.new) }
     {
         for at in from..table.entries() {
-            self.meet_entry(table, alloc, at)?;
+            self.meet_entry(table, alloc, heads, at)?;
         }
         Ok(())
     }
@@ -160,8 +192,9 @@ pub(crate) fn kept_since(
         nodes: Places::new(alloc),
         variables: Places::new(alloc),
     };
-    young.meet_entries(table, alloc, since.entries())?;
-    young.meet_all(table, alloc, unclosed)?;
+    let mut heads = Heads::new(alloc);
+    young.meet_entries(table, alloc, &mut heads, since.entries())?;
+    young.meet_all(table, alloc, &mut heads, unclosed)?;
     Ok(Kept {
         older: young.older,
         variables: young.variables,

@@ -19,19 +19,21 @@ use std::alloc::Global;
 
 /// Whether a variable's type has more than 65,536 nodes. A variable that the table doesn't have is refused as want of
 /// memory is.
-fn is_too_large(t: &TypeTable, number: usize) -> Result<bool, NoMemory>
-    ensures { IfOk result (λ large. large ≡ is_too_large (put (state t.now).stands (Ty.Var number))) }
+fn is_too_large(t: &mut TypeTable, number: usize) -> Result<bool, NoMemory>
+    ensures large { IfOk result (λ large. large ≡ is_too_large (put (state t.old).stands (Ty.Var number))) }
+    ensures same { t.new ≡ t.old }
 {
     let id = TyId::Variable(number);
     if !t.has(id) {
         return Err(NoMemory);
     }
-    Ok(t.tree_size(id)? > 65_536)
+    Ok(t.sized(id)? > 65_536)
 }
 
 /// Whether the type of any of these variables has.
-fn any_too_large(t: &TypeTable, variables: &[ClosingVariable]) -> Result<bool, NoMemory>
-    ensures { IfOk result (λ large. large ≡ any_too_large (state t.now) (closings variables.now)) }
+fn any_too_large(t: &mut TypeTable, variables: &[ClosingVariable]) -> Result<bool, NoMemory>
+    ensures large { IfOk result (λ large. large ≡ any_too_large (state t.old) (closings variables.now)) }
+    ensures same { t.new ≡ t.old }
 {
     for variable in variables {
         if is_too_large(t, variable.number)? {
@@ -41,16 +43,17 @@ fn any_too_large(t: &TypeTable, variables: &[ClosingVariable]) -> Result<bool, N
     Ok(false)
 }
 
-/// 38 at a `val` where the type of one of its variables is too large.
+/// 38 at a `val` where the type of one of its variables is too large. The table is as it was.
 pub(crate) fn check_sizes(
     alloc: Global,
     g: &EnvGraph,
-    t: &TypeTable,
+    t: &mut TypeTable,
     at: At,
     variables: &[ClosingVariable],
 ) -> Result<(), Fault>
-    ensures { (inner : Scope) → inner.home ≡ g.now.home → Answers
-        (refuses_where (any_too_large (state t.now) (closings variables.now)) 38 inner at) (λ u. tt) result }
+    ensures answer { (inner : Scope) → inner.home ≡ g.now.home → Answers
+        (refuses_where (any_too_large (state t.old) (closings variables.now)) 38 inner at) (λ u. tt) result }
+    ensures same { t.new ≡ t.old }
 {
     if any_too_large(t, variables)? {
         return Err(refuse(alloc, g, 38, at));

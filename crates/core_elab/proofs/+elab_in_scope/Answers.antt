@@ -216,10 +216,11 @@ exp::elab_in_scope-returns-in_err-id-in-Fn t c =
 
 pub exp::elab_in_scope-returns-in_ok-id-in-Fn : goal.exp::elab_in_scope-returns-in_ok-id-in-Fn
 exp::elab_in_scope-returns-in_ok-id-in-Fn t c =
-    as_phrase (ap exp_phrase c.in-Fn.is ∙ exp_phrase-Fn c.in-Fn.rules c.in-Fn.at
+    rw c.sized.ensures.table
+    (as_phrase (ap exp_phrase c.in-Fn.is ∙ exp_phrase-Fn c.in-Fn.rules c.in-Fn.at
     ∙ ap (λ rules. ExpPhrase.Fn (rules_of (map rule_phrase rules)) c.in-Fn.at) (sym c.as_slice-in-Fn.ensures))
     (fn_done (rules_of (map rule_phrase c.as_slice-in-Fn.result.now)) c.in-Fn.at c.requires.core c.in_ok-id-in-Fn.ensures
-    c.sized.ensures.answer c.sized.ensures.same)
+    c.sized.ensures.answer c.sized.ensures.same))
 
 pub exp::elab_rule-returns-in_err-from : goal.exp::elab_rule-returns-in_err-from
 exp::elab_rule-returns-in_err-from t c =

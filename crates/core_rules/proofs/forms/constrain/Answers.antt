@@ -19,7 +19,8 @@ returns-in_err-id c =
 
 pub returns : goal.returns
 returns c =
-    constraint_done {m = moment c.args.g.now c.args.t.now c.args.scope.now} (ty_phrase c.args.ty.now) c.args.at
+    rw c.sized.ensures.table
+    (constraint_done {m = moment c.args.g.now c.args.t.now c.args.scope.now} (ty_phrase c.args.ty.now) c.args.at
     c.args.id c.in_ok-written.written c.requires.scope c.requires.id c.in_ok-written.ensures.infers
     c.in_ok-written.ensures.has c.in_ok-written.ensures.state c.in_ok-written.ensures.ids c.in_ok-id.ensures
-    c.sized.ensures.answer c.sized.ensures.same
+    c.sized.ensures.answer c.sized.ensures.same)

@@ -4,6 +4,7 @@ use Rattle.core_rules.proofs.forms.make_record.Goals as goal
 
 pub returns : goal.returns
 returns c =
-    record_made c.args.at c.args.rows.now c.in_ok-id.id c.in_ok-id.ensures.made c.in_ok-id.ensures.state
+    rw c.sized.ensures.table
+    (record_made c.args.at c.args.rows.now c.in_ok-id.id c.in_ok-id.ensures.made c.in_ok-id.ensures.state
     (keeps_extended c.args.t.now c.record_of.new.t c.in_ok-id.ensures.extends) c.in_ok-id.ensures.has
-    c.sized.ensures.answer c.sized.ensures.same
+    c.sized.ensures.answer c.sized.ensures.same)

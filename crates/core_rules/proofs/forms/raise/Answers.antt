@@ -7,4 +7,6 @@ returns-in_err-id c =
     (rule_stops c.args.at c.in_err-id.ensures)
 
 pub returns : goal.returns
-returns c = rule_checked c.args.at c.in_ok-id.ensures c.sized.ensures.answer c.sized.ensures.same
+returns c =
+    rw c.sized.ensures.table
+    (rule_checked c.args.at c.in_ok-id.ensures c.sized.ensures.answer c.sized.ensures.same)

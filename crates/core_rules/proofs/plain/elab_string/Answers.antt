@@ -3,5 +3,7 @@ use Rattle.core_rules.proofs.Leaves.{made_sized}
 use Rattle.core_rules.proofs.plain.elab_string.Goals as goal
 
 pub returns-clause-infers : goal.returns-clause-infers
-returns-clause-infers c = made_sized c.args.g.now c.args.at c.args.t.now c.string_type.new.t c.in_ok-id.id string_ty
-    c.sized.result c.in_ok-id.ensures.made c.in_ok-id.ensures.state c.sized.ensures.answer c.sized.ensures.same
+returns-clause-infers c =
+    rw c.sized.ensures.table
+    (made_sized c.args.g.now c.args.at c.args.t.now c.string_type.new.t c.in_ok-id.id string_ty
+    c.sized.result c.in_ok-id.ensures.made c.in_ok-id.ensures.state c.sized.ensures.answer c.sized.ensures.same)

@@ -18,5 +18,5 @@ returns-in-Entry-clause-large c =
 pub returns-in_ok-counted-in-Own-clause-large : goal.returns-in_ok-counted-in-Own-clause-large
 returns-in_ok-counted-in-Own-clause-large c =
     over_limit c.in_ok-counted-in-Own.counted (size (whole c.args.t.now (id.Variable c.in-Own.own.number)))
-    c.in_ok-counted-in-Own.ensures
+    c.in_ok-counted-in-Own.ensures.size
     ∙ ap (λ v. large_value (state c.args.t.now).stands (entry_of own_entry v)) (sym c.in-Own.is)

@@ -12,6 +12,7 @@ returns-in_err-id c =
 
 pub returns : goal.returns
 returns c =
-    rule_checked c.args.at
+    rw c.sized.ensures.table
+    (rule_checked c.args.at
     (let_rule c.args.g.now c.args.t.now c.args.at c.args.from c.args.to c.args.id (Ok c.in_ok-id.id) c.requires
-    c.in_ok-id.ensures.answer c.in_ok-id.ensures.same) c.sized.ensures.answer c.sized.ensures.same
+    c.in_ok-id.ensures.answer c.in_ok-id.ensures.same) c.sized.ensures.answer c.sized.ensures.same)

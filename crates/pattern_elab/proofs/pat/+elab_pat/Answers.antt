@@ -139,13 +139,14 @@ elab_typed-returns-in_err-unify_at t c =
 
 pub elab_typed-returns : goal.elab_typed-returns
 elab_typed-returns t c =
-    typed_done c.args.g.now c.args.scope.now (pat_phrase c.args.inner.now) (ty_phrase c.args.ty.now) c.args.at
+    rw c.sized.ensures.table
+    (typed_done c.args.g.now c.args.scope.now (pat_phrase c.args.inner.now) (ty_phrase c.args.ty.now) c.args.at
     c.args.t.now c.elab_pat.new.t c.written_type.new.t c.unify_at.new.t c.args.bound.now c.elab_pat.new.bound
     c.in_ok-id.id
     c.in_ok-written.written c.sized.result c.in_ok-id.ensures c.in_ok-written.ensures.infers
     c.in_ok-written.ensures.state
     c.in_ok-written.ensures.ids c.in_ok-unify_at.ensures.answer c.in_ok-unify_at.ensures.ids c.sized.ensures.answer
-    c.sized.ensures.same
+    c.sized.ensures.same)
 
 pub elab_applied-returns-in_err-value : goal.elab_applied-returns-in_err-value
 elab_applied-returns-in_err-value t c =
@@ -205,13 +206,14 @@ elab_applied-returns-in_err-unify_at t c =
 
 pub elab_applied-returns : goal.elab_applied-returns
 elab_applied-returns t c =
-    con_finds c.args.g.now c.args.scope.now c.args.long.now (pat_phrase c.args.arg.now) c.args.at c.args.t.now
+    rw c.sized.ensures.table
+    (con_finds c.args.g.now c.args.scope.now c.args.long.now (pat_phrase c.args.arg.now) c.args.at c.args.t.now
     c.elab_pat.new.t c.sides_of.new.t c.unify_at.new.t c.args.bound.now c.elab_pat.new.bound (entry_of own_entry
     c.in_ok-value.value) c.in_ok-id.id
     c.in_ok-sides.sides.0 c.in_ok-sides.sides.1 c.sized.result c.in_ok-value.ensures c.in_ok-id.ensures
     c.in_ok-check_con.ensures c.in_ok-sides.ensures.finds c.in_ok-sides.ensures.state c.in_ok-sides.ensures.ids
     c.in_ok-unify_at.ensures.answer c.in_ok-unify_at.ensures.ids c.in_ok-sides.ensures.second c.sized.ensures.answer
-    c.sized.ensures.same
+    c.sized.ensures.same)
 
 pub elab_typed-unify_at-requires-clause-first : goal.elab_typed-unify_at-requires-clause-first
 elab_typed-unify_at-requires-clause-first t c =
@@ -328,7 +330,8 @@ elab_as-returns-in_err-unify_at t c =
 
 pub elab_as-returns : goal.elab_as-returns
 elab_as-returns t c =
-    as_done c.args.g.now c.args.scope.now c.args.name.now (option_map ty_phrase c.args.ty.now) (pat_phrase
+    rw c.sized.ensures.table
+    (as_done c.args.g.now c.args.scope.now c.args.name.now (option_map ty_phrase c.args.ty.now) (pat_phrase
     c.args.inner.now) c.args.at c.args.t.now c.bind_variable.new.t c.type_variable.new.t c.elab_pat.new.t
     c.unify_at.new.t c.args.bound.now c.bind_variable.new.bound c.elab_pat.new.bound c.in_ok-variable.variable
     c.in_ok-id.id c.sized.result
@@ -343,7 +346,7 @@ elab_as-returns t c =
       typed = c.in_ok-type_variable.ensures.infers;
       ids = c.in_ok-type_variable.ensures.ids;
     }) c.in_ok-id.ensures c.in_ok-unify_at.ensures.answer c.in_ok-unify_at.ensures.ids c.sized.ensures.answer
-    c.sized.ensures.same
+    c.sized.ensures.same)
 
 pub elab_record-returns-in_err-rows : goal.elab_record-returns-in_err-rows
 elab_record-returns-in_err-rows t c =
@@ -366,12 +369,13 @@ elab_record-returns-in_err-id t c =
 
 pub elab_record-returns : goal.elab_record-returns
 elab_record-returns t c =
-    record_done c.args.g.now c.args.scope.now (pat_fields (map pat_field_phrase c.args.fields.now)) c.args.at
+    rw c.sized.ensures.table
+    (record_done c.args.g.now c.args.scope.now (pat_fields (map pat_field_phrase c.args.fields.now)) c.args.at
     c.args.t.now c.elab_fields.new.t c.record_of.new.t c.args.bound.now c.elab_fields.new.bound c.in_ok-rows.rows
     c.in_ok-id.id c.sized.result c.in_ok-rows.ensures
     c.in_ok-id.ensures.made c.in_ok-id.ensures.state (keeps_extended c.elab_fields.new.t c.record_of.new.t
     c.in_ok-id.ensures.extends) c.in_ok-id.ensures.has
-    c.sized.ensures.answer c.sized.ensures.same
+    c.sized.ensures.answer c.sized.ensures.same)
 
 pub elab_fields-loop-field-init : goal.elab_fields-loop-field-init
 elab_fields-loop-field-init t c =

@@ -5,6 +5,9 @@ use Rattle.type_schemes.specs.Numbering.{keeps}
 use Rattle.type_schemes.proofs.Numbering.{numbered_has, numbers_but}
 use Rattle.type_schemes.proofs.close.close_but.Goals as goal
 
+pub reach_one-requires-clause-reached : goal.reach_one-requires-clause-reached
+reach_one-requires-clause-reached c = c.new-reached.ensures.reached c.args.table.now
+
 pub close-requires-clause-variables : goal.close-requires-clause-variables
 close-requires-clause-variables c = numbered_has c.args.table.now c.reach_one.new.reached (keeps c.args.kept.now)
     c.in_ok-numbers.numbers.variables c.in_ok-reach_one.ensures.reached c.in_ok-numbers.ensures.variables

@@ -5,7 +5,7 @@ use Rattle.type_schemes.proofs.flat.flat_parts.Given as goal
 
 abbrev pub invariant-loop-part : goal.invariant-loop-part
 invariant-loop-part l = record {
-  below : AreBelow (length l.fn.nodes) l.places;
-  trees : trees_at (unfolded l.fn.nodes) l.places ++ closed_all l.fn.table l.fn.numbers.variables (drop l.part-index l.fn.parts)
+  below : AreBelow (length l.fn.flat.nodes) l.places;
+  trees : trees_at (unfolded l.fn.flat.nodes) l.places ++ closed_all l.fn.table l.fn.numbers.variables (drop l.part-index l.fn.parts)
       ≡ closed_all l.fn.table l.fn.numbers.variables l.fn.parts;
 }

@@ -1,11 +1,22 @@
-use Rattle.std.proofs.Common.{◌+◌, ◌≤◌, length, drop, refl, sym, ap, ◌∙◌, arith}
+use Rattle.std.proofs.Common.{[], ◌+◌, ◌≤◌, length, drop, refl, sym, ap, ◌∙◌, arith}
 use Rattle.std.proofs.lemmas.List.{at_drop_all}
 use Rattle.semantic_objects.specs.declared.name.TyId.TheVariants as id
 use Rattle.unification.specs.Closing.{found_in_all}
 use Rattle.type_nodes.specs.Tables.{whole_all}
-use Rattle.type_schemes.specs.Reaching.{found}
-use Rattle.type_schemes.proofs.Items.{rest_at}
+use Rattle.type_schemes.specs.Reaching.{found, variables_of, noticed_all}
+use Rattle.type_schemes.proofs.Items.{rest_at, item_at}
 use Rattle.type_schemes.proofs.reach.reach.Goals as goal
+
+pub loop-id-init : goal.loop-id-init
+loop-id-init c = record {
+  reached = c.new-reached.ensures.reached c.args.table.now;
+  found = λ kept. ap (λ z. found_in_all kept (whole_all c.args.table.now c.args.ids.now) (noticed_all kept (variables_of z) []))
+      c.new-reached.ensures.none;
+}
+
+pub reach_one-requires-clause-has : goal.reach_one-requires-clause-has
+reach_one-requires-clause-has c = c.requires c.loop-id.id-index _
+    (item_at c.args.ids.now c.args.ids.now c.loop-id.id-index (id.Variable 0) refl c.loop-id-test.true)
 
 pub loop-id-preserved : goal.loop-id-preserved
 loop-id-preserved c =

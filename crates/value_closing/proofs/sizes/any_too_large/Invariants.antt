@@ -6,6 +6,8 @@ use Rattle.value_closing.proofs.sizes.any_too_large.Given as goal
 
 -- the variables that are left tell it
 abbrev pub invariant-loop-variable : goal.invariant-loop-variable
-invariant-loop-variable l =
-    any_too_large (state l.t) (closings (drop l.variable-index l.variables))
-    ≡ any_too_large (state l.t) (closings l.variables)
+invariant-loop-variable l = record {
+  same : l.t ≡ l.fn.t;
+  left : any_too_large (state l.fn.t) (closings (drop l.variable-index l.variables))
+      ≡ any_too_large (state l.fn.t) (closings l.variables);
+}

@@ -39,7 +39,7 @@ returns-in_err-check_sizes-clause-answer c = λ inner home.
     c.in_err-check_sizes.field-0.0 (c.in_ok-check_left.ensures.answer inner home)
     (large_still inner c.args.at c.args.t.now c.check_left.new.t c.in_ok-variables.variables c.as_slice-2.result.now
     (Err c.in_err-check_sizes.field-0.0) c.in_ok-check_left.ensures.same c.as_slice-2.ensures
-    (c.in_err-check_sizes.ensures inner home)))
+    (c.in_err-check_sizes.ensures.answer inner home)))
 
 pub returns-clause-answer : goal.returns-clause-answer
 returns-clause-answer c = λ inner home.
@@ -49,11 +49,11 @@ returns-clause-answer c = λ inner home.
     (c.in_ok-unclosed.ensures.ids ∙ ap (ids_where false) c.as_slice.ensures)
     (record { structures = c.new.result; types = c.new-2.result; values = c.in_ok-values.values }) c.new.ensures
     c.new-2.ensures
-    (values_are c.args.t.now c.check_left.new.t c.generalise_since.new.self (state c.args.since.now).next
+    (values_are c.args.t.now c.check_sizes.new.t c.generalise_since.new.self (state c.args.since.now).next
     c.in_ok-variables.variables c.as_slice-3.result.now c.in_ok-closing.closing c.in_ok-schemes.schemes
-    c.in_ok-values.values c.in_ok-check_left.ensures.same c.in_ok-schemes.ensures.same c.as_slice-3.ensures
+    c.in_ok-values.values (c.in_ok-check_sizes.ensures.same ∙ c.in_ok-check_left.ensures.same) c.in_ok-schemes.ensures.same c.as_slice-3.ensures
     c.in_ok-closing.ensures.ids c.in_ok-schemes.ensures.schemes c.in_ok-values.ensures.values)
     (c.in_ok-check_left.ensures.answer inner home)
     (large_still inner c.args.at c.args.t.now c.check_left.new.t c.in_ok-variables.variables c.as_slice-2.result.now
     (Ok c.in_ok-check_sizes.field-0) c.in_ok-check_left.ensures.same c.as_slice-2.ensures
-    (c.in_ok-check_sizes.ensures inner home))
+    (c.in_ok-check_sizes.ensures.answer inner home))

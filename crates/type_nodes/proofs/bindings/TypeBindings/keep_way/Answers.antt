@@ -8,5 +8,6 @@ invariant_of-self c = record {
   table = c.self.invariant.table;
   ways = ways_more (record { births = c.self.inside.types.births; nodes = c.self.inside.types.nodes; trail = c.self.inside.trail.items })
       c.args.variable _ _ c.args.to _ (subst (λ t. LinkedTo t c.args.variable c.args.to) (sym c.self.view_is) c.requires)
-      c.set_way.ensures c.self.invariant.ways;
+      c.keep_at.ensures c.self.invariant.ways;
+  stamps = c.self.invariant.stamps;
 }

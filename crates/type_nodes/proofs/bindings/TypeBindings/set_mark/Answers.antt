@@ -3,6 +3,7 @@ use Rattle.type_nodes.specs.Tables.{state, marked_state}
 use Rattle.type_nodes.specs.Keeping.{MayMark}
 use Rattle.type_nodes.proofs.Binding.{state_marked}
 use Rattle.type_nodes.proofs.Cells.{table_marked}
+use Rattle.type_nodes.proofs.Stamps.{stamps_marked}
 use Rattle.type_nodes.proofs.Ways.{ways_marked}
 use Rattle.type_nodes.proofs.bindings.TypeBindings.set_mark.Goals as goal
 
@@ -11,6 +12,7 @@ invariant_of-self-2 c = rw c.in_ok-push.ensures.items (record {
   table = table_marked _ _ _ c.args.variable c.self.invariant.table
       (subst (λ t. MayMark t c.args.variable) (sym c.self.view_is) c.requires);
   ways = ways_marked _ c.args.variable _ _ c.self.invariant.ways;
+  stamps = stamps_marked _ c.args.variable _ _ c.self.invariant.stamps;
 })
 
 pub returns-clause-state : goal.returns-clause-state

@@ -8,11 +8,11 @@ returns-in-Some-clause-found c = found_again c.args.table.now c.args.self.now c.
 
 pub returns-in_ok-set-in-None-clause-reached : goal.returns-in_ok-set-in-None-clause-reached
 returns-in_ok-set-in-None-clause-reached c = reached_variable c.args.table.now c.args.self.now
-    (record { ids = c.add.new.self; nodes = c.args.self.now.nodes; variables = c.set.new.self }) c.args.number
+    (record { ids = c.add.new.self; nodes = c.args.self.now.nodes; variables = c.set.new.self; heads = c.args.self.now.heads }) c.args.number
     c.len-place.result c.requires.reached c.requires.has c.requires.end c.len-place.ensures c.in_ok-add-in-None.ensures.ok
-    refl c.in_ok-set-in-None.ensures
+    refl c.in_ok-set-in-None.ensures refl
 
 pub returns-in_ok-set-in-None-clause-found : goal.returns-in_ok-set-in-None-clause-found
 returns-in_ok-set-in-None-clause-found c = found_variable c.args.self.now
-    (record { ids = c.add.new.self; nodes = c.args.self.now.nodes; variables = c.set.new.self }) c.args.number
+    (record { ids = c.add.new.self; nodes = c.args.self.now.nodes; variables = c.set.new.self; heads = c.args.self.now.heads }) c.args.number
     c.in_ok-add-in-None.ensures.ok
