@@ -1,3 +1,3 @@
 pub mod Placing
 pub mod Using
-pub mod Reading
+pub mod Following

@@ -1,17 +1,25 @@
 //! Imports of a unit that are read.
 
 use crate::hex_words::{bytes_of, digits_line};
-use case_texts::{Scene, refusal};
+use case_texts::{Scene, line, refusal};
 use cm_base::{Fault, Given, Import, List, ModName, Namespace, NoMemory, Pid, Text};
 use env_pickle::pickle;
 use import_reading::read_imports;
 use sml_modules::EnvGraph;
 use std::alloc::Global;
 
-/// Each step reads imports into a graph of its own.
+/// An interface of a unit.
+#[derive(Drop)]
+struct Provided {
+    provider: Text,
+    interface: Text,
+}
+
+/// Interfaces of units, of which the last one of a unit counts. Each reading is into a graph of its own.
 #[derive(Drop)]
 pub struct ImportScene {
     alloc: Global,
+    provided: List<Provided>,
 }
 
 /// The name space that a word names.
@@ -23,46 +31,6 @@ fn space_of(word: &[u8]) -> Option<Namespace> {
         b"funsig" => Some(Namespace::Funsig),
         _ => None,
     }
-}
-
-/// An import of a name in a name space from a provider, whose interface has these hex digits.
-fn given_of(
-    alloc: Global,
-    space: &Text,
-    name: &Text,
-    provider: &Text,
-    digits: &Text,
-) -> Result<Option<Given>, NoMemory> {
-    let Some(space) = space_of(space.as_bytes()) else {
-        return Ok(None);
-    };
-    let Some(interface) = bytes_of(alloc, digits.as_bytes())? else {
-        return Ok(None);
-    };
-    let name = ModName {
-        space,
-        name: name.copy()?,
-    };
-    let import = Import {
-        name,
-        provider: provider.copy()?,
-        hash: Pid { bytes: [0; 32] },
-    };
-    Ok(Some(Given { import, interface }))
-}
-
-/// The imports that words say, four words each.
-fn imports_of(alloc: Global, words: &[Text]) -> Result<Option<List<Given>>, NoMemory> {
-    let mut imports = List::new(alloc);
-    let mut rest = words;
-    while let [space, name, provider, digits, more @ ..] = rest {
-        let Some(given) = given_of(alloc, space, name, provider, digits)? else {
-            return Ok(None);
-        };
-        imports.add(given)?;
-        rest = more;
-    }
-    Ok(if rest.is_empty() { Some(imports) } else { None })
 }
 
 /// What a unit sees of its imports, as the interface of that.
@@ -81,9 +49,75 @@ fn seen_line(alloc: Global, unit: &Text, imports: &List<Given>) -> Result<Vec<u8
 }
 
 impl ImportScene {
-    /// No imports.
+    /// No interfaces.
     pub fn new(alloc: Global) -> ImportScene {
-        ImportScene { alloc }
+        ImportScene {
+            alloc,
+            provided: List::new(alloc),
+        }
+    }
+
+    /// A unit has the interface of these hex digits.
+    fn provide(&mut self, provider: &Text, digits: &Text) -> Result<Option<Vec<u8>>, NoMemory> {
+        let Some(interface) = bytes_of(self.alloc, digits.as_bytes())? else {
+            return Ok(None);
+        };
+        let provider = provider.copy()?;
+        self.provided.add(Provided {
+            provider,
+            interface,
+        })?;
+        Ok(Some(line(self.alloc, b"ok")?))
+    }
+
+    /// The last interface of a unit.
+    fn interface_of(&self, provider: &Text) -> Result<Option<Text>, NoMemory> {
+        let mut found = None;
+        for provided in self.provided.as_slice() {
+            if provided.provider == *provider {
+                found = Some(provided.interface.copy()?);
+            }
+        }
+        Ok(found)
+    }
+
+    /// An import of a name in a name space from a unit.
+    fn given(
+        &self,
+        space: &Text,
+        name: &Text,
+        provider: &Text,
+    ) -> Result<Option<Given>, NoMemory> {
+        let Some(space) = space_of(space.as_bytes()) else {
+            return Ok(None);
+        };
+        let Some(interface) = self.interface_of(provider)? else {
+            return Ok(None);
+        };
+        let name = ModName {
+            space,
+            name: name.copy()?,
+        };
+        let import = Import {
+            name,
+            provider: provider.copy()?,
+            hash: Pid { bytes: [0; 32] },
+        };
+        Ok(Some(Given { import, interface }))
+    }
+
+    /// The imports that words say, three words each.
+    fn imports(&self, words: &[Text]) -> Result<Option<List<Given>>, NoMemory> {
+        let mut imports = List::new(self.alloc);
+        let mut rest = words;
+        while let [space, name, provider, more @ ..] = rest {
+            let Some(given) = self.given(space, name, provider)? else {
+                return Ok(None);
+            };
+            imports.add(given)?;
+            rest = more;
+        }
+        Ok(if rest.is_empty() { Some(imports) } else { None })
     }
 }
 
@@ -95,7 +129,8 @@ impl Scene for ImportScene {
         words: &[Text],
     ) -> Result<Option<Vec<u8>>, NoMemory> {
         match (step, words) {
-            (b"read", [unit, rest @ ..]) => match imports_of(self.alloc, rest)? {
+            (b"has", [provider, digits]) => self.provide(provider, digits),
+            (b"read", [unit, rest @ ..]) => match self.imports(rest)? {
                 Some(imports) => Ok(Some(seen_line(self.alloc, unit, &imports)?)),
                 None => Ok(None),
             },
