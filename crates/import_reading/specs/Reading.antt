@@ -28,8 +28,8 @@ pub record AreImported (unit : List ℕ) (imports : List Given) (old new : Graph
   pub is : imported unit imports ≡ Ok made
   pub gives : GivesTop old new made.top id
 
--- what the unit sees of its imports, or 50 for the first that can't be used. A refusal leaves the graph as it was, and want
--- of memory is free
+-- what the unit sees of its imports, or 50 for the first that can't be used. A refusal leaves the graph as it was, and
+-- want of memory is free
 abbrev pub ReadsImports : List ℕ → List Given → Graph → Graph → Result TopId Fault → Type 0
 ReadsImports unit imports old new (Ok id) = AreImported unit imports old new id
 ReadsImports unit imports old new (Err (fault.Diag diag)) = (new ≡ old) × (imported unit imports ≡ Err diag)

@@ -72,10 +72,10 @@ fn make_imports(graph: &mut EnvGraph, unit: &Text, imports: &[Given]) -> Result<
     Ok(TopId { place })
 }
 
-/// What a unit sees of its imports, as a top: the imported names alone, of two imports of one name the later. It is refused
-/// with 50, at the unit as a whole and with the provider's name, exactly where an interface can't be used, for the first
-/// such import of the list. After a refusal the graph is as it was. Each interface is read once: it takes as many steps as
-/// the interfaces have bytes, and about as many look-ups by name as there are type names in them.
+/// What a unit sees of its imports, as a top: the imported names alone, of two imports of one name the later. It is
+/// refused with 50, at the unit as a whole and with the provider's name, exactly where an interface can't be used, for
+/// the first such import of the list. After a refusal the graph is as it was. Each interface is read once: it takes as
+/// many steps as the interfaces have bytes, and about as many look-ups by name as there are type names in them.
 pub fn read_imports(
     graph: &mut EnvGraph,
     unit: &Text,

@@ -1,5 +1,5 @@
-//! Cases of nodes: each step adds a node to a table, or writes one; or it reads bytes back as an interface, or those of a
-//! unit's imports.
+//! Cases of nodes: each step adds a node to a table, or writes one; or it reads bytes back as an interface, or those
+//! of a unit's imports.
 #![tactic(auto)]
 
 mod hex_words;
