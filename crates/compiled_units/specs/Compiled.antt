@@ -2,7 +2,7 @@
 -- first of these that there is:
 --   the first diagnostic of the source
 --   50 at the unit as a whole, with the provider's name, for the first import whose interface can't be used
---   the first diagnostic of elaboration, in the basis that the options allow and behind it the imported names alone
+--   the first diagnostic of elaboration, in the basis that the options allow and in front of it the imported names
 --   12 at the unit as a whole, where the interface has more than 1,048,576 bytes or the code more than 8,388,608
 -- Interface and code hang on what the unit is handed alone, and not on what was compiled before it.
 use Rattle.std.specs.Prelude.{ℕ, nat_lt, if◌then◌else◌, List, length, ◌||◌, Option, Some, None, Result, Ok, Err}
@@ -35,7 +35,7 @@ inferred_or unit None = Err (whole_file 12 unit)
 inferred_or unit (Some (Err diag)) = Err diag
 inferred_or unit (Some (Ok made)) = Ok made.0
 
--- what a unit defines, behind the basis and what it sees of its imports; what they give isn't among it
+-- what a unit defines, over the basis and what it sees of its imports; what they give is not among it
 abbrev pub defined_by : List ℕ → Options → Top → BareUnit → Result Top Diag
 defined_by unit options given bare =
     inferred_or unit (unit_alone unit (basis_env options.nobasis) given options.opaque (unit_phrases bare))

@@ -35,7 +35,14 @@ use Rattle.import_reading.proofs.Placing.{there_later, unit_later, set_there, se
 pub nothing_read : (known : KnownNames) (read : ReadImports) → known.names ≡ basis_type_names → AreKept known
     → read.tables.structures ≡ [] → read.tables.signatures ≡ [] → read.tables.functors ≡ [] → read.tables.funsigs ≡ []
     → read.known ≡ known → (items : List Item) → AreRead items no_imports read
-nothing_read known read n k ss gs fs us e items = by_tables read.tables refl ss gs fs us
+nothing_read known read n k ss gs fs us e items = record {
+  there = subst (AreUnitTables items) (sym (tables_same read.tables ss gs fs us))
+      (record { structures = tt; signatures = tt; functors = tt; funsigs = tt });
+  top = sym (ap (unit_of items) (tables_same read.tables ss gs fs us));
+  kept = subst AreKept (sym e) k;
+  known = subst (λ (z : List TyName). Knows z []) (sym (ap (λ (z : KnownNames). z.names) e ∙ n))
+      known_names_fit.first;
+}
   where
     empty : UnitTables
     empty = record { structures = []; signatures = []; functors = []; funsigs = [] }
@@ -43,16 +50,6 @@ nothing_read known read n k ss gs fs us e items = by_tables read.tables refl ss 
     tables_same : (t : UnitTables) → t.structures ≡ [] → t.signatures ≡ [] → t.functors ≡ [] → t.funsigs ≡ []
         → t ≡ empty
     tables_same t h i j l = λ m. record { structures = h m; signatures = i m; functors = j m; funsigs = l m }
-
-    by_tables : (t : UnitTables) → read.tables ≡ t → t.structures ≡ [] → t.signatures ≡ [] → t.functors ≡ []
-        → t.funsigs ≡ [] → AreRead items no_imports read
-    by_tables t is h i j l = record {
-      there = subst (AreUnitTables items) (sym (is ∙ tables_same t h i j l))
-          (record { structures = tt; signatures = tt; functors = tt; funsigs = tt });
-      top = sym (ap (unit_of items) (is ∙ tables_same t h i j l));
-      kept = subst AreKept (sym e) k;
-      known = subst (λ (z : List TyName). Knows z []) (sym (ap (λ (z : KnownNames). z.names) e ∙ n)) known_names_fit.first;
-    }
 
 -- ---- one import
 
@@ -95,12 +92,13 @@ pub usable_read : (unit : List ℕ) (given : Given) (made : Imports) (before rea
     → ReadsOne unit given made new.items read true
 usable_read unit given made before read known old new top id found p r t e a f fp k rk rt = record {
   next = with_import given (top_at new id) made;
-  is = of_top unit given made (top_at new id) true is (use.usable made.names a.known);
+  is = of_top unit given made (top_at new id) true said (use.usable made.names a.known);
   read = record {
     there = subst (AreUnitTables new.items) (sym rt)
         (set_there new.items given.import.name.space given.import.name.name p before.tables (top_at new id) there
         use.found);
-    top = ap (with_imported given.import.name (top_at new id)) (a.top ∙ sym (unit_later old new before.tables e a.there))
+    top = ap (with_imported given.import.name (top_at new id))
+        (a.top ∙ sym (unit_later old new before.tables e a.there))
         ∙ set_is new.items given.import.name.space given.import.name.name p before.tables (top_at new id) use.found
         ∙ ap (unit_of new.items) (sym rt);
     kept = subst AreKept (sym rk) k;
@@ -109,8 +107,8 @@ usable_read unit given made before read known old new top id found p r t e a f f
   };
 }
   where
-    is : interface_top given.import.provider given.interface ≡ Some (top_at new id)
-    is = (subst (RestoresTop given.import.provider given.interface new) t r).1
+    said : interface_top given.import.provider given.interface ≡ Some (top_at new id)
+    said = (subst (RestoresTop given.import.provider given.interface new) t r).1
 
     use : IsUsable new.items unit given.import.name (top_at new id) before.known.names known.names p
     use = subst (FindsUsable new.items unit given.import.name (top_at new id) before.known.names known.names) fp f
@@ -119,21 +117,31 @@ usable_read unit given made before read known old new top id found p r t e a f f
     there = there_later old new before.tables e a.there
 
     agree : Agree (written (top_at new id))
-    agree = (have_tops.is given.import.provider given.interface (top_at new id) is).rules.names.agree
+    agree = (have_tops.is given.import.provider given.interface (top_at new id) said).rules.names.agree
 
 -- ---- one import more
+
+-- steps one after the other
+then_same : (first : Result Imports Diag) (f g : Imports → Result Imports Diag) → ((x : Imports) → f x ≡ g x)
+    → then first f ≡ then first g
+then_same (Err diag) f g h = refl
+then_same (Ok x) f g h = h x
+
+then_then : (first : Result Imports Diag) (f g : Imports → Result Imports Diag)
+    → then first (λ x. then (f x) g) ≡ then (then first f) g
+then_then (Err diag) f g = refl
+then_then (Ok x) f g = refl
 
 after_more : (unit : List ℕ) (front later : List Given) (made : Imports)
     → imported_after unit (front ++ later) made
     ≡ then (imported_after unit front made) (λ next. imported_after unit later next)
 after_more unit [] later made = refl
-after_more unit (given ∷ front) later made = by_first (imported_one unit given made)
-  where
-    by_first : (first : Result Imports Diag)
-        → then first (λ next. imported_after unit (front ++ later) next)
-        ≡ then (then first (λ next. imported_after unit front next)) (λ next. imported_after unit later next)
-    by_first (Err diag) = refl
-    by_first (Ok next) = after_more unit front later next
+after_more unit (given ∷ front) later made =
+    then_same (imported_one unit given made) (λ next. imported_after unit (front ++ later) next)
+    (λ next. then (imported_after unit front next) (λ more. imported_after unit later more))
+    (λ next. after_more unit front later next)
+    ∙ then_then (imported_one unit given made) (λ next. imported_after unit front next)
+    (λ more. imported_after unit later more)
 
 then_only : (first : Result Imports Diag) → then first (λ next. Ok next) ≡ first
 then_only (Err diag) = refl
@@ -178,8 +186,8 @@ refused_at unit imports i given d old new before read usable diag g l h one u e 
 
 -- ---- the top
 
-pub top_read : (unit : List ℕ) (imports : List Given) (old new : Graph) (read : ReadImports) (tables : UnitTables) (p : ℕ)
-    → AreAllRead unit imports old.items read → tables ≡ read.tables → Adds old new (unit_item old.items tables) p
+pub top_read : (unit : List ℕ) (imports : List Given) (old new : Graph) (read : ReadImports) (tables : UnitTables)
+    (p : ℕ) → AreAllRead unit imports old.items read → tables ≡ read.tables → Adds old new (unit_item old.items tables) p
     → ReadsTop unit imports new (Ok (record { place = p }))
 top_read unit imports old new read tables p h t a = record {
   made = h.made;

@@ -1,8 +1,10 @@
 -- Places under names: they are found and set as what stands at them.
 use Rattle.std.proofs.Common.{◌≡◌, ℕ, refl, sym, ap, subst, ◌∙◌, List, [], ◌∷◌, ◌++◌, Some, None}
-use Rattle.std.specs.Prelude.{Option}
+use Rattle.std.specs.Prelude.{Option, Result, Ok, Err, OnOk}
+use Rattle.cm_base.specs.declared.fault.NoMemory.{NoMemory}
 use Rattle.cm_base.specs.declared.record.Namespace.{Namespace}
 use Rattle.cm_base.specs.declared.record.Namespace.TheVariants as space
+use Rattle.cm_base.specs.declared.record.ModName.{ModName}
 use Rattle.semantic_objects.specs.Tables.{Table, entry, with_entry}
 use Rattle.semantic_objects.specs.Environments.{Env, Signature, Functor, Top, table_of, structures_of, structures, env_of}
 use Rattle.semantic_objects.proofs.Promised.{keeps_structures}
@@ -17,7 +19,7 @@ use Rattle.sml_modules.proofs.Setting.{entry_at, with_map, all_set, all_found}
 use Rattle.imported_interfaces.specs.Imported.{with_parts, with_found, with_found_structure, with_under}
 use Rattle.interface_restoring.specs.declared.tops.UnitTables.{UnitTables}
 use Rattle.interface_restoring.specs.Tops.{AreUnitTables, unit_of}
-use Rattle.import_reading.specs.Placed.{FindsAt, FindsUnder, with_place_under}
+use Rattle.import_reading.specs.Placed.{FindsAt, FindsUnder, with_place_under, with_place}
 
 tables_back : (rows : Table Env) → table_of (structures_of rows) ≡ rows
 tables_back = keeps_structures.table
@@ -31,33 +33,44 @@ found_at Is read items name rows table None h t e = entry_at (λ p. read (at ite
 found_at Is read items name rows table (Some p) h t e =
     (all_found Is items name p rows h (sym e), entry_at (λ p. read (at items p)) name rows table (Some p) t e)
 
-pub structure_found : (items : List Item) (tables : TopTables) (env : Env) (env_tables : EnvTables) (name : List ℕ)
-    (found : Option ℕ) → env ≡ as_env (at items tables.env) → ReadsEnv items env env_tables
-    → found ≡ entry name env_tables.structures
-    → FindsUnder items space.Structure name (top_of_tables items tables) found
-structure_found items tables env env_tables name found is h e =
-    found_at IsEnv as_env items name env_tables.structures (structures (as_env (at items tables.env))) found
+-- .. in tables of a top, and a name space
+found_in : (items : List Item) (in_space other : Namespace) (name : List ℕ) (top : Top) (found : Option ℕ)
+    → in_space ≡ other → FindsUnder items other name top found → FindsUnder items in_space name top found
+found_in items in_space other name top found e h = subst (λ z. FindsUnder items z name top found) (sym e) h
+
+pub structure_found : (items : List Item) (in_space : Namespace) (tables : TopTables) (env : Env)
+    (env_tables : EnvTables) (name : List ℕ) (found : Option ℕ) → in_space ≡ space.Structure
+    → env ≡ as_env (at items tables.env) → ReadsEnv items env env_tables → found ≡ entry name env_tables.structures
+    → FindsUnder items in_space name (top_of_tables items tables) found
+structure_found items in_space tables env env_tables name found s is h e =
+    found_in items in_space space.Structure name (top_of_tables items tables) found s
+    (found_at IsEnv as_env items name env_tables.structures (structures (as_env (at items tables.env))) found
     h.are.structures
-    (ap structures (sym is ∙ h.is) ∙ tables_back (map_rows (λ p. as_env (at items p)) env_tables.structures)) e
+    (ap structures (sym is ∙ h.is) ∙ tables_back (map_rows (λ p. as_env (at items p)) env_tables.structures)) e)
 
-pub signature_found : (items : List Item) (tables : TopTables) (name : List ℕ) (found : Option ℕ)
-    → AreTopTables items tables → found ≡ entry name tables.signatures
-    → FindsUnder items space.Signature name (top_of_tables items tables) found
-signature_found items tables name found h e =
-    found_at IsSignature as_signature items name tables.signatures (top_of_tables items tables).signatures found
-    h.signatures refl e
+pub signature_found : (items : List Item) (in_space : Namespace) (tables : TopTables) (name : List ℕ) (found : Option ℕ)
+    → AreTopTables items tables → in_space ≡ space.Signature → found ≡ entry name tables.signatures
+    → FindsUnder items in_space name (top_of_tables items tables) found
+signature_found items in_space tables name found h s e =
+    found_in items in_space space.Signature name (top_of_tables items tables) found s
+    (found_at IsSignature as_signature items name tables.signatures (top_of_tables items tables).signatures found
+    h.signatures refl e)
 
-pub functor_found : (items : List Item) (tables : TopTables) (name : List ℕ) (found : Option ℕ)
-    → AreTopTables items tables → found ≡ entry name tables.functors
-    → FindsUnder items space.Functor name (top_of_tables items tables) found
-functor_found items tables name found h e =
-    found_at IsFunctor as_functor items name tables.functors (top_of_tables items tables).functors found h.functors refl e
+pub functor_found : (items : List Item) (in_space : Namespace) (tables : TopTables) (name : List ℕ) (found : Option ℕ)
+    → AreTopTables items tables → in_space ≡ space.Functor → found ≡ entry name tables.functors
+    → FindsUnder items in_space name (top_of_tables items tables) found
+functor_found items in_space tables name found h s e =
+    found_in items in_space space.Functor name (top_of_tables items tables) found s
+    (found_at IsFunctor as_functor items name tables.functors (top_of_tables items tables).functors found h.functors
+    refl e)
 
-pub funsig_found : (items : List Item) (tables : TopTables) (name : List ℕ) (found : Option ℕ)
-    → AreTopTables items tables → found ≡ entry name tables.funsigs
-    → FindsUnder items space.Funsig name (top_of_tables items tables) found
-funsig_found items tables name found h e =
-    found_at IsFunctor as_functor items name tables.funsigs (top_of_tables items tables).funsigs found h.funsigs refl e
+pub funsig_found : (items : List Item) (in_space : Namespace) (tables : TopTables) (name : List ℕ) (found : Option ℕ)
+    → AreTopTables items tables → in_space ≡ space.Funsig → found ≡ entry name tables.funsigs
+    → FindsUnder items in_space name (top_of_tables items tables) found
+funsig_found items in_space tables name found h s e =
+    found_in items in_space space.Funsig name (top_of_tables items tables) found s
+    (found_at IsFunctor as_functor items name tables.funsigs (top_of_tables items tables).funsigs found h.funsigs refl
+    e)
 
 -- ---- more nodes change nothing
 
@@ -159,3 +172,50 @@ set_is items space.Funsig name p t top f =
     ap (λ (z : Table Functor). with_parts (env_of (map_rows (λ q. as_env (at items q)) t.structures) [] [])
     (map_rows (λ q. as_signature (at items q)) t.signatures) (map_rows (λ q. as_functor (at items q)) t.functors) z)
     (row_set as_functor items name p t.funsigs (entry name top.funsigs) f.1)
+
+-- ---- the call that sets a place
+
+-- what the tables are then, by what the table of that name space is
+place_set : (with_rows : UnitTables → Table ℕ → UnitTables) (table : UnitTables → Table ℕ) (old : UnitTables)
+    (wanted : ModName) (name : List ℕ) (p : ℕ) (rows : Table ℕ) (r : Result (Unit {0}) NoMemory)
+    → with_rows old (with_entry wanted.name p (table old)) ≡ with_place wanted p old → name ≡ wanted.name
+    → OnOk r (rows ≡ with_entry name p (table old)) → OnOk r (with_rows old rows ≡ with_place wanted p old)
+place_set with_rows table old wanted name p rows (Ok u) s n h =
+    ap (with_rows old) (h ∙ ap (λ m. with_entry m p (table old)) n) ∙ s
+place_set with_rows table old wanted name p rows (Err why) s n h = tt
+
+in_its_space : (old : UnitTables) (wanted : ModName) (p : ℕ) (in_space : Namespace) → wanted.space ≡ in_space
+    → with_place_under in_space wanted.name p old ≡ with_place wanted p old
+in_its_space old wanted p in_space s = ap (λ z. with_place_under z wanted.name p old) (sym s)
+
+pub structure_set : (old : UnitTables) (wanted : ModName) (name : List ℕ) (p : ℕ) (rows : Table ℕ)
+    (r : Result (Unit {0}) NoMemory) → wanted.space ≡ space.Structure → name ≡ wanted.name
+    → OnOk r (rows ≡ with_entry name p old.structures)
+    → OnOk r (record old { structures = rows } ≡ with_place wanted p old)
+structure_set old wanted name p rows r s n h =
+    place_set (λ t z. record t { structures = z }) (λ t. t.structures) old wanted name p rows r
+    (in_its_space old wanted p space.Structure s) n h
+
+pub signature_set : (old : UnitTables) (wanted : ModName) (name : List ℕ) (p : ℕ) (rows : Table ℕ)
+    (r : Result (Unit {0}) NoMemory) → wanted.space ≡ space.Signature → name ≡ wanted.name
+    → OnOk r (rows ≡ with_entry name p old.signatures)
+    → OnOk r (record old { signatures = rows } ≡ with_place wanted p old)
+signature_set old wanted name p rows r s n h =
+    place_set (λ t z. record t { signatures = z }) (λ t. t.signatures) old wanted name p rows r
+    (in_its_space old wanted p space.Signature s) n h
+
+pub functor_set : (old : UnitTables) (wanted : ModName) (name : List ℕ) (p : ℕ) (rows : Table ℕ)
+    (r : Result (Unit {0}) NoMemory) → wanted.space ≡ space.Functor → name ≡ wanted.name
+    → OnOk r (rows ≡ with_entry name p old.functors)
+    → OnOk r (record old { functors = rows } ≡ with_place wanted p old)
+functor_set old wanted name p rows r s n h =
+    place_set (λ t z. record t { functors = z }) (λ t. t.functors) old wanted name p rows r
+    (in_its_space old wanted p space.Functor s) n h
+
+pub funsig_set : (old : UnitTables) (wanted : ModName) (name : List ℕ) (p : ℕ) (rows : Table ℕ)
+    (r : Result (Unit {0}) NoMemory) → wanted.space ≡ space.Funsig → name ≡ wanted.name
+    → OnOk r (rows ≡ with_entry name p old.funsigs)
+    → OnOk r (record old { funsigs = rows } ≡ with_place wanted p old)
+funsig_set old wanted name p rows r s n h =
+    place_set (λ t z. record t { funsigs = z }) (λ t. t.funsigs) old wanted name p rows r
+    (in_its_space old wanted p space.Funsig s) n h

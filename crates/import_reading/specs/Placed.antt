@@ -16,7 +16,8 @@ FindsAt Is read items want (Some p) = Is (at items p) × (want ≡ Some (read (a
 -- so of a top and a name of a name space
 abbrev pub FindsUnder : List Item → Namespace → List ℕ → Top → Option ℕ → Type 0
 FindsUnder items space.Structure name top found = FindsAt IsEnv as_env items (entry name (structures top.env)) found
-FindsUnder items space.Signature name top found = FindsAt IsSignature as_signature items (entry name top.signatures) found
+FindsUnder items space.Signature name top found =
+    FindsAt IsSignature as_signature items (entry name top.signatures) found
 FindsUnder items space.Functor name top found = FindsAt IsFunctor as_functor items (entry name top.functors) found
 FindsUnder items space.Funsig name top found = FindsAt IsFunctor as_functor items (entry name top.funsigs) found
 

@@ -69,10 +69,10 @@ pub record AreRead (items : List Item) (made : Imports) (read : ReadImports) : T
 
 -- .. and with one import more
 pub record IsReadToo (unit : List ℕ) (given : Given) (made : Imports) (items : List Item) (read : ReadImports) : Type 0
-    where
-  pub next : Imports
-  pub is : imported_one unit given made ≡ Ok next
-  pub read : AreRead items next read
+  where
+    pub next : Imports
+    pub is : imported_one unit given made ≡ Ok next
+    pub read : AreRead items next read
 
 abbrev pub ReadsOne : List ℕ → Given → Imports → List Item → ReadImports → Bool → Type 0
 ReadsOne unit given made items read true = IsReadToo unit given made items read

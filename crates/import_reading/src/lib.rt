@@ -3,7 +3,7 @@
 
 mod fitting;
 mod looking;
-mod reading;
 mod read;
+mod reading;
 
 pub use reading::read_imports;

@@ -82,12 +82,7 @@ impl ImportScene {
     }
 
     /// An import of a name in a name space from a unit.
-    fn given(
-        &self,
-        space: &Text,
-        name: &Text,
-        provider: &Text,
-    ) -> Result<Option<Given>, NoMemory> {
+    fn given(&self, space: &Text, name: &Text, provider: &Text) -> Result<Option<Given>, NoMemory> {
         let Some(space) = space_of(space.as_bytes()) else {
             return Ok(None);
         };
