@@ -92,26 +92,26 @@ pub usable_read : (unit : List ℕ) (given : Given) (made : Imports) (before rea
     → ReadsOne unit given made new.items read true
 usable_read unit given made before read known old new top id found p r t e a f fp k rk rt = record {
   next = with_import given (top_at new id) made;
-  is = of_top unit given made (top_at new id) true said (use.usable made.names a.known);
+  is = of_top unit given made (top_at new id) true said (can.usable made.names a.known);
   read = record {
     there = subst (AreUnitTables new.items) (sym rt)
         (set_there new.items given.import.name.space given.import.name.name p before.tables (top_at new id) there
-        use.found);
+        can.found);
     top = ap (with_imported given.import.name (top_at new id))
         (a.top ∙ sym (unit_later old new before.tables e a.there))
-        ∙ set_is new.items given.import.name.space given.import.name.name p before.tables (top_at new id) use.found
+        ∙ set_is new.items given.import.name.space given.import.name.name p before.tables (top_at new id) can.found
         ∙ ap (unit_of new.items) (sym rt);
     kept = subst AreKept (sym rk) k;
     known = subst (λ (z : List TyName). Knows z (made.names ++ written (top_at new id)))
-        (sym (ap (λ (z : KnownNames). z.names) rk)) (use.known made.names a.known agree);
+        (sym (ap (λ (z : KnownNames). z.names) rk)) (can.known made.names a.known agree);
   };
 }
   where
     said : interface_top given.import.provider given.interface ≡ Some (top_at new id)
     said = (subst (RestoresTop given.import.provider given.interface new) t r).1
 
-    use : IsUsable new.items unit given.import.name (top_at new id) before.known.names known.names p
-    use = subst (FindsUsable new.items unit given.import.name (top_at new id) before.known.names known.names) fp f
+    can : IsUsable new.items unit given.import.name (top_at new id) before.known.names known.names p
+    can = subst (FindsUsable new.items unit given.import.name (top_at new id) before.known.names known.names) fp f
 
     there : AreUnitTables new.items before.tables
     there = there_later old new before.tables e a.there
