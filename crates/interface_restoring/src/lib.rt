@@ -5,6 +5,7 @@ mod laws;
 mod names;
 mod restoring;
 mod tops;
+mod weights;
 
 pub use laws::restoring_goes_back;
 pub use restoring::restore;

@@ -4,11 +4,12 @@ ghost use Rattle.std.specs.Prelude.{◌≡◌, ℕ, ◌≤◌, ◌^◌, List, le
 ghost use Rattle.sml_modules.specs.Adding.{Extends};
 ghost use Rattle.node_bytes.specs.Tables.{table_nodes};
 ghost use Rattle.row_environments.specs.Placed.{AreValues};
-ghost use Rattle.row_binders.specs.Binders.{AreBound};
+ghost use Rattle.row_binders.specs.Binders.{AreBound, HaveBound, PlacesBinder};
 ghost use Rattle.interface_restoring.specs.Restored.{HasRest, Notes, Builds, Reads, Restores};
 
 use crate::names::has_names;
 use crate::tops::top_row;
+use crate::weights::Room;
 use cm_base::{NoMemory, Text};
 use interface_reading::{RestoreFault, read_rows};
 use node_bytes::Row;
@@ -22,14 +23,35 @@ fn behind_mark(bytes: &[u8]) -> Option<&[u8]>
     bytes.strip_prefix(b"CMI1".as_slice())
 }
 
-/// Tells of each row what it is in the interface of `home`, and adds to the graph what stands there.
+/// Tells what the next row is in the interface of `home`, and adds to the graph what stands there. What doesn't fit into
+/// what is left is refused as want of memory is.
+fn note_next(
+    graph: &mut EnvGraph,
+    home: &Text,
+    rows: &mut BinderRows,
+    row: &Row,
+    room: &mut Room,
+) -> Result<(), NoMemory>
+    requires { HaveBound home.now graph.old.items rows.old }
+    ensures extends { Extends graph.old graph.new }
+    ensures values { OnOk result (AreValues rows.new.envs.told.entries.schemes graph.new.items rows.new.envs.values) }
+    ensures bound { OnOk result (PlacesBinder home.now graph.old.items graph.new.items rows.old row.now rows.new) }
+{
+    note_row(graph, home, rows, row)?;
+    room.take_last(graph, rows)?;
+    Ok(())
+}
+
+/// Tells of each row what it is in the interface of `home`, and adds to the graph what stands there. Types and names that
+/// take more than 512 MiB together are refused as want of memory is.
 fn note_rows(graph: &mut EnvGraph, home: &Text, table: &[Row]) -> Result<BinderRows, NoMemory>
     ensures extends { Extends graph.old graph.new }
     ensures notes { IfOk result (Notes home.now table.now graph.new.items) }
 {
     let mut rows = BinderRows::new(graph.alloc());
+    let mut room = Room::new();
     for row in table {
-        note_row(graph, home, &mut rows, row)?;
+        note_next(graph, home, &mut rows, row, &mut room)?;
     }
     Ok(rows)
 }
@@ -68,8 +90,8 @@ fn read(graph: &mut EnvGraph, home: &Text, bytes: &[u8]) -> Result<TopId, Restor
     Ok(top)
 }
 
-/// The unit that bytes are the interface of, where `home` is its name: they are refused exactly where they are none.
-/// More than 2^32 bytes are refused as want of memory is.
+/// The unit that bytes are the interface of, where `home` is its name: they are refused exactly where they are none. 2^32
+/// bytes and more are refused as want of memory is, and so are types and bound names that take more than 512 MiB.
 pub fn restore(graph: &mut EnvGraph, home: &Text, bytes: &[u8]) -> Result<TopId, RestoreFault>
     ensures { Restores home.now bytes.now graph.old graph.new result }
 {

@@ -16,18 +16,18 @@ loop-row-init c = record {
   };
 }
 
-pub note_row-requires : goal.note_row-requires
-note_row-requires c =
+pub note_next-requires : goal.note_next-requires
+note_next-requires c =
     notes_have c.args.home.now (take c.loop-row.row-index c.args.table.now) c.loop-row.graph.items c.loop-row.rows
     c.loop-row.invariant.notes
 
 pub loop-row-preserved : goal.loop-row-preserved
 loop-row-preserved c = record {
-  extends = extends_then c.args.graph.now c.loop-row.graph c.note_row.new.graph c.loop-row.invariant.extends
-      c.note_row.ensures.extends;
+  extends = extends_then c.args.graph.now c.loop-row.graph c.note_next.new.graph c.loop-row.invariant.extends
+      c.note_next.ensures.extends;
   notes = notes_more c.args.home.now c.args.table.now c.loop-row.row-index c.row-item.result c.row-item.result
-      c.loop-row.graph.items c.note_row.new.graph.items c.loop-row.rows c.note_row.new.rows c.row-item.is
-      c.loop-row-test.true c.loop-row.invariant.notes c.in_ok-note_row.ensures.bound c.in_ok-note_row.ensures.values;
+      c.loop-row.graph.items c.note_next.new.graph.items c.loop-row.rows c.note_next.new.rows c.row-item.is
+      c.loop-row-test.true c.loop-row.invariant.notes c.in_ok-note_next.ensures.bound c.in_ok-note_next.ensures.values;
 }
 
 pub returns-clause-notes : goal.returns-clause-notes
@@ -35,7 +35,7 @@ returns-clause-notes c =
     subst (λ (z : List Row). Notes c.args.home.now z c.loop-row.graph.items c.loop-row.rows)
     (take_all c.loop-row.row-index c.args.table.now c.loop-row-test.false) c.loop-row.invariant.notes
 
-pub returns-in_err-note_row-clause-extends : goal.returns-in_err-note_row-clause-extends
-returns-in_err-note_row-clause-extends c =
-    extends_then c.args.graph.now c.loop-row.graph c.note_row.new.graph c.loop-row.invariant.extends
-    c.note_row.ensures.extends
+pub returns-in_err-note_next-clause-extends : goal.returns-in_err-note_next-clause-extends
+returns-in_err-note_next-clause-extends c =
+    extends_then c.args.graph.now c.loop-row.graph c.note_next.new.graph c.loop-row.invariant.extends
+    c.note_next.ensures.extends
