@@ -102,6 +102,36 @@ fn count_turned(alloc: Global, home: &Text, bytes: &[u8]) -> Result<Option<u64>,
     Ok(Some(count))
 }
 
+/// Adds the bytes that hex digits write, so many times; `None` where they write none.
+fn add_times(
+    alloc: Global,
+    bytes: &mut Vec<u8>,
+    digits: &Text,
+    times: u32,
+) -> Result<Option<()>, NoMemory> {
+    let Some(piece) = bytes_of(alloc, digits.as_bytes())? else {
+        return Ok(None);
+    };
+    for _ in 0..times {
+        bytes.extend_from_slice(piece.as_bytes())?;
+    }
+    Ok(Some(()))
+}
+
+/// The bytes of some pieces in hex digits, one behind another: the second one, the fourth one and so on so many times.
+fn bytes_in_turn(alloc: Global, pieces: &[Text], times: u32) -> Result<Option<Vec<u8>>, NoMemory> {
+    let mut bytes = Vec::new(alloc);
+    let mut is_many = false;
+    for digits in pieces {
+        let times = if is_many { times } else { 1 };
+        if add_times(alloc, &mut bytes, digits, times)?.is_none() {
+            return Ok(None);
+        }
+        is_many = !is_many;
+    }
+    Ok(Some(bytes))
+}
+
 impl RestoreScene {
     /// No bytes.
     pub fn new(alloc: Global) -> RestoreScene {
@@ -140,6 +170,22 @@ impl RestoreScene {
         read_line(self.alloc, home, bytes.as_slice())
     }
 
+    /// What pieces of bytes are, one behind another, every second one so many times.
+    fn times(
+        &self,
+        home: &Text,
+        count: &Text,
+        pieces: &[Text],
+    ) -> Result<Option<Vec<u8>>, NoMemory> {
+        let Some(count) = number_of(count.as_bytes()) else {
+            return Ok(None);
+        };
+        match bytes_in_turn(self.alloc, pieces, count)? {
+            Some(bytes) => read_line(self.alloc, home, bytes.as_slice()),
+            None => Ok(None),
+        }
+    }
+
     /// The answer to a step about bytes.
     fn of_bytes(
         &self,
@@ -165,6 +211,7 @@ impl Scene for RestoreScene {
     ) -> Result<Option<Vec<u8>>, NoMemory> {
         match (step, words) {
             (b"read-many", [home, count, byte]) => self.many(home, count, byte),
+            (b"read-times", [home, count, pieces @ ..]) => self.times(home, count, pieces),
             (_, [home, digits]) => match bytes_of(self.alloc, digits.as_bytes())? {
                 Some(bytes) => self.of_bytes(step, home, bytes.as_bytes()),
                 None => Ok(None),
