@@ -28,7 +28,7 @@ fn push_structures(
     numbers: &mut NameNumbers,
     binds: &[StrBind],
 ) -> Result<(), NoMemory>
-    requires { HasTop made.graph made.top }
+    requires { HasTop made.graph.now made.top }
 {
     for bind in binds {
         push_structure(alloc, out, numbers, made.graph, made.top, &bind.name.text)?;
@@ -44,7 +44,7 @@ fn push_signatures(
     numbers: &mut NameNumbers,
     binds: &[SigBind],
 ) -> Result<(), NoMemory>
-    requires { HasTop made.graph made.top }
+    requires { HasTop made.graph.now made.top }
 {
     for bind in binds {
         push_signature(alloc, out, numbers, made.graph, made.top, &bind.name.text)?;
@@ -60,7 +60,7 @@ fn push_functors(
     numbers: &mut NameNumbers,
     binds: &[FunBind],
 ) -> Result<(), NoMemory>
-    requires { HasTop made.graph made.top }
+    requires { HasTop made.graph.now made.top }
 {
     for bind in binds {
         push_functor(alloc, out, numbers, made.graph, made.top, &bind.name.text)?;
@@ -76,7 +76,7 @@ fn push_funsigs(
     numbers: &mut NameNumbers,
     binds: &[FunsigBind],
 ) -> Result<(), NoMemory>
-    requires { HasTop made.graph made.top }
+    requires { HasTop made.graph.now made.top }
 {
     for bind in binds {
         push_funsig(alloc, out, numbers, made.graph, made.top, &bind.name.text)?;
@@ -91,7 +91,7 @@ fn push_defined(
     made: Made<'_>,
     dec: &TopDec,
 ) -> Result<(), NoMemory>
-    requires { HasTop made.graph made.top }
+    requires { HasTop made.graph.now made.top }
 {
     let mut numbers = NameNumbers::by_order(alloc);
     match dec {
