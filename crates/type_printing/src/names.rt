@@ -27,6 +27,12 @@ fn push_numbered(
     push_bytes(pieces, out.as_slice())
 }
 
+/// Adds the number of a type name behind a mark.
+fn push_marked(pieces: &mut List<Piece>, number: Piece) -> Result<(), NoMemory> {
+    push_bytes(pieces, b"#")?;
+    pieces.add(number)
+}
+
 /// The name of a type name of the basis.
 fn basis_name(number: u64) -> &'static [u8] {
     match usize::try_from(number) {
@@ -53,8 +59,11 @@ pub(crate) fn push_name(
                 push_bytes(pieces, known)
             }
         }
-        Owner::Unit(unit) => push_numbered(alloc, pieces, unit.as_bytes(), name.number),
-        Owner::Bound => push_numbered(alloc, pieces, b"", name.number),
+        Owner::Unit(unit) => {
+            push_bytes(pieces, unit.as_bytes())?;
+            push_marked(pieces, Piece::OwnNumber(name.number))
+        }
+        Owner::Bound => push_marked(pieces, Piece::BoundNumber(name.number)),
     }
 }
 

@@ -3,12 +3,15 @@
 use cm_base::{List, NoMemory};
 use std::alloc::Global;
 
-/// A byte, a variable of the scheme, or one of a table.
+/// A byte, a variable of the scheme, or one of a table; or the number of a type name, of one that a unit made or of one
+/// that a signature or a functor binds.
 #[derive(Clone, Copy)]
 pub(crate) enum Piece {
     Byte(u8),
     Bound(u32),
     Free(usize),
+    OwnNumber(u64),
+    BoundNumber(u64),
 }
 
 /// How a type is held together: what may stand around it without parentheses.

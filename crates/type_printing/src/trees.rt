@@ -1,10 +1,11 @@
 //! Types and schemes.
 
 use crate::names::{are_places, push_name};
+use crate::numbers::NameNumbers;
 use crate::piece::{Piece, Printed, Tightness, leaf, push_bytes, push_part, push_whole};
 use crate::variables::push_named;
 use cm_base::{List, NoMemory, Text};
-use semantic_objects::{Scheme, Symbol, TyName, TypeNode, TypeTree};
+use semantic_objects::{Scheme, Symbol, TyName, TypeFn, TypeNode, TypeTree};
 use std::alloc::Global;
 
 /// Adds what stands at some places, with bytes between two parts.
@@ -169,11 +170,35 @@ fn pieces_of(alloc: Global, tree: &TypeTree) -> Result<List<Piece>, NoMemory> {
 /// Adds a type. Its variables are printed as those of a scheme without marks.
 pub fn push_type(alloc: Global, out: &mut Vec<u8>, tree: &TypeTree) -> Result<(), NoMemory> {
     let pieces = pieces_of(alloc, tree)?;
-    push_named(alloc, out, &pieces, &[])
+    let mut numbers = NameNumbers::as_made(alloc);
+    push_named(alloc, out, &mut numbers, &pieces, 0, &[])
 }
 
 /// Adds a scheme: an equality variable has two apostrophes.
 pub fn push_scheme(alloc: Global, out: &mut Vec<u8>, scheme: &Scheme) -> Result<(), NoMemory> {
+    let mut numbers = NameNumbers::as_made(alloc);
+    push_numbered_scheme(alloc, out, &mut numbers, scheme)
+}
+
+/// Adds a scheme, with type names by these numbers.
+pub fn push_numbered_scheme(
+    alloc: Global,
+    out: &mut Vec<u8>,
+    numbers: &mut NameNumbers,
+    scheme: &Scheme,
+) -> Result<(), NoMemory> {
     let pieces = pieces_of(alloc, scheme.body())?;
-    push_named(alloc, out, &pieces, scheme.marks())
+    push_named(alloc, out, numbers, &pieces, 0, scheme.marks())
+}
+
+/// Adds the type of a type function, with type names by these numbers. Its variables have the names of its arguments,
+/// as `push_arguments` writes them.
+pub fn push_numbered_function(
+    alloc: Global,
+    out: &mut Vec<u8>,
+    numbers: &mut NameNumbers,
+    function: &TypeFn,
+) -> Result<(), NoMemory> {
+    let pieces = pieces_of(alloc, &function.body)?;
+    push_named(alloc, out, numbers, &pieces, function.arity, &[])
 }

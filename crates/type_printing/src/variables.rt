@@ -1,5 +1,6 @@
 //! Names for variables, by first occurrence.
 
+use crate::numbers::NameNumbers;
 use crate::piece::Piece;
 use case_files::{Part, push_parts};
 use cm_base::{List, NoMemory};
@@ -62,15 +63,50 @@ fn push_free(alloc: Global, out: &mut Vec<u8>, seen: &mut Seen, n: usize) -> Res
     }
 }
 
-/// Adds pieces, with names in the places of variables.
+/// Adds the number of a type name.
+fn push_number(alloc: Global, out: &mut Vec<u8>, number: u64) -> Result<(), NoMemory> {
+    push_parts(alloc, out, &[Part::Number(number)])
+}
+
+/// The variables of a type function, in the order of its arguments.
+fn arguments(alloc: Global, arity: u32) -> Result<List<u32>, NoMemory> {
+    let mut bound = List::new(alloc);
+    for i in 0..arity {
+        bound.add(i)?;
+    }
+    Ok(bound)
+}
+
+/// Adds the arguments of a type function as they stand in front of its name: nothing, `'a `, or `('a, 'b) `.
+pub fn push_arguments(alloc: Global, out: &mut Vec<u8>, arity: u32) -> Result<(), NoMemory> {
+    if arity > 1 {
+        push_parts(alloc, out, &[Part::Text(b"(")])?;
+    }
+    for i in 0..arity {
+        let mark: &[u8] = if i == 0 { b"'" } else { b", '" };
+        push_parts(alloc, out, &[Part::Text(mark)])?;
+        push_letter(alloc, out, i as usize)?;
+    }
+    let end: &[u8] = match arity {
+        0 => b"",
+        1 => b" ",
+        _ => b") ",
+    };
+    push_parts(alloc, out, &[Part::Text(end)])
+}
+
+/// Adds pieces, with names in the places of variables and of numbers. The first variables have the first names, in
+/// order.
 pub(crate) fn push_named(
     alloc: Global,
     out: &mut Vec<u8>,
+    numbers: &mut NameNumbers,
     pieces: &List<Piece>,
+    first: u32,
     marks: &[bool],
 ) -> Result<(), NoMemory> {
     let mut seen = Seen {
-        bound: List::new(alloc),
+        bound: arguments(alloc, first)?,
         free: List::new(alloc),
     };
     for piece in pieces.as_slice() {
@@ -78,6 +114,8 @@ pub(crate) fn push_named(
             Piece::Byte(byte) => out.push(byte)?,
             Piece::Bound(i) => push_bound(alloc, out, &mut seen, marks, i)?,
             Piece::Free(n) => push_free(alloc, out, &mut seen, n)?,
+            Piece::OwnNumber(number) => push_number(alloc, out, numbers.of_own(number)?)?,
+            Piece::BoundNumber(number) => push_number(alloc, out, numbers.of_bound(number)?)?,
         }
     }
     Ok(())
