@@ -1,6 +1,6 @@
 -- What stands for the variables of a table, by the answers for its nodes.
 use Rattle.std.proofs.Common.{◌≡◌, ℕ, zero, suc, ◌+◌, ◌<◌, ◌≤◌, List, [], ◌∷◌, ◌++◌, length, drop, refl, sym, ap, ap₂, ◌∙◌, subst, Some, Bool, true, false, arith, ◌⊎◌, inl, inr, slice_get, eqb, ltb}
-use Rattle.std.specs.Prelude.{◌↔◌}
+use Rattle.std.specs.Prelude.{◌↔◌, Result, Ok, Err, IfOk}
 use Rattle.std.proofs.lemmas.Bool.{eqb-true, eqb-false, ltb-true, ltb-false}
 use Rattle.std.proofs.lemmas.List.{length-append}
 use Rattle.semantic_objects.specs.declared.name.TyId.{TyId}
@@ -11,7 +11,7 @@ use Rattle.unification.specs.Types.{Ty, Types, size, size_all}
 use Rattle.type_nodes.specs.Keeping.{IsKept}
 use Rattle.type_nodes.specs.Tables.{Table, state, whole, whole_all}
 use Rattle.sml_types.specs.Looking.{LooksVariable}
-use Rattle.inference_laws.specs.Nodes.{Nodes, TyOf, TysOf, StateOf, count_types}
+use Rattle.inference_laws.specs.Nodes.{Nodes, TyOf, TysOf, StateOf, count_types, below_number}
 use Rattle.given_tops.specs.Knowing.{UpTo, IsSure, IsNear, Says, SaysPart, AreNear, AreOf, SaysAll, AreTold}
 
 module _ (t : Table) (q : Nodes) where
@@ -167,3 +167,12 @@ module _ (t : Table) (q : Nodes) where
               let l : at ≤ v = ltb-false v at i in
               let n : (state t).next ≡ count = k.next ∙ sym e in
               sure_beyond v (k.fit.beyond v (omega (arith, l, le, n)))
+
+-- where home and number are those of a graph
+pub knows_is : {E : Type 0} (t : Table) (home h : List ℕ) (k n : ℕ) (r : Result Bool E) → h ≡ home → n ≡ k
+    → IfOk r (λ b. (b ≡ true) ↔ StateOf (below_number h n) (state t))
+    → IfOk r (λ b. (b ≡ true) ↔ StateOf (below_number home k) (state t))
+knows_is t home h k n (Ok b) e f s =
+    subst (λ z. (b ≡ true) ↔ StateOf (below_number z k) (state t)) e
+    (subst (λ m. (b ≡ true) ↔ StateOf (below_number h m) (state t)) f s)
+knows_is t home h k n (Err x) e f s = tt
