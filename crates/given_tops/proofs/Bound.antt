@@ -1,5 +1,5 @@
 -- Names that are bound in order, and what may stand beside them.
-use Rattle.std.proofs.Common.{◌≡◌, ℕ, suc, List, [], ◌∷◌, ◌++◌, refl, sym, subst, Bool, true, false, ◌&&◌, ◌||◌, eqb, ltb, not, nat_eq}
+use Rattle.std.proofs.Common.{◌≡◌, ℕ, suc, List, [], ◌∷◌, ◌++◌, refl, sym, ap, ap₂, ◌∙◌, subst, Bool, true, false, ◌&&◌, ◌||◌, eqb, ltb, not, nat_eq}
 use Rattle.std.specs.Prelude.{◌↔◌}
 use Rattle.std.specs.Cmp.Lexicographic.{nat_list_eq_equiv, same_text as same_bytes}
 use Rattle.unification.proofs.Walking.{not_both, or_right, or_either, and_left}

@@ -1,5 +1,5 @@
 -- What may be given is what the rules ask of it.
-use Rattle.std.proofs.Common.{◌≡◌, ℕ, List, [], ◌∷◌, ◌++◌, length, map, drop, refl, sym, subst, Bool, true, false, ◌≤◌}
+use Rattle.std.proofs.Common.{◌≡◌, ℕ, List, [], ◌∷◌, ◌++◌, length, map, drop, refl, sym, ap, ◌∙◌, subst, Bool, true, false, ◌≤◌}
 use Rattle.std.specs.Prelude.{◌↔◌, Result, Ok, Err, IfOk}
 use Rattle.unification.proofs.Walking.{not_both}
 use Rattle.env_parts.proofs.Tabling.{drop_past}

@@ -1,5 +1,5 @@
 -- Entries of environments, and the order of their constructors.
-use Rattle.std.proofs.Common.{◌≡◌, ℕ, zero, suc, ◌+◌, ◌<◌, ◌≤◌, refl, sym, ap, ap₂, ◌∙◌, subst, arith, Some, drop, List, [], ◌∷◌, length, get_or, Bool, true, false, eqb}
+use Rattle.std.proofs.Common.{◌≡◌, ℕ, zero, suc, ◌+◌, ◌<◌, ◌≤◌, refl, sym, ap, ap₂, ◌∙◌, subst, arith, Some, drop, List, [], ◌∷◌, length, map, get_or, Bool, true, false, ◌&&◌, eqb}
 use Rattle.std.specs.Prelude.{◌↔◌, slice_get}
 use Rattle.std.specs.Ordering.{nat_cmp, is_lt}
 use Rattle.std.specs.declared.cmp.Ordering.{Ordering}
@@ -15,9 +15,10 @@ use Rattle.semantic_objects.specs.declared.entry.ConEntry.{ConEntry}
 use Rattle.semantic_objects.specs.declared.entry.TypeStr.{TypeStr}
 use Rattle.semantic_objects.specs.Symbols.{AreRising}
 use Rattle.semantic_objects.specs.Tables.{Table, IsTable, by_bytes, names_of}
+use Rattle.semantic_objects.specs.Trees.{TypeScheme}
 use Rattle.static_semantics.specs.Holding.{AllItems, ConHas}
 use Rattle.inference_laws.specs.Nodes.{Nodes}
-use Rattle.table_laws.specs.Rising.{con_table}
+use Rattle.table_laws.specs.Rising.{con_table, RisingType}
 use Rattle.given_tops.specs.Fitting.{SchemeFits, FunctionFits, TypeFits}
 
 -- ---- tables whose names rise

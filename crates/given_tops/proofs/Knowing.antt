@@ -1,5 +1,5 @@
 -- What stands for the variables of a table, by the answers for its nodes.
-use Rattle.std.proofs.Common.{◌≡◌, ℕ, zero, suc, ◌+◌, ◌<◌, ◌≤◌, List, [], ◌∷◌, ◌++◌, length, refl, sym, ap, ◌∙◌, subst, Some, Bool, true, false, arith, ◌⊎◌, inl, inr, slice_get, eqb, ltb}
+use Rattle.std.proofs.Common.{◌≡◌, ℕ, zero, suc, ◌+◌, ◌<◌, ◌≤◌, List, [], ◌∷◌, ◌++◌, length, drop, refl, sym, ap, ap₂, ◌∙◌, subst, Some, Bool, true, false, arith, ◌⊎◌, inl, inr, slice_get, eqb, ltb}
 use Rattle.std.specs.Prelude.{◌↔◌, Result, Ok, Err, IfOk}
 use Rattle.std.proofs.lemmas.Bool.{eqb-true, eqb-false, ltb-true, ltb-false}
 use Rattle.std.proofs.lemmas.List.{length-append}
@@ -7,7 +7,7 @@ use Rattle.semantic_objects.specs.declared.name.TyId.{TyId}
 use Rattle.semantic_objects.specs.declared.name.TyId.TheVariants as id
 use Rattle.semantic_objects.specs.declared.symbol.Symbol.{Symbol}
 use Rattle.unification.proofs.Walking.{not_both}
-use Rattle.unification.specs.Types.{Ty, size, size_all}
+use Rattle.unification.specs.Types.{Ty, Types, size, size_all}
 use Rattle.type_nodes.specs.Keeping.{IsKept}
 use Rattle.type_nodes.specs.Tables.{Table, state, whole, whole_all}
 use Rattle.sml_types.specs.Looking.{LooksVariable}

@@ -1,5 +1,5 @@
 -- Items of a list that are gone through one after another.
-use Rattle.std.proofs.Common.{◌≡◌, ℕ, ◌+◌, ◌<◌, ◌≤◌, sym, ap, ◌∙◌, subst, drop, List, [], ◌∷◌, length, get_or}
+use Rattle.std.proofs.Common.{◌≡◌, ℕ, ◌+◌, ◌<◌, ◌≤◌, refl, sym, ap, ◌∙◌, subst, drop, List, [], ◌∷◌, length, get_or}
 use Rattle.env_parts.proofs.Tabling.{drop_next, drop_past}
 
 -- what is left before an item is looked at

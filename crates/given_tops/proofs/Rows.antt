@@ -1,10 +1,11 @@
 -- What stands in the tables of environments.
-use Rattle.std.proofs.Common.{◌≡◌, ℕ, List, [], ◌∷◌, ◌++◌, map, refl, sym, ap, ap₂, ◌∙◌, subst, Option, Some, None, true, ◌&&◌, cond, nat_eq}
+use Rattle.std.proofs.Common.{◌≡◌, ℕ, List, [], ◌∷◌, ◌++◌, map, refl, sym, ap, ap₂, ◌∙◌, subst, Option, Some, None, Bool, true, ◌&&◌, cond, nat_eq}
 use Rattle.std.specs.Option.{is_some}
 use Rattle.std.specs.Ordering.{is_lt}
 use Rattle.std.specs.FinMap.Entries.{below_all, is_sorted}
 use Rattle.std.proofs.lemmas.Bool.{eqb-true}
 use Rattle.unification.proofs.Walking.{either_way}
+use Rattle.semantic_objects.specs.declared.entry.TypeStr.{TypeStr}
 use Rattle.semantic_objects.specs.Tables.{Table, IsTable, by_bytes}
 use Rattle.semantic_objects.specs.Environments.{Env, structures_of, table_of}
 use Rattle.env_parts.specs.declared.tables.EnvTables.{EnvTables}

@@ -1,6 +1,7 @@
 -- The steps of a walk.
 use Rattle.std.proofs.Common.{◌≡◌, ℕ, List, [], ◌∷◌, ◌++◌, map, refl, sym, subst, Bool, true, false}
 use Rattle.std.specs.Prelude.{◌↔◌, Result, Ok, Err, IfOk}
+use Rattle.std.specs.Option.{is_some}
 use Rattle.semantic_objects.specs.Tables.{IsTable}
 use Rattle.sml_modules.specs.declared.node.EnvNode.{EnvNode}
 use Rattle.sml_modules.specs.declared.node.Node.TheVariants as node
@@ -10,10 +11,11 @@ use Rattle.inference_laws.specs.Nodes.{Nodes}
 use Rattle.environment_walks.specs.declared.places.Images.{Images}
 use Rattle.environment_walks.specs.declared.steps.Step.{Step}
 use Rattle.environment_walks.specs.declared.steps.Step.TheVariants as step
+use Rattle.environment_walks.specs.Changing.{image_in}
 use Rattle.environment_walks.specs.Stepping.{entered}
 use Rattle.given_tops.specs.Fitting.{EnvFits}
 use Rattle.given_tops.specs.Walking.{ItemFits, AreFit, AreDone, AreAsked, Asked, step_place}
-use Rattle.given_tops.proofs.Rows.{TablesFit, tables_fit, fits_tables, env_fits, fits_env, IsSet, set_fits, rows_done, asked_append, asked_front, asked_back, rows_asked}
+use Rattle.given_tops.proofs.Rows.{TablesFit, tables_fit, fits_tables, env_fits, fits_env, IsSet, set_fits, done_fits, rows_done, asked_append, asked_front, asked_back, rows_asked}
 
 -- the answer for the item at a place
 pub entry_at : {E : Type 0} (q : Nodes) (items : List Item) (place : ℕ) (item : Item) (r : Result Bool E)

@@ -1,6 +1,6 @@
 -- What may be given, part by part: its nodes may stand, no type variable of a table stands in it, and its tables rise.
 -- Only private functions cite this file.
-use Rattle.std.specs.Prelude.{length}
+use Rattle.std.specs.Prelude.{ℕ, length}
 use Rattle.semantic_objects.specs.declared.entry.TypeFn.{TypeFn}
 use Rattle.semantic_objects.specs.declared.entry.TypeStr.{TypeStr}
 use Rattle.semantic_objects.specs.Trees.{TypeScheme}

@@ -1,4 +1,4 @@
-use Rattle.std.proofs.Common.{sym, ap, subst, length, List, Bool}
+use Rattle.std.proofs.Common.{refl, sym, ap, subst, length, List, Bool}
 use Rattle.given_tops.specs.Names.{nodes_of}
 use Rattle.given_tops.specs.Knowing.{AreTold}
 use Rattle.given_tops.proofs.Knowing.{told_nothing, held_next, held_counted}
