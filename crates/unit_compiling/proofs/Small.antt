@@ -7,8 +7,8 @@ use Rattle.cm_base.specs.declared.diag.Diag.{Diag}
 use Rattle.cm_base.specs.declared.record.Compiled.{Compiled}
 use Rattle.sml_syntax.specs.Code.{code_of}
 use Rattle.imported_interfaces.specs.Imported.{imported}
-use Rattle.compiled_units.specs.Compiled.{bare_of_source, defined_by, interface_of, within_limits, compiled_top, compiled_seeing, compiled_bare}
-use Rattle.compiled_units.specs.Promises.{IsSmall, CompiledUnitsAreSmall}
+use Rattle.unit_compiling.specs.Compiled.{bare_of_source, defined_by, interface_of, within_limits, compiled_top, compiled_seeing, compiled_bare}
+use Rattle.unit_compiling.specs.Promises.{IsSmall, CompiledUnitsAreSmall}
 
 -- where two steps give something, the first one does
 given : {A B P : Type 0} (first : Result A Diag) (next : A → Result B Diag) (b : B) → (first >>= next) ≡ Ok b

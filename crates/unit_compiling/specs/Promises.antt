@@ -2,7 +2,7 @@
 use Rattle.std.specs.Prelude.{◌≡◌, ◌≤◌, length, Ok}
 use Rattle.cm_base.specs.declared.record.CompileInput.{CompileInput}
 use Rattle.cm_base.specs.declared.record.Compiled.{Compiled}
-use Rattle.compiled_units.specs.Compiled.{compiled_of}
+use Rattle.unit_compiling.specs.Compiled.{compiled_of}
 
 -- interface and code are within their limits
 pub record IsSmall (compiled : Compiled) : Type 0 where

@@ -4,4 +4,4 @@
 
 mod laws;
 
-pub use laws::compiled_units_are_small;
+pub use laws::unit_compiling_are_small;
