@@ -7,10 +7,16 @@ pub enum Kind {
     Nodes,
     /// `restored`: bytes that are read back as interfaces, by steps.
     Restored,
+    /// `imports`: imports of a unit that are read, by steps.
+    Imports,
 }
 
 /// The kinds with their names.
-const KINDS: [(&[u8], Kind); 2] = [(b"nodes", Kind::Nodes), (b"restored", Kind::Restored)];
+const KINDS: [(&[u8], Kind); 3] = [
+    (b"nodes", Kind::Nodes),
+    (b"restored", Kind::Restored),
+    (b"imports", Kind::Imports),
+];
 
 /// The kind of a name.
 pub fn kind_of(name: &[u8]) -> Option<Kind> {

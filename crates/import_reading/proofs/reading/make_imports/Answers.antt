@@ -1,0 +1,22 @@
+use Rattle.sml_modules.proofs.Keeping.{extends_then}
+use Rattle.import_reading.proofs.Following.{top_read}
+use Rattle.import_reading.proofs.reading.make_imports.Goals as goal
+use Rattle.std.proofs.Common.{refl}
+
+pub add_unit-requires : goal.add_unit-requires
+add_unit-requires c = c.in_ok-read.ensures.reads.read.there
+
+pub returns-clause-extends : goal.returns-clause-extends
+returns-clause-extends c =
+    extends_then c.args.graph.now c.read_all.new.graph c.add_unit.new.graph c.read_all.ensures.extends
+    c.add_unit.ensures.extends
+
+pub returns-clause-reads : goal.returns-clause-reads
+returns-clause-reads c =
+    top_read c.args.unit.now c.args.imports.now c.read_all.new.graph c.add_unit.new.graph c.in_ok-read.read
+    c.in_ok-read.read.tables c.in_ok-place.place c.in_ok-read.ensures.reads refl c.in_ok-place.ensures.adds
+
+pub returns-in_err-place-clause-extends : goal.returns-in_err-place-clause-extends
+returns-in_err-place-clause-extends c =
+    extends_then c.args.graph.now c.read_all.new.graph c.add_unit.new.graph c.read_all.ensures.extends
+    c.add_unit.ensures.extends
