@@ -1,1 +1,3 @@
 pub mod Small
+pub mod Sources
+pub mod Steps

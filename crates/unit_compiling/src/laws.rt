@@ -4,6 +4,6 @@ ghost use Rattle.unit_compiling.specs.Promises.{CompiledUnitsAreSmall};
 
 /// Interface and code of a unit are within their limits.
 #[tactic(auto, using(crate::proofs::Small::are_small))]
-pub fn unit_compiling_are_small()
+pub fn compiled_units_are_small()
     ensures { CompiledUnitsAreSmall }
 {}

@@ -1,7 +1,10 @@
-//! What the compiler of the whole language defines of a unit: its interface and its code, or its first diagnostic. Not
-//! used yet.
+//! Units are compiled: a source becomes its interface and its code, or its first diagnostic.
 #![tactic(auto)]
 
+mod compiling;
 mod laws;
+mod source;
 
-pub use laws::unit_compiling_are_small;
+pub use compiling::compile_unit;
+pub use laws::compiled_units_are_small;
+pub use source::bare_of_source;
