@@ -4,5 +4,7 @@
 mod compiler;
 mod fault;
 mod front;
+mod laws;
 
 pub use compiler::SmlCompiler;
+pub use laws::what_is_compiled_has_a_skeleton;
