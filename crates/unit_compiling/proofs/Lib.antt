@@ -1,3 +1,2 @@
 pub mod Small
 pub mod Sources
-pub mod Steps
