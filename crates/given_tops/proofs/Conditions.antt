@@ -1,6 +1,6 @@
 -- What may be given is what the rules ask of it.
 use Rattle.std.proofs.Common.{◌≡◌, ℕ, List, [], ◌∷◌, ◌++◌, length, map, drop, refl, sym, ap, ◌∙◌, subst, Bool, true, false, ◌≤◌}
-use Rattle.std.specs.Prelude.{◌↔◌}
+use Rattle.std.specs.Prelude.{◌↔◌, Result, Ok, Err, IfOk}
 use Rattle.unification.proofs.Walking.{not_both}
 use Rattle.env_parts.proofs.Tabling.{drop_past}
 use Rattle.semantic_objects.specs.declared.entry.ConEntry.{ConEntry}
@@ -199,12 +199,21 @@ module _ (home : List ℕ) (k : ℕ) where
     );
   }
 
-  pub top_is : (top : Top) (b : Bool) → (b ≡ true) ↔ TopFits (below_number home k) top
+  top_is : (top : Top) (b : Bool) → (b ≡ true) ↔ TopFits (below_number home k) top
       → (b ≡ true) ↔ (TopOf (below_number home k) top × RisingTop top × IsClosedTop top)
   top_is top b h = (
     λ t. (let f : TopFits (below_number home k) top = h.0 t in (top_of top f, top_rises top f, top_closed top f)),
     λ p. h.1 (fits_top top p.0 p.1 p.2),
   )
+
+  -- .. where home and number are those of a graph
+  pub front_is : {E : Type 0} (h : List ℕ) (n : ℕ) (top : Top) (r : Result Bool E) → h ≡ home → n ≡ k
+      → IfOk r (λ b. (b ≡ true) ↔ TopFits (below_number h n) top)
+      → IfOk r (λ b. (b ≡ true) ↔ (TopOf (below_number home k) top × RisingTop top × IsClosedTop top))
+  front_is h n top (Ok b) e f s =
+      top_is top b (subst (λ z. (b ≡ true) ↔ TopFits (below_number z k) top) e
+      (subst (λ m. (b ≡ true) ↔ TopFits (below_number h m) top) f s))
+  front_is h n top (Err x) e f s = tt
 
 -- ---- what stands at places
 
@@ -301,3 +310,50 @@ module _ {A : Type 0} (f : ℕ → A) (R : A → Type 0) where
     λ t. absurd (cc),
     λ k. absurd (h (subst (AllItems (λ p. R (f p))) (sym e) (at_rows rows k.1))),
   )
+
+-- ---- tops
+
+module _ (q : Nodes) (items : List Item) (top : Top) (t : TopTables) (e : top ≡ top_of_tables items t) where
+  pub top_says : (a s f b : Bool) → (a ≡ true) ↔ EnvFits q (as_env (at items t.env)) → a ≡ true
+      → (s ≡ true) ↔ TableWith (SignatureFits q) (map_rows (λ p. as_signature (at items p)) t.signatures) → s ≡ true
+      → (f ≡ true) ↔ TableWith (FunctorFits q) (map_rows (λ p. as_functor (at items p)) t.functors) → f ≡ true
+      → (b ≡ true) ↔ TableWith (FunctorFits q) (map_rows (λ p. as_functor (at items p)) t.funsigs)
+      → (b ≡ true) ↔ TopFits q top
+  top_says a s f b env et sigs st funs ft funsigs =
+      subst (λ x. (b ≡ true) ↔ TopFits q x) (sym e) (
+        λ i. record { env = env.0 et; signatures = sigs.0 st; functors = funs.0 ft; funsigs = funsigs.0 i },
+        λ h. funsigs.1 h.funsigs,
+      )
+
+  pub top_env_not : (a : Bool) → (a ≡ true) ↔ EnvFits q (as_env (at items t.env)) → a ≡ false
+      → (false ≡ true) ↔ TopFits q top
+  top_env_not a env f =
+      subst (λ x. (false ≡ true) ↔ TopFits q x) (sym e) (λ i. absurd (cc), λ h. absurd (not_both a f (env.1 h.env)))
+
+  pub top_signatures_not : (s : Bool)
+      → (s ≡ true) ↔ TableWith (SignatureFits q) (map_rows (λ p. as_signature (at items p)) t.signatures) → s ≡ false
+      → (false ≡ true) ↔ TopFits q top
+  top_signatures_not s sigs f =
+      subst (λ x. (false ≡ true) ↔ TopFits q x) (sym e) (
+        λ i. absurd (cc),
+        λ h. absurd (not_both s f (sigs.1 h.signatures)),
+      )
+
+  pub top_functors_not : (s : Bool)
+      → (s ≡ true) ↔ TableWith (FunctorFits q) (map_rows (λ p. as_functor (at items p)) t.functors) → s ≡ false
+      → (false ≡ true) ↔ TopFits q top
+  top_functors_not s funs f =
+      subst (λ x. (false ≡ true) ↔ TopFits q x) (sym e) (
+        λ i. absurd (cc),
+        λ h. absurd (not_both s f (funs.1 h.functors)),
+      )
+
+-- ---- names that are bound
+
+pub in_order : (fun : FunNode) (a b : Bool) → (a ≡ true) ↔ AreBoundFrom 0 fun.bound → a ≡ true
+    → (b ≡ true) ↔ AreBoundFrom (length fun.bound) fun.further → (b ≡ true) ↔ BindsInOrder fun
+in_order fun a b h t k = (λ i. (h.0 t, k.0 i), λ i. k.1 i.1)
+
+pub not_in_order : (fun : FunNode) (a : Bool) → (a ≡ true) ↔ AreBoundFrom 0 fun.bound → a ≡ false
+    → (false ≡ true) ↔ BindsInOrder fun
+not_in_order fun a h f = (λ i. absurd (cc), λ i. absurd (not_both a f (h.1 i.0)))

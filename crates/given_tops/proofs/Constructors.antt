@@ -1,5 +1,5 @@
 -- Entries of environments, and the order of their constructors.
-use Rattle.std.proofs.Common.{◌≡◌, ℕ, zero, suc, ◌-◌, ◌<◌, ◌≤◌, refl, sym, ap, ap₂, ◌∙◌, subst, arith, Some, drop, List, [], ◌∷◌, length, map, get_or, Bool, true, false, ◌&&◌, eqb}
+use Rattle.std.proofs.Common.{◌≡◌, ℕ, zero, suc, ◌+◌, ◌<◌, ◌≤◌, refl, sym, ap, ap₂, ◌∙◌, subst, arith, Some, drop, List, [], ◌∷◌, length, map, get_or, Bool, true, false, ◌&&◌, eqb}
 use Rattle.std.specs.Prelude.{◌↔◌, slice_get}
 use Rattle.std.specs.Ordering.{nat_cmp, is_lt}
 use Rattle.std.specs.declared.cmp.Ordering.{Ordering}
@@ -123,15 +123,34 @@ pub cons_all : (at : ℕ) (cons : List ConEntry) → RisesTo at (cons_names cons
     → AreRising (cons_names cons)
 cons_all at cons h le = rises_all at (cons_names cons) h (subst (λ z. z ≤ at) (sym (as_many cons)) le)
 
-pub con_before : (cons : List ConEntry) (k : ℕ) (x y : ConEntry) → AreRising (cons_names cons) → slice_get cons k ≡ Some x
+con_before : (cons : List ConEntry) (k : ℕ) (x y : ConEntry) → AreRising (cons_names cons) → slice_get cons k ≡ Some x
     → slice_get cons (suc k) ≡ Some y → slice_cmp nat_cmp x.name y.name ≡ Less
 con_before cons k x y h e i = rises_at (cons_names cons) k x.name y.name h (name_at cons k x e) (name_at cons (suc k) y i)
 
-pub con_after : (cons : List ConEntry) (k : ℕ) (x y : ConEntry) → RisesTo (suc k) (cons_names cons)
+con_after : (cons : List ConEntry) (k : ℕ) (x y : ConEntry) → RisesTo (suc k) (cons_names cons)
     → slice_get cons k ≡ Some x → slice_get cons (suc k) ≡ Some y → slice_cmp nat_cmp x.name y.name ≡ Less
     → RisesTo (suc (suc k)) (cons_names cons)
 con_after cons k x y h e i l =
     rises_next (cons_names cons) k x.name y.name h (name_at cons k x e) (name_at cons (suc k) y i) l
+
+-- the next name is looked at
+pub rise_next : (cons : List ConEntry) (j at : ℕ) (x y : ConEntry) (b : Bool) → suc j ≡ at → slice_get cons j ≡ Some x
+    → slice_get cons at ≡ Some y → (b ≡ true) ↔ (slice_cmp nat_cmp x.name y.name ≡ Less) → b ≡ true
+    → RisesTo at (cons_names cons) → RisesTo (at + 1) (cons_names cons)
+rise_next cons j at x y b e f g s t h =
+    let k : suc at ≡ at + 1 = omega arith in
+    subst (λ n. RisesTo n (cons_names cons)) k
+    (subst (λ n. RisesTo (suc n) (cons_names cons)) e
+    (con_after cons j x y (subst (λ n. RisesTo n (cons_names cons)) (sym e) h) f
+    (subst (λ n. slice_get cons n ≡ Some y) (sym e) g) (s.0 t)))
+
+pub rise_fails : (cons : List ConEntry) (j at : ℕ) (x y : ConEntry) (b : Bool) → suc j ≡ at → slice_get cons j ≡ Some x
+    → slice_get cons at ≡ Some y → (b ≡ true) ↔ (slice_cmp nat_cmp x.name y.name ≡ Less) → b ≡ false
+    → (false ≡ true) ↔ AreRising (cons_names cons)
+rise_fails cons j at x y b e f g s t = (
+  λ k. absurd (cc),
+  λ h. absurd (not_both b t (s.1 (con_before cons j x y h f (subst (λ n. slice_get cons n ≡ Some y) (sym e) g)))),
+)
 
 -- ---- what stands in constructors
 

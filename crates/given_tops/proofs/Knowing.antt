@@ -1,6 +1,6 @@
 -- What stands for the variables of a table, by the answers for its nodes.
 use Rattle.std.proofs.Common.{◌≡◌, ℕ, zero, suc, ◌+◌, ◌<◌, ◌≤◌, List, [], ◌∷◌, ◌++◌, length, drop, refl, sym, ap, ap₂, ◌∙◌, subst, Some, Bool, true, false, arith, ◌⊎◌, inl, inr, slice_get, eqb, ltb}
-use Rattle.std.specs.Prelude.{◌↔◌}
+use Rattle.std.specs.Prelude.{◌↔◌, Result, Ok, Err, IfOk}
 use Rattle.std.proofs.lemmas.Bool.{eqb-true, eqb-false, ltb-true, ltb-false}
 use Rattle.std.proofs.lemmas.List.{length-append}
 use Rattle.semantic_objects.specs.declared.name.TyId.{TyId}
@@ -11,7 +11,7 @@ use Rattle.unification.specs.Types.{Ty, Types, size, size_all}
 use Rattle.type_nodes.specs.Keeping.{IsKept}
 use Rattle.type_nodes.specs.Tables.{Table, state, whole, whole_all}
 use Rattle.sml_types.specs.Looking.{LooksVariable}
-use Rattle.inference_laws.specs.Nodes.{Nodes, TyOf, TysOf, StateOf, count_types}
+use Rattle.inference_laws.specs.Nodes.{Nodes, TyOf, TysOf, StateOf, count_types, below_number}
 use Rattle.given_tops.specs.Knowing.{UpTo, IsSure, IsNear, Says, SaysPart, AreNear, AreOf, SaysAll, AreTold}
 
 module _ (t : Table) (q : Nodes) where
@@ -21,7 +21,7 @@ module _ (t : Table) (q : Nodes) where
   near_variable v n up lt = up v lt
 
   pub says_part : (a : TyId) (b : Bool) → Says t q a b → SaysPart t q a b
-  says_part a true h n up lt = h n up (omega (arith, lt))
+  says_part a true h = λ n up lt. h n up (omega (arith, lt))
   says_part a false h = h
 
   pub says_more : (a : TyId) (ids : List TyId) (b : Bool) → IsNear t q a → SaysAll t q ids b → SaysAll t q (a ∷ ids) b
@@ -54,10 +54,10 @@ module _ (t : Table) (q : Nodes) where
 
   pub made_says : (a : TyId) (c : Symbol) (ids : List TyId) (b : Bool) → whole t a ≡ Ty.Made c (whole_all t ids)
       → q c (count_types (whole_all t ids)) ≡ true → SaysAll t q ids b → Says t q a b
-  made_says a c ids true e s h n up le =
+  made_says a c ids true e s h = λ n up le.
       let k : size (whole t a) ≡ size_all (whole_all t ids) + 1 = ap size e in
       subst (TyOf q) (sym e) (s, near_all ids h n up (omega (arith, k, le)))
-  made_says a c ids false e s h k = h (all_of ids (parts (subst (TyOf q) e k)))
+  made_says a c ids false e s h = λ k. h (all_of ids (parts (subst (TyOf q) e k)))
     where
       parts : TyOf q (Ty.Made c (whole_all t ids)) → TysOf q (whole_all t ids)
       parts w = w.1
@@ -167,3 +167,12 @@ module _ (t : Table) (q : Nodes) where
               let l : at ≤ v = ltb-false v at i in
               let n : (state t).next ≡ count = k.next ∙ sym e in
               sure_beyond v (k.fit.beyond v (omega (arith, l, le, n)))
+
+-- where home and number are those of a graph
+pub knows_is : {E : Type 0} (t : Table) (home h : List ℕ) (k n : ℕ) (r : Result Bool E) → h ≡ home → n ≡ k
+    → IfOk r (λ b. (b ≡ true) ↔ StateOf (below_number h n) (state t))
+    → IfOk r (λ b. (b ≡ true) ↔ StateOf (below_number home k) (state t))
+knows_is t home h k n (Ok b) e f s =
+    subst (λ z. (b ≡ true) ↔ StateOf (below_number z k) (state t)) e
+    (subst (λ m. (b ≡ true) ↔ StateOf (below_number h m) (state t)) f s)
+knows_is t home h k n (Err x) e f s = tt

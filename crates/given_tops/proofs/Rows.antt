@@ -197,6 +197,10 @@ module _ (q : Nodes) (items : List Item) where
 abbrev pub IsSet : Images → Images → ℕ → ℕ → Type 0
 IsSet old new place image = (p : ℕ) → image_in new p ≡ cond (nat_eq place p) (Some image) (image_in old p)
 
+pub none_fit : (q : Nodes) (items : List Item) (done : Images) → ((p : ℕ) → image_in done p ≡ None)
+    → AreFit q items done
+none_fit q items done h = record { each = λ p r e. let k : None ≡ Some r = sym (h p) ∙ e in absurd (cc) }
+
 pub set_fits : (q : Nodes) (items : List Item) (old new : Images) (place image : ℕ) → AreFit q items old
     → ItemFits q (at items place) → IsSet old new place image → AreFit q items new
 set_fits q items old new place image h k set = record {

@@ -2,8 +2,9 @@
 use Rattle.std.specs.Prelude.{◌≡◌, ℕ, ◌<◌, ◌≤◌, List, [], ◌∷◌, slice_get, Some, Bool, true, false}
 use Rattle.semantic_objects.specs.declared.name.TyId.{TyId}
 use Rattle.semantic_objects.specs.declared.name.TyId.TheVariants as id
-use Rattle.unification.specs.Types.{size}
-use Rattle.type_nodes.specs.Tables.{Table, state, whole}
+use Rattle.semantic_objects.specs.declared.symbol.Symbol.{Symbol}
+use Rattle.unification.specs.Types.{Ty, size}
+use Rattle.type_nodes.specs.Tables.{Table, state, whole, whole_all}
 use Rattle.inference_laws.specs.Nodes.{Nodes, TyOf}
 
 -- what stands for variables is made of such nodes, where it is smaller than a size
@@ -26,6 +27,10 @@ Says t q a false = TyOf q (whole t a) → ⊥
 abbrev pub SaysPart : Table → Nodes → TyId → Bool → Type 0
 SaysPart t q a true = IsNear t q a
 SaysPart t q a false = TyOf q (whole t a) → ⊥
+
+-- .. for each id at which a symbol with these parts stands
+abbrev pub SaysMade : Table → Nodes → Symbol → List TyId → Bool → Type 0
+SaysMade t q c ids b = (a : TyId) → whole t a ≡ Ty.Made c (whole_all t ids) → Says t q a b
 
 -- .. for all parts of one
 abbrev pub AreNear : Table → Nodes → List TyId → Type 0

@@ -1,19 +1,32 @@
 //! Type names of a unit with numbers below another.
 
-ghost use Rattle.std.specs.Prelude.{◌≡◌, ◌↔◌, ◌≤◌, ◌^◌, [], ◌∷◌, IsTrue};
+ghost use Rattle.std.specs.Prelude.{◌≡◌, ◌↔◌, ◌≤◌, ◌^◌, [], ◌∷◌, length, IsTrue, IfOk};
 ghost use Rattle.semantic_objects.specs.declared.symbol.Symbol.TheVariants as symbol;
 ghost use Rattle.static_semantics.specs.DatatypeInference.{same_as_home};
 ghost use Rattle.unit_laws.specs.Parts.{AreBoundFrom};
 ghost use Rattle.given_tops.specs.Names.{may_stand};
 
-use cm_base::{List, Text};
+use cm_base::{List, NoMemory, Text};
 use semantic_objects::{Owner, Symbol, TyName};
+use sml_modules::EnvGraph;
 
 /// A unit, and the number below which its type names may stand.
 #[derive(Drop)]
 pub(crate) struct Limits {
     pub(crate) home: Text,
     pub(crate) number: u64,
+}
+
+/// The unit that a graph is at, and the number that its next type name gets.
+pub(crate) fn limits_of(g: &EnvGraph) -> Result<Limits, NoMemory>
+    ensures home { IfOk result (λ limits. limits.home ≡ g.now.home) }
+    ensures number { IfOk result (λ limits. limits.number ≡ length g.now.made) }
+{
+    let home = g.home()?;
+    Ok(Limits {
+        home,
+        number: g.made(),
+    })
 }
 
 /// Whether a unit owns a type name.

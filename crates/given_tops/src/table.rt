@@ -8,11 +8,11 @@ ghost use Rattle.type_nodes.specs.Tables.{Has, state};
 ghost use Rattle.sml_types.specs.Looking.{ids_of};
 ghost use Rattle.inference_laws.specs.Nodes.{StateOf, below_number};
 ghost use Rattle.given_tops.specs.Names.{nodes_of};
-ghost use Rattle.given_tops.specs.Knowing.{Says, SaysPart, SaysAll, AreTold};
+ghost use Rattle.given_tops.specs.Knowing.{Says, SaysPart, SaysMade, SaysAll, AreTold};
 
-use crate::names::{Limits, name_may_stand};
+use crate::names::{Limits, limits_of, name_may_stand};
 use cm_base::{List, NoMemory};
-use semantic_objects::TyId;
+use semantic_objects::{TyId, TyName};
 use sml_modules::EnvGraph;
 use sml_types::{Look, LookField, TypeTable};
 
@@ -89,6 +89,24 @@ fn fields_hold(
     Ok(true)
 }
 
+/// The answer for what is made of a name and arguments.
+fn named_holds(
+    t: &TypeTable,
+    limits: &Limits,
+    held: &List<bool>,
+    name: &TyName,
+    args: &List<TyId>,
+) -> Result<bool, NoMemory>
+    requires { AreTold t.now (nodes_of limits.now) held.now }
+    ensures { IfOk result (SaysMade t.now (nodes_of limits.now) (symbol.Name name.now) args.now) }
+{
+    if name_may_stand(limits, name) {
+        args_hold(t, limits, held, args)
+    } else {
+        Ok(false)
+    }
+}
+
 /// The answer for what stands at an id, from those for nodes.
 fn id_holds(t: &TypeTable, limits: &Limits, held: &List<bool>, id: TyId) -> Result<bool, NoMemory>
     requires has { Has t.now id }
@@ -99,13 +117,7 @@ fn id_holds(t: &TypeTable, limits: &Limits, held: &List<bool>, id: TyId) -> Resu
         Look::Variable { .. } => Ok(true),
         Look::Arrow(from, to) => sides_hold(t, limits, held, from, to),
         Look::Record(fields) => fields_hold(t, limits, held, &fields),
-        Look::Named(name, args) => {
-            if name_may_stand(limits, &name) {
-                args_hold(t, limits, held, &args)
-            } else {
-                Ok(false)
-            }
-        }
+        Look::Named(name, args) => named_holds(t, limits, held, &name, &args),
     }
 }
 
@@ -122,13 +134,20 @@ fn nodes_hold(g: &EnvGraph, t: &TypeTable, limits: &Limits) -> Result<List<bool>
     Ok(held)
 }
 
+/// How many variables a table has.
+fn variable_count(t: &TypeTable) -> usize
+    ensures { result ≡ length t.now.births }
+{
+    t.mark().variables()
+}
+
 /// Whether the answer is yes for each variable.
 fn variables_hold(t: &TypeTable, limits: &Limits, held: &List<bool>) -> Result<bool, NoMemory>
     requires { AreTold t.now (nodes_of limits.now) held.now }
     ensures { IfOk result (λ hold. IsTrue hold ↔ StateOf (nodes_of limits.now) (state t.now)) }
 {
     t.is_kept();
-    let count = t.mark().variables();
+    let count = variable_count(t);
     for at in 0..count {
         if !id_holds(t, limits, held, TyId::Variable(at))? {
             return Ok(false);
@@ -144,10 +163,7 @@ pub fn knows_names_below(g: &EnvGraph, t: &TypeTable) -> Result<bool, NoMemory>
     ensures { IfOk result (λ knows. IsTrue knows
         ↔ StateOf (below_number g.now.home (length g.now.made)) (state t.now)) }
 {
-    let limits = Limits {
-        home: g.home()?,
-        number: g.made(),
-    };
+    let limits = limits_of(g)?;
     let held = nodes_hold(g, t, &limits)?;
     variables_hold(t, &limits, &held)
 }

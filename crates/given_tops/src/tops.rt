@@ -11,7 +11,7 @@ ghost use Rattle.given_tops.specs.Names.{nodes_of};
 ghost use Rattle.given_tops.specs.Fitting.{SignatureFits, FunctorFits, TopFits};
 ghost use Rattle.given_tops.specs.Walking.{AreFit};
 
-use crate::names::{Limits, are_bound_from};
+use crate::names::{Limits, are_bound_from, limits_of};
 use crate::walk::{env_fits, rise};
 use cm_base::NoMemory;
 use env_parts::Rows;
@@ -157,9 +157,6 @@ pub fn may_stand_in_front(g: &EnvGraph, given: TopId) -> Result<bool, NoMemory>
     ensures { IfOk result (λ may. IsTrue may ↔ (TopOf (below_number g.now.home (length g.now.made)) (top_at g.now given)
         × RisingTop (top_at g.now given) × IsClosedTop (top_at g.now given))) }
 {
-    let limits = Limits {
-        home: g.home()?,
-        number: g.made(),
-    };
+    let limits = limits_of(g)?;
     top_fits(g, &limits, given)
 }

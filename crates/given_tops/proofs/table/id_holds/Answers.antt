@@ -1,9 +1,9 @@
-use Rattle.std.proofs.Common.{◌∷◌, [], refl, sym, ◌∙◌, subst}
+use Rattle.std.proofs.Common.{◌∷◌, [], refl, subst}
 use Rattle.semantic_objects.specs.declared.symbol.Symbol.TheVariants as symbol
 use Rattle.sml_types.specs.Looking.{IsLook, labels_of, ids_of}
 use Rattle.type_walks.proofs.Imaging.{if_ok}
 use Rattle.given_tops.specs.Names.{nodes_of}
-use Rattle.given_tops.proofs.Knowing.{variable_sure, made_says, made_not}
+use Rattle.given_tops.proofs.Knowing.{variable_sure, made_says}
 use Rattle.given_tops.proofs.table.id_holds.Goals as goal
 
 pub returns-in-Variable : goal.returns-in-Variable
@@ -25,15 +25,7 @@ returns-in-Record c =
     (λ b h. made_says c.args.t.now (nodes_of c.args.limits.now) c.args.id
     (symbol.Record (labels_of c.in-Record.fields)) (ids_of c.in-Record.fields) b look.is refl h)
 
-pub returns-then-name_may_stand : goal.returns-then-name_may_stand
-returns-then-name_may_stand c =
+pub returns-in-Named : goal.returns-in-Named
+returns-in-Named c =
     let look = subst (IsLook c.args.t.now c.args.id) c.in-Named.is c.in_ok-look.ensures in
-    if_ok c.args_hold.result c.args_hold.ensures
-    (λ b h. made_says c.args.t.now (nodes_of c.args.limits.now) c.args.id (symbol.Name c.in-Named.name) c.in-Named.args b
-    look.0 (sym c.name_may_stand.ensures ∙ c.if-name_may_stand.true) h)
-
-pub returns-else-name_may_stand : goal.returns-else-name_may_stand
-returns-else-name_may_stand c =
-    let look = subst (IsLook c.args.t.now c.args.id) c.in-Named.is c.in_ok-look.ensures in
-    made_not c.args.t.now (nodes_of c.args.limits.now) c.args.id (symbol.Name c.in-Named.name) c.in-Named.args look.0
-    (sym c.name_may_stand.ensures ∙ c.if-name_may_stand.false)
+    if_ok c.named_holds.result c.named_holds.ensures (λ b h. h c.args.id look.0)

@@ -1,4 +1,4 @@
-use Rattle.std.proofs.Common.{sym, subst}
+use Rattle.std.proofs.Common.{sym, subst, true}
 use Rattle.semantic_objects.specs.declared.name.TyId.{TyId}
 use Rattle.given_tops.specs.Names.{nodes_of}
 use Rattle.given_tops.specs.Knowing.{SaysPart}
@@ -8,11 +8,11 @@ use Rattle.given_tops.proofs.table.part_holds.Goals as goal
 
 pub returns-in-Variable : goal.returns-in-Variable
 returns-in-Variable c =
-    subst (λ (a : TyId). SaysPart c.args.t.now (nodes_of c.args.limits.now) a _) (sym c.in-Variable.is)
-    (near_variable c.args.t.now (nodes_of c.args.limits.now) _)
+    subst (λ (a : TyId). SaysPart c.args.t.now (nodes_of c.args.limits.now) a true) (sym c.in-Variable.is)
+    (near_variable c.args.t.now (nodes_of c.args.limits.now) c.in-Variable.field-0)
 
 pub returns-in-Some : goal.returns-in-Some
 returns-in-Some c =
-    subst (λ (a : TyId). SaysPart c.args.t.now (nodes_of c.args.limits.now) a _) (sym c.in-Made.is)
-    (says_part c.args.t.now (nodes_of c.args.limits.now) (id.Made c.in-Made.at) _
-    (c.requires.each c.in-Made.at _ (sym c.in-Some.ensures.item)))
+    subst (λ (a : TyId). SaysPart c.args.t.now (nodes_of c.args.limits.now) a c.in-Some.holds.now) (sym c.in-Made.is)
+    (says_part c.args.t.now (nodes_of c.args.limits.now) (id.Made c.in-Made.at) c.in-Some.holds.now
+    (c.requires.each c.in-Made.at c.in-Some.holds.now (sym c.in-Some.ensures.item)))

@@ -1,6 +1,6 @@
-use Rattle.std.proofs.Common.{sym, ap, ◌∙◌, subst, length, arith}
+use Rattle.std.proofs.Common.{subst, arith}
 use Rattle.semantic_objects.specs.declared.name.TyId.TheVariants as id
-use Rattle.type_nodes.specs.Tables.{Table, state}
+use Rattle.type_nodes.specs.Tables.{state}
 use Rattle.inference_laws.specs.Nodes.{StateOf}
 use Rattle.given_tops.specs.Names.{nodes_of}
 use Rattle.given_tops.specs.Knowing.{Says}
@@ -26,5 +26,5 @@ returns-then-not-branch c =
 pub returns : goal.returns
 returns c =
     shown (StateOf (nodes_of c.args.limits.now) (state c.args.t.now))
-    (all_sure c.args.t.now (nodes_of c.args.limits.now) c.loop-at.at _ c.is_kept.ensures
-    (c.variables.ensures ∙ ap (λ (z : Table). length z.births) c.mark.ensures) c.loop-at-test.false c.loop-at.invariant)
+    (all_sure c.args.t.now (nodes_of c.args.limits.now) c.loop-at.at _ c.is_kept.ensures c.variable_count-count.ensures
+    c.loop-at-test.false c.loop-at.invariant)

@@ -10,6 +10,6 @@ use Rattle.given_tops.proofs.tops.functors_fit.Given as goal
 abbrev pub invariant-loop-place : goal.invariant-loop-place
 invariant-loop-place l = record {
   fit : AreFit (nodes_of l.fn.limits) l.fn.g.items l.done;
-  left : AllItems (λ p. FunctorFits (nodes_of l.fn.limits) (as_functor (at l.fn.g.items p))) (drop l.place-index l.places)
-      ↔ AllItems (λ p. FunctorFits (nodes_of l.fn.limits) (as_functor (at l.fn.g.items p))) l.places;
+  left : AllItems (λ p. FunctorFits (nodes_of l.fn.limits) (as_functor (at l.fn.g.items p))) (drop l.place-index l.place-items)
+      ↔ AllItems (λ p. FunctorFits (nodes_of l.fn.limits) (as_functor (at l.fn.g.items p))) l.place-items;
 }

@@ -5,13 +5,13 @@ use Rattle.type_nodes.specs.Tables.{IsFrontOf}
 use Rattle.sml_modules.specs.Graphs.{top_at}
 use Rattle.sml_modules.specs.declared.id.TopId.{TopId}
 use Rattle.initial_basis.specs.Basis.{basis_env}
+use Rattle.initial_basis.proofs.Adding.{keeps_self}
 use Rattle.unit_semantics.specs.UnitPhrases.{unit_phrases}
 use Rattle.unit_semantics.specs.UnitInference.{infer_unit}
 use Rattle.type_phrases.specs.Inferred.{progress}
 use Rattle.type_phrases.proofs.Keeping.{keeps_all}
 use Rattle.type_phrases.proofs.Steps.{still_refused}
 use Rattle.core_rules.proofs.Ruling.{keeps_same}
-use Rattle.core_elab.proofs.Beginning.{graph_itself}
 use Rattle.module_elab.proofs.Starting.{alone_from, sound_from}
 use Rattle.module_elab.proofs.unit.elab_unit.Goals as goal
 
@@ -64,4 +64,4 @@ pub returns-then-not-is_given-clause-ids : goal.returns-then-not-is_given-clause
 returns-then-not-is_given-clause-ids c = keeps_all c.args.t.now
 
 pub returns-then-not-is_given-clause-graph : goal.returns-then-not-is_given-clause-graph
-returns-then-not-is_given-clause-graph c = graph_itself c.args.g.now
+returns-then-not-is_given-clause-graph c = keeps_self c.args.g.now
