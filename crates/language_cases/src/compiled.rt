@@ -1,6 +1,7 @@
 //! Cases of what the compiler makes of a source: `compiled`, whether it compiles it; `interface`, the bytes of the
-//! interface; `compiled-code`, the bytes of the code. A section `import SPACE NAME` has the bytes of an interface
-//! that is imported for a module's name. Each may give the diagnostic instead.
+//! interface; `compiled-code`, the bytes of the code. A section `import SPACE NAME PROVIDER` has the bytes of an interface
+//! that is imported for a module's name; without a provider it is `p.sml`. `options nobasis opaque` are the unit's
+//! options. Each may give the diagnostic instead.
 
 use crate::diagnostics::file;
 use crate::kind::Kind;
@@ -24,30 +25,53 @@ fn space_of(word: &[u8]) -> Option<Namespace> {
     }
 }
 
-/// An import of a module from the unit `p.sml`.
-fn given(alloc: Global, space: Namespace, name: &Text, interface: Text) -> Result<Given, NoMemory> {
+/// The provider of an import that names none.
+const PROVIDER: &[u8] = b"p.sml";
+
+/// An import of a module.
+fn given(
+    space: Namespace,
+    name: &Text,
+    provider: &Text,
+    interface: Text,
+) -> Result<Given, NoMemory> {
     Ok(Given {
         import: Import {
             name: ModName {
                 space,
                 name: name.copy()?,
             },
-            provider: Text::from_bytes(alloc, b"p.sml")?,
+            provider: provider.copy()?,
             hash: Pid { bytes: [7; 32] },
         },
         interface,
     })
 }
 
+/// The import of a section, from a provider.
+fn import_from(
+    alloc: Global,
+    section: &Section,
+    space: &Text,
+    name: &Text,
+    provider: &Text,
+) -> Result<Given, CaseFault> {
+    match space_of(space.as_bytes()) {
+        Some(space) => Ok(given(space, name, provider, section.bytes(alloc)?)?),
+        None => Err(section.means_nothing()),
+    }
+}
+
 /// The import of a section.
 fn import_of(alloc: Global, section: &Section) -> Result<Given, CaseFault> {
     let words = section.words(alloc)?;
-    let [space, name] = words.as_slice() else {
-        return Err(section.means_nothing());
-    };
-    match space_of(space.as_bytes()) {
-        Some(space) => Ok(given(alloc, space, name, section.bytes(alloc)?)?),
-        None => Err(section.means_nothing()),
+    match words.as_slice() {
+        [space, name] => {
+            let provider = Text::from_bytes(alloc, PROVIDER)?;
+            import_from(alloc, section, space, name, &provider)
+        }
+        [space, name, provider] => import_from(alloc, section, space, name, provider),
+        _ => Err(section.means_nothing()),
     }
 }
 
@@ -62,6 +86,25 @@ fn imports_of(alloc: Global, case: &Case) -> Result<List<Given>, CaseFault> {
     Ok(imports)
 }
 
+/// The options of a case: none where it has no section of them.
+fn options_of(alloc: Global, case: &Case) -> Result<Options, CaseFault> {
+    let mut options = Options {
+        nobasis: false,
+        opaque: false,
+    };
+    let Some(section) = case.find(b"options")? else {
+        return Ok(options);
+    };
+    for word in section.words(alloc)?.as_slice() {
+        match word.as_bytes() {
+            b"nobasis" => options.nobasis = true,
+            b"opaque" => options.opaque = true,
+            _ => return Err(section.means_nothing()),
+        }
+    }
+    Ok(options)
+}
+
 /// What is asked for of a compiled unit.
 fn part_of(alloc: Global, kind: Kind, made: &Compiled) -> Result<Vec<u8>, NoMemory> {
     let bytes: &[u8] = match kind {
@@ -72,24 +115,10 @@ fn part_of(alloc: Global, kind: Kind, made: &Compiled) -> Result<Vec<u8>, NoMemo
     Ok(Vec::from_slice(alloc, bytes)?)
 }
 
-/// What the compiler makes of a source.
-fn compiled(
-    alloc: Global,
-    kind: Kind,
-    text: &[u8],
-    imports: List<Given>,
-) -> Result<Vec<u8>, NoMemory> {
+/// What the compiler makes of a unit.
+fn compiled(alloc: Global, kind: Kind, input: &CompileInput) -> Result<Vec<u8>, NoMemory> {
     let mut compiler = SmlCompiler::new(alloc)?;
-    let input = CompileInput {
-        unit: file(alloc)?,
-        options: Options {
-            nobasis: false,
-            opaque: false,
-        },
-        source: Text::from_bytes(alloc, text)?,
-        imports,
-    };
-    match compiler.compile(alloc, &input) {
+    match compiler.compile(alloc, input) {
         Ok(made) => part_of(alloc, kind, &made),
         Err(fault) => refused(alloc, &fault),
     }
@@ -97,6 +126,11 @@ fn compiled(
 
 /// What the compiler makes of the source of a case.
 pub fn answer(alloc: Global, kind: Kind, case: &Case, text: &[u8]) -> Result<Vec<u8>, CaseFault> {
-    let imports = imports_of(alloc, case)?;
-    Ok(compiled(alloc, kind, text, imports)?)
+    let input = CompileInput {
+        unit: file(alloc)?,
+        options: options_of(alloc, case)?,
+        source: Text::from_bytes(alloc, text)?,
+        imports: imports_of(alloc, case)?,
+    };
+    Ok(compiled(alloc, kind, &input)?)
 }

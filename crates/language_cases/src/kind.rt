@@ -62,6 +62,9 @@ const PHRASE: [&[u8]; 5] = [b"levels", b"basis", b"infix", b"infixr", b"briefly"
 /// The sections of a phrase at a cursor.
 const AT_CURSOR: [&[u8]; 2] = [b"open", b"briefly"];
 
+/// The sections of a unit that is compiled.
+const OF_UNITS: [&[u8]; 2] = [b"import", b"options"];
+
 /// The kinds with their names.
 const KINDS: [(&[u8], Kind); 23] = [
     (b"lexemes", Kind::Lexemes),
@@ -114,7 +117,10 @@ fn is_own(kind: Kind, name: &[u8]) -> bool {
             name, &AT_CURSOR,
         ),
         Kind::Unit | Kind::Bare | Kind::Code => name == b"briefly".as_slice(),
-        Kind::Compiled | Kind::Interface | Kind::CompiledCode => name == b"import".as_slice(),
+        Kind::Compiled | Kind::Interface | Kind::CompiledCode => is_among(
+            name,
+            &OF_UNITS,
+        ),
         _ => false,
     }
 }

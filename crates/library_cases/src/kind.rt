@@ -20,8 +20,6 @@ pub enum TextKind {
     Tokens,
     /// `scan`: the tokens of a text before its refusal, and the place of that.
     Scan,
-    /// `words`: the words of a text.
-    Words,
     /// `sum`: the tree of a sum, within so many levels.
     Sum,
     /// `hash`: the name of a text's hash.
@@ -54,12 +52,11 @@ pub enum SceneKind {
 }
 
 /// The kinds of texts with their names.
-const TEXT_KINDS: [(&[u8], TextKind); 12] = [
+const TEXT_KINDS: [(&[u8], TextKind); 11] = [
     (b"texts", TextKind::Texts),
     (b"on-file", TextKind::OnFile),
     (b"tokens", TextKind::Tokens),
     (b"scan", TextKind::Scan),
-    (b"words", TextKind::Words),
     (b"sum", TextKind::Sum),
     (b"hash", TextKind::Hash),
     (b"same-hash", TextKind::SameHash),

@@ -9,7 +9,6 @@ mod folders;
 mod hashes;
 mod kind;
 mod lexing;
-mod placed_words;
 mod plans;
 mod scenes;
 mod selecting;

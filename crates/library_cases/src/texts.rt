@@ -1,7 +1,7 @@
 //! The kinds of cases of texts: what each calls, and the sections of its own.
 
 use crate::kind::TextKind;
-use crate::{base, conditions, fields, hashes, lexing, placed_words, selecting, toy_sums};
+use crate::{base, conditions, fields, hashes, lexing, selecting, toy_sums};
 use case_files::{Case, CaseFault, Report};
 use case_texts::{Answers, try_texts};
 use cm_base::{NoMemory, Text};
@@ -12,7 +12,6 @@ fn plain_answer(alloc: Global, kind: TextKind, text: &Text) -> Result<Vec<u8>, N
     match kind {
         TextKind::Tokens => lexing::tokens_of(alloc, text),
         TextKind::Scan => lexing::scanned(alloc, text),
-        TextKind::Words => placed_words::words_of(alloc, text),
         TextKind::Hash => hashes::named(alloc, text),
         TextKind::SameHash => hashes::compared(alloc, text),
         _ => conditions::printed(alloc, text),

@@ -2,13 +2,13 @@
 
 ghost use Rattle.std.specs.Prelude.{◌≡◌, [], ◌∷◌, ◌++◌, IfOk, OnOk, OnErr};
 
-use crate::compiled::{binding_of, compiled_binding};
+use crate::fault::told;
 use crate::front;
 use cm_base::{CompileFault, CompileInput, Compiled, Compiler, List, NoMemory, Skeleton, Text};
 use std::alloc::Global;
+use unit_compiling::compile_unit;
 
-/// A compiler that gives the skeleton of any source of the language, and compiles structures that bind one integer. It
-/// keeps the units of its calls, in order.
+/// A compiler of the whole language. It keeps the units of its calls, in order, and nothing else.
 #[derive(Debug, Drop)]
 pub struct SmlCompiler {
     pub asked_units: List<Text>,
@@ -55,8 +55,8 @@ impl SmlCompiler {
 
 #[tactic(auto, using(crate::proofs::Asked::asking))]
 impl Compiler for SmlCompiler {
-    ghost use Rattle.sml_compiler.specs.Compiled.{compiled_of};
     ghost use Rattle.sml_compiler.specs.Front.{skeleton_definition};
+    ghost use Rattle.unit_compiling.specs.Compiled.{compiled_of};
 
     ghost defines = { record { skel = skeleton_definition; compiled = compiled_of } };
 
@@ -76,7 +76,9 @@ impl Compiler for SmlCompiler {
 
     fn compile(&mut self, alloc: Global, input: &CompileInput) -> Result<Compiled, CompileFault> {
         ask(&mut self.asked_units, &input.unit)?;
-        let binding = binding_of(alloc, &input.unit, &input.source)?;
-        compiled_binding(alloc, input, &binding)
+        match compile_unit(alloc, input) {
+            Ok(made) => Ok(made),
+            Err(fault) => Err(told(fault)),
+        }
     }
 }

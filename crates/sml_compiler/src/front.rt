@@ -1,30 +1,21 @@
 //! From a source to its skeleton, or to its first diagnostic.
 
 ghost use Rattle.std.specs.Prelude.{◌≡◌, ◌<◌, ◌≤◌, ◌^◌, length, IfOk, IsTrue, All};
-ghost use Rattle.cm_base.specs.Calls.{Answers, Gives, IsSmallSpot, IsSmallSkeleton, GivesSmall};
+ghost use Rattle.cm_base.specs.Calls.{Answers, IsSmallSpot, IsSmallSkeleton, GivesSmall};
 ghost use Rattle.skeletons.specs.Skeletons.{skeleton_of};
-ghost use Rattle.sml_compiler.specs.Front.{bare_definition, skeleton_definition};
+ghost use Rattle.sml_compiler.specs.Front.{skeleton_definition};
 
-use cm_base::{CompileFault, Fault, List, Need, NoMemory, Skeleton, Spot, Text};
-use derived_forms::to_bare;
-use module_parser::parse_unit;
+use crate::fault::told;
+use cm_base::{CompileFault, List, Need, NoMemory, Skeleton, Spot, Text};
 use sml_trees::BareUnit;
 use std::alloc::Global;
+use unit_compiling::bare_of_source;
 
 /// The greatest number of names in a list of a skeleton.
 const MAX_NAMES: usize = 1_048_576;
 
 /// The greatest length of a name.
 const MAX_NAME: usize = 255;
-
-/// The bare unit of a source, or its first diagnostic.
-#[tactic(auto, using(crate::proofs::FrontSteps::parsed_then, crate::proofs::FrontSteps::refused_then))]
-fn bare_unit(alloc: Global, unit: &Text, source: &Text) -> Result<BareUnit, Fault>
-    ensures { Gives result (bare_definition unit.now source.now) }
-{
-    let full = parse_unit(alloc, unit, source)?;
-    to_bare(alloc, &full)
-}
 
 /// Whether a name at a place is small; a place always is.
 fn is_small(name: &Text, line: u32, col: u32) -> bool
@@ -93,9 +84,8 @@ pub fn skeleton(alloc: Global, unit: &Text, source: &Text) -> Result<Skeleton, C
     ensures answer { Answers result (skeleton_definition unit.now source.now) }
     ensures small { GivesSmall result }
 {
-    match bare_unit(alloc, unit, source) {
+    match bare_of_source(alloc, unit, source) {
         Ok(bare) => Ok(small_skeleton(alloc, &bare)?),
-        Err(Fault::Diag(diag)) => Err(CompileFault::Diag(diag)),
-        Err(Fault::NoMemory) => Err(CompileFault::NoMemory),
+        Err(fault) => Err(told(fault)),
     }
 }

@@ -1,14 +1,9 @@
-//! The laws of the two formats, as calls that do nothing.
+//! The law of the compiler's two definitions, so that crates above have it from a call.
 
-ghost use Rattle.sml_compiler.specs.Laws.{InterfacesApart, CodesApart};
+ghost use Rattle.sml_compiler.specs.Laws.{CompilesWhatHasASkeleton};
 
-/// No two interfaces of differing names are spelled alike, and none is the front of another.
-#[tactic(auto, using(crate::proofs::Apart::interfaces_apart))]
-pub fn interfaces_are_apart()
-    ensures { InterfacesApart }
-{}
-
-/// No two codes of differing names or values are spelled alike, and none is the front of another.
-pub fn codes_are_apart()
-    ensures { CodesApart }
+/// A unit that is compiled has a skeleton, and a source without one is refused with the same diagnostic.
+#[tactic(auto, using(crate::proofs::Skeletons::compiles))]
+pub fn what_is_compiled_has_a_skeleton()
+    ensures { CompilesWhatHasASkeleton }
 {}

@@ -1,15 +1,10 @@
-//! A compiler of Standard ML: it gives the skeleton of any source, and compiles structures that bind one integer.
+//! A compiler of Standard ML: it gives the skeleton of a source, and the interface and the code of a unit.
 #![tactic(auto)]
 
-mod binding;
-mod code;
-mod compiled;
 mod compiler;
-mod first_form;
+mod fault;
 mod front;
-mod identifier;
-mod interface;
-pub mod laws;
+mod laws;
 
-pub use binding::{Binding, Bound, LongName};
 pub use compiler::SmlCompiler;
+pub use laws::what_is_compiled_has_a_skeleton;
