@@ -8,3 +8,4 @@ mod tops;
 
 pub use laws::restoring_goes_back;
 pub use restoring::restore;
+pub use tops::{UnitTables, add_unit};

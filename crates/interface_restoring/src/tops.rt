@@ -16,13 +16,13 @@ use row_forms::{UnitForm, unit_form};
 use sml_modules::{EnvGraph, Node};
 use std::alloc::Global;
 
-/// The tables of a unit by places.
+/// The tables of a unit by places: under each name what stands in a graph.
 #[derive(Drop)]
-pub(crate) struct UnitTables {
-    structures: Rows,
-    signatures: Rows,
-    functors: Rows,
-    funsigs: Rows,
+pub struct UnitTables {
+    pub structures: Rows,
+    pub signatures: Rows,
+    pub functors: Rows,
+    pub funsigs: Rows,
 }
 
 /// A table of a unit by places, if its names are as the rules ask and each row of it is what it has to be.
@@ -69,8 +69,9 @@ fn tables_of(
     }))
 }
 
-/// Adds the unit of these tables, and before it the environment that has its structures alone.
-fn add_unit(graph: &mut EnvGraph, tables: UnitTables) -> Result<usize, NoMemory>
+/// Adds the unit of these tables, and before it the environment that has its structures alone. Want of memory may leave
+/// that one behind.
+pub fn add_unit(graph: &mut EnvGraph, tables: UnitTables) -> Result<usize, NoMemory>
     requires { AreUnitTables graph.old.items tables }
     ensures extends { Extends graph.old graph.new }
     ensures adds { IfOk result (Adds graph.old graph.new (unit_item graph.old.items tables)) }

@@ -4,3 +4,4 @@ pub mod Defining
 pub mod Declared
 pub mod Alone
 pub mod Starting
+pub mod Giving

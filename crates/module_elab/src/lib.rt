@@ -1,6 +1,7 @@
 //! Whole units: what their declarations define.
 #![tactic(auto)]
 
+mod given;
 mod ready;
 mod tops;
 mod unit;

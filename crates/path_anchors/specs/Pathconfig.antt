@@ -12,8 +12,8 @@ use Rattle.path_anchors.specs.Names.{Bindings, parts_of, path_of, is_up, walked,
 abbrev pub is_blank : ℕ → Bool
 is_blank byte = (byte == 32) || (byte == 9)
 
-abbrev pub is_letter : ℕ → Bool
-is_letter byte = not (is_blank byte)
+abbrev pub is_word_byte : ℕ → Bool
+is_word_byte byte = not (is_blank byte)
 
 -- a line that begins with `#`, or has nothing but blanks
 abbrev pub is_comment : List ℕ → Bool
@@ -35,7 +35,7 @@ abbrev pub after_word : List ℕ → List ℕ
 after_word line = drop (position_or_len is_blank line) line
 
 abbrev pub after_blanks : List ℕ → List ℕ
-after_blanks rest = drop (position_or_len is_letter rest) rest
+after_blanks rest = drop (position_or_len is_word_byte rest) rest
 
 abbrev pub second_word : List ℕ → List ℕ
 second_word line = after_blanks (after_word line)

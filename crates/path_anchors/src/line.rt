@@ -3,7 +3,7 @@
 ghost use Rattle.std.specs.Prelude.{◌≡◌, ◌<◌, ◌≤◌, ◌^◌, ◌-◌, ◌+◌, IfOk, IfSome, None, length, take, drop};
 ghost use Rattle.std.specs.List.{list_any, list_all, position, position_or_len};
 ghost use Rattle.path_anchors.specs.Names.{parts_of, is_up};
-ghost use Rattle.path_anchors.specs.Pathconfig.{is_blank, is_comment, is_letter, is_all_blank, is_skipped, is_word, has_form, first_word, second_word, has_slash, has_blank, has_up, directory_parts, bound_line};
+ghost use Rattle.path_anchors.specs.Pathconfig.{is_blank, is_comment, is_word_byte, is_all_blank, is_skipped, is_word, has_form, first_word, second_word, has_slash, has_blank, has_up, directory_parts, bound_line};
 
 use crate::fault::PathFault;
 use crate::parts::{is_up, parts_of, passes_limit, walk};
@@ -60,7 +60,7 @@ fn first_blank(line: &[u8]) -> Option<usize>
 
 /// The place of the first byte that is no blank.
 fn first_letter(line: &[u8]) -> Option<usize>
-    ensures { result ≡ position is_letter line.now }
+    ensures { result ≡ position is_word_byte line.now }
 {
     line.iter().position(|byte| !is_blank(*byte))
 }
@@ -77,7 +77,7 @@ fn word_len(line: &[u8]) -> usize
 /// The length of the run of blanks at the front.
 #[tactic(auto, using(crate::proofs::Runs::runs))]
 fn gap_len(line: &[u8]) -> usize
-    ensures run { result ≡ position_or_len is_letter line.now }
+    ensures run { result ≡ position_or_len is_word_byte line.now }
     ensures within { result ≤ length line.now }
 {
     first_letter(line).unwrap_or(line.len())

@@ -1,12 +1,14 @@
 //! Why a code isn't read.
 
 use cm_base::NoMemory;
+use thiserror::Error;
 
 /// What ends the reading of a code.
-#[derive(Clone, Copy, Debug, PartialEq, Eq)]
+#[derive(Clone, Copy, Debug, PartialEq, Eq, Error)]
 pub enum CodeFault {
-    /// The bytes are no code.
+    #[error("the bytes are no code")]
     BadCode,
+    #[error("out of memory")]
     NoMemory,
 }
 

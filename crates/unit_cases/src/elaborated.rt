@@ -1,10 +1,7 @@
 //! Units are read, made bare and elaborated.
 
-ghost use Rattle.std.specs.Prelude.{◌≡◌, []};
-
 use crate::kind::Kind;
 use crate::shown::lines_of;
-use basis_laws::units_begin_with_the_basis;
 use case_texts::refusal;
 use cm_base::{Fault, NoMemory, Options, Text};
 use derived_forms::to_bare;
@@ -36,10 +33,7 @@ fn elaborated_in(
     options: Options,
     name: &Text,
     unit: &BareUnit,
-) -> Result<Vec<u8>, NoMemory>
-    requires { t.old.trail ≡ [] }
-{
-    units_begin_with_the_basis();
+) -> Result<Vec<u8>, NoMemory> {
     g.enter(name)?;
     let given = g.empty_top()?;
     match elab_unit(g, t, unit, given, options) {

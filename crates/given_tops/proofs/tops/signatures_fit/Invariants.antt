@@ -1,0 +1,15 @@
+use Rattle.std.proofs.Common.{drop}
+use Rattle.std.specs.Prelude.{◌↔◌}
+use Rattle.sml_modules.specs.Items.{at, as_signature}
+use Rattle.static_semantics.specs.Holding.{AllItems}
+use Rattle.given_tops.specs.Names.{nodes_of}
+use Rattle.given_tops.specs.Fitting.{SignatureFits}
+use Rattle.given_tops.specs.Walking.{AreFit}
+use Rattle.given_tops.proofs.tops.signatures_fit.Given as goal
+
+abbrev pub invariant-loop-place : goal.invariant-loop-place
+invariant-loop-place l = record {
+  fit : AreFit (nodes_of l.fn.limits) l.fn.g.items l.done;
+  left : AllItems (λ p. SignatureFits (nodes_of l.fn.limits) (as_signature (at l.fn.g.items p))) (drop l.place-index l.place-items)
+      ↔ AllItems (λ p. SignatureFits (nodes_of l.fn.limits) (as_signature (at l.fn.g.items p))) l.place-items;
+}
