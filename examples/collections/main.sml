@@ -1,5 +1,6 @@
 structure Main =
 struct
+  (* What `String.concatWith` and `List.map` do elsewhere: this part of the language has no `List`. *)
   fun joined gap [] = ""
     | joined gap [word] = word
     | joined gap (word :: words) = word ^ gap ^ joined gap words
