@@ -1,1 +1,0 @@
-structure A = struct val x = 1 end

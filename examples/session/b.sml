@@ -1,1 +1,0 @@
-structure B = struct val y = A.x end

@@ -1,0 +1,6 @@
+structure Money =
+struct
+  datatype currency = Franc
+
+  fun show (amount, Franc) = Int.toString amount ^ " francs"
+end
