@@ -93,7 +93,7 @@ pub usable_read : (unit : List ℕ) (given : Given) (made : Imports) (before rea
 usable_read unit given made before read known old new top id found p r t e a f fp k rk rt = record {
   next = with_import given (top_at new id) made;
   is = of_top unit given made (top_at new id) true said (can.usable made.names a.known);
-  read = record {
+  are = record {
     there = subst (AreUnitTables new.items) (sym rt)
         (set_there new.items given.import.name.space given.import.name.name p before.tables (top_at new id) there
         can.found);
@@ -164,10 +164,10 @@ pub all_more : (unit : List ℕ) (imports : List Given) (i : ℕ) (given d : Giv
     → AreAllRead unit (take (i + 1) imports) new read
 all_more unit imports i given d old new before read usable g l h one u =
     let more : IsReadToo unit given h.made new read =
-    subst (ReadsOne unit given h.made new read) u (one h.made h.read) in record {
+    subst (ReadsOne unit given h.made new read) u (one h.made h.are) in record {
       made = more.next;
       is = one_more unit imports i given d h.made g l h.is ∙ more.is;
-      read = more.read;
+      are = more.are;
     }
 
 -- the first one that can't be used
@@ -181,7 +181,7 @@ refused_at unit imports i given d old new before read usable diag g l h one u e 
     ∙ after_more unit (take (i + 1) imports) (drop (i + 1) imports) no_imports
     ∙ ap (λ (z : Result Imports Diag). then z (λ next. imported_after unit (drop (i + 1) imports) next))
     (one_more unit imports i given d h.made g l h.is
-    ∙ subst (ReadsOne unit given h.made new read) u (one h.made h.read)
+    ∙ subst (ReadsOne unit given h.made new read) u (one h.made h.are)
     ∙ ap (λ (z : Diag). Err z) (sym e))
 
 -- ---- the top
@@ -193,7 +193,7 @@ top_read unit imports old new read tables p h t a = record {
   made = h.made;
   is = h.is;
   there = subst IsTop (sym a.stands) tt;
-  top = ap as_top a.stands ∙ ap (unit_of old.items) t ∙ sym h.read.top;
+  top = ap as_top a.stands ∙ ap (unit_of old.items) t ∙ sym h.are.top;
 }
 
 pub imports_read : (unit : List ℕ) (imports : List Given) (old new : Graph) (id : TopId)

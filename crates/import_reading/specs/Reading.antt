@@ -72,7 +72,7 @@ pub record IsReadToo (unit : List ℕ) (given : Given) (made : Imports) (items :
   where
     pub next : Imports
     pub is : imported_one unit given made ≡ Ok next
-    pub read : AreRead items next read
+    pub are : AreRead items next read
 
 abbrev pub ReadsOne : List ℕ → Given → Imports → List Item → ReadImports → Bool → Type 0
 ReadsOne unit given made items read true = IsReadToo unit given made items read
@@ -82,7 +82,7 @@ ReadsOne unit given made items read false = imported_one unit given made ≡ Err
 pub record AreAllRead (unit : List ℕ) (imports : List Given) (items : List Item) (read : ReadImports) : Type 0 where
   pub made : Imports
   pub is : imported unit imports ≡ Ok made
-  pub read : AreRead items made read
+  pub are : AreRead items made read
 
 abbrev pub ReadsAll : List ℕ → List Given → List Item → Result ReadImports Fault → Type 0
 ReadsAll unit imports items (Ok read) = AreAllRead unit imports items read

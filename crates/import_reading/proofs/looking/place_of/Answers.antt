@@ -6,11 +6,11 @@ use Rattle.import_reading.proofs.looking.place_of.Goals as goal
 pub env_tables-requires : goal.env_tables-requires
 env_tables-requires c = c.requires.env
 
-pub returns-in-Structure : goal.returns-in-Structure
-returns-in-Structure c =
+pub returns-in_ok-env-in-Structure : goal.returns-in_ok-env-in-Structure
+returns-in_ok-env-in-Structure c =
     structure_found c.args.graph.now.items c.args.wanted.now.space c.args.tables.now
-    (env_at c.args.graph.now (record { place = c.args.tables.now.env })) c.in_ok-env.env.now c.args.wanted.now.name
-    c.get.result c.in-Structure.is refl c.in_ok-env.ensures c.get.ensures
+    (env_at c.args.graph.now (record { place = c.args.tables.now.env })) c.in_ok-env-in-Structure.env.now c.args.wanted.now.name
+    c.get.result c.in-Structure.is refl c.in_ok-env-in-Structure.ensures c.get.ensures
 
 pub returns-in-Signature : goal.returns-in-Signature
 returns-in-Signature c =

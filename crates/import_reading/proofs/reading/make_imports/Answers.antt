@@ -4,7 +4,7 @@ use Rattle.import_reading.proofs.reading.make_imports.Goals as goal
 use Rattle.std.proofs.Common.{refl}
 
 pub add_unit-requires : goal.add_unit-requires
-add_unit-requires c = c.in_ok-read.ensures.reads.read.there
+add_unit-requires c = c.in_ok-read.ensures.reads.are.there
 
 pub returns-clause-extends : goal.returns-clause-extends
 returns-clause-extends c =

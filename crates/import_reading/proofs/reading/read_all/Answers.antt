@@ -10,11 +10,11 @@ use Rattle.import_reading.proofs.reading.read_all.Goals as goal
 pub loop-given-init : goal.loop-given-init
 loop-given-init c = record {
   extends = extends_self c.args.graph.now;
-  reads = record { made = no_imports; is = refl; read = c.in_ok-read.ensures c.args.graph.now.items };
+  reads = record { made = no_imports; is = refl; are = c.in_ok-read.ensures c.args.graph.now.items };
 }
 
 pub read_one-requires : goal.read_one-requires
-read_one-requires c = c.loop-given.invariant.reads.read.kept
+read_one-requires c = c.loop-given.invariant.reads.are.kept
 
 pub loop-given-preserved : goal.loop-given-preserved
 loop-given-preserved c = record {
