@@ -117,10 +117,7 @@ fn is_own(kind: Kind, name: &[u8]) -> bool {
             name, &AT_CURSOR,
         ),
         Kind::Unit | Kind::Bare | Kind::Code => name == b"briefly".as_slice(),
-        Kind::Compiled | Kind::Interface | Kind::CompiledCode => is_among(
-            name,
-            &OF_UNITS,
-        ),
+        Kind::Compiled | Kind::Interface | Kind::CompiledCode => is_among(name, &OF_UNITS),
         _ => false,
     }
 }
