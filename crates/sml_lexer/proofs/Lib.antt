@@ -7,3 +7,4 @@ pub mod LexingLemmas
 pub mod FrontsLemmas
 pub mod CuttingsLemmas
 pub mod SpelledLemmas
+pub mod WordsLemmas

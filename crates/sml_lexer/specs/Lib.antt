@@ -6,3 +6,4 @@ pub mod Gaps
 pub mod Fronts
 pub mod Lexing
 pub mod Cuttings
+pub mod Words

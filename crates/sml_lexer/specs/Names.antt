@@ -1,36 +1,16 @@
--- Identifiers, type variables, and the reserved words and marks (The Definition of Standard ML, sections 2.1, 2.4
--- and 2.5; `funsig` is a reserved word of SML/NJ).
-use Rattle.std.specs.Prelude.{ℕ, ◌+◌, ◌-◌, Bool, ◌&&◌, ◌||◌, ◌==◌, nat_lt, nat_le, zero, suc, List, [], ◌∷◌, take, drop, length, slice_index, codes, if◌then◌else◌}
-use Rattle.std.specs.List.{prefix_len, list_any, list_all, sum_by}
-use Rattle.std.specs.Str.{bytes_eq}
+-- Identifiers, type variables, and where reserved words and marks stand (The Definition of Standard ML, sections 2.1,
+-- 2.4 and 2.5).
+use Rattle.std.specs.Prelude.{ℕ, ◌+◌, ◌-◌, Bool, ◌&&◌, ◌||◌, ◌==◌, nat_lt, nat_le, zero, suc, List, [], ◌∷◌, take, drop, length, slice_index, is_some, if◌then◌else◌}
+use Rattle.std.specs.List.{prefix_len, list_all, sum_by}
 use Rattle.sml_lexer.specs.declared.lexeme.LexemeKind.TheVariants as kind
 use Rattle.sml_lexer.specs.declared.front.Front.{Front}
 use Rattle.sml_lexer.specs.declared.front.Front.TheVariants.{Lexeme, Refused}
+use Rattle.sml_lexer.specs.Words.{word_of}
 use Rattle.sml_lexer.specs.Classes.{first, is_letter, is_name_byte, is_symbol_byte}
 
--- the reserved words of the core and of modules
-unfoldable pub reserved_words : List (List ℕ)
-reserved_words =
-    codes "abstype" ∷ codes "and" ∷ codes "andalso" ∷ codes "as" ∷ codes "case" ∷ codes "datatype" ∷ codes "do"
-    ∷ codes "else" ∷ codes "end" ∷ codes "eqtype" ∷ codes "exception" ∷ codes "fn" ∷ codes "fun" ∷ codes "functor"
-    ∷ codes "funsig" ∷ codes "handle" ∷ codes "if" ∷ codes "in" ∷ codes "include" ∷ codes "infix" ∷ codes "infixr"
-    ∷ codes "let" ∷ codes "local" ∷ codes "nonfix" ∷ codes "of" ∷ codes "op" ∷ codes "open" ∷ codes "orelse"
-    ∷ codes "raise" ∷ codes "rec" ∷ codes "sharing" ∷ codes "sig" ∷ codes "signature" ∷ codes "struct"
-    ∷ codes "structure" ∷ codes "then" ∷ codes "type" ∷ codes "val" ∷ codes "where" ∷ codes "while" ∷ codes "with" ∷ codes "withtype" ∷ []
-
--- the marks that are made of the bytes of symbolic identifiers
-unfoldable pub reserved_symbols : List (List ℕ)
-reserved_symbols =
-    codes ":" ∷ codes ":>" ∷ codes "|" ∷ codes "=" ∷ codes "=>" ∷ codes "->" ∷ codes "#" ∷ []
-
-unfoldable pub is_reserved_word : List ℕ → Bool
-is_reserved_word word = list_any (λ entry. bytes_eq entry word) reserved_words
-
-unfoldable pub is_reserved_symbol : List ℕ → Bool
-is_reserved_symbol word = list_any (λ entry. bytes_eq entry word) reserved_symbols
-
+-- whether a word is reserved
 abbrev pub is_reserved : List ℕ → Bool
-is_reserved word = is_reserved_word word || is_reserved_symbol word
+is_reserved word = is_some (word_of word)
 
 -- the longest word at the front of a text: a letter and the identifier bytes after it, or a run of symbols
 abbrev pub word_len : List ℕ → ℕ

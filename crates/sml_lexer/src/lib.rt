@@ -12,6 +12,8 @@ mod name;
 mod number;
 mod place;
 mod quoted;
+pub mod words;
 
 pub use lexeme::{Lexeme, LexemeKind};
 pub use lexing::lex;
+pub use words::Word;

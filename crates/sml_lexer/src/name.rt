@@ -1,103 +1,25 @@
 //! Words: reserved words and marks, identifiers, long ones too, and type variables.
 
 ghost use Rattle.std.specs.Prelude.{◌≡◌, ◌≤◌, ◌<◌, ◌++◌, ◌∷◌, [], IfOk, OnOk, length, map, slice_index};
-ghost use Rattle.std.specs.List.{list_all, list_any};
-ghost use Rattle.std.specs.Str.{bytes_eq};
+ghost use Rattle.std.specs.List.{list_all};
 ghost use Rattle.sml_lexer.specs.Names as spec;
 ghost use Rattle.sml_lexer.specs.Fronts.{TakesWithin};
 
 use crate::bytes::{byte_at, name_run, symbol_run};
 use crate::front::Front;
 use crate::lexeme::LexemeKind;
+use crate::words::Word;
 use cm_base::{List, NoMemory, Text};
 use std::alloc::Global;
 
-/// The reserved words of the core and of modules.
-const RESERVED_WORDS: [&[u8]; 42] = [
-    b"abstype",
-    b"and",
-    b"andalso",
-    b"as",
-    b"case",
-    b"datatype",
-    b"do",
-    b"else",
-    b"end",
-    b"eqtype",
-    b"exception",
-    b"fn",
-    b"fun",
-    b"functor",
-    b"funsig",
-    b"handle",
-    b"if",
-    b"in",
-    b"include",
-    b"infix",
-    b"infixr",
-    b"let",
-    b"local",
-    b"nonfix",
-    b"of",
-    b"op",
-    b"open",
-    b"orelse",
-    b"raise",
-    b"rec",
-    b"sharing",
-    b"sig",
-    b"signature",
-    b"struct",
-    b"structure",
-    b"then",
-    b"type",
-    b"val",
-    b"where",
-    b"while",
-    b"with",
-    b"withtype",
-];
-
-/// The marks that are made of symbols.
-const RESERVED_SYMBOLS: [&[u8]; 7] = [b":", b":>", b"|", b"=", b"=>", b"->", b"#"];
-
 /// The most bytes of an identifier.
 const MAX_IDENTIFIER: usize = 255;
-
-/// Whether a word is in a table.
-fn is_in(mut table: &[&[u8]], word: &[u8]) -> bool
-    ensures { result ≡ list_any (λ entry. bytes_eq entry word.now) (map (λ entry. entry.now) table.entry.now) }
-{
-    while let [entry, rest @ ..] = table {
-        if *entry == word {
-            return true;
-        }
-        table = rest;
-    }
-    false
-}
-
-/// Whether a word is one of the reserved ones.
-#[tactic(auto, unfolding(crate::specs::Names::is_reserved_word, crate::specs::Names::reserved_words))]
-fn is_reserved_word(word: &[u8]) -> bool
-    ensures { result ≡ spec.is_reserved_word word.now }
-{
-    is_in(&RESERVED_WORDS, word)
-}
-
-/// Whether a run of symbols is a mark.
-#[tactic(auto, unfolding(crate::specs::Names::is_reserved_symbol, crate::specs::Names::reserved_symbols))]
-fn is_reserved_symbol(word: &[u8]) -> bool
-    ensures { result ≡ spec.is_reserved_symbol word.now }
-{
-    is_in(&RESERVED_SYMBOLS, word)
-}
 
 /// Whether a word is reserved.
 fn is_reserved(word: &[u8]) -> bool
     ensures { result ≡ spec.is_reserved word.now }
 {
-    is_reserved_word(word) || is_reserved_symbol(word)
+    Word::of(word).is_some()
 }
 
 /// The length of the longest word at the front: a letter and identifier bytes, or a run of symbols.
