@@ -37,14 +37,15 @@ use Rattle.core_types.specs.Types.{ty}
 use Rattle.phrase_reading.specs.Names.{either, if_mark, if_taken, beginning}
 use Rattle.infix_names.specs.Fixities.{Fixities, fixity_of}
 use Rattle.phrase_reading.specs.Sized.{leaf, over, part, more, lower}
-use Rattle.phrase_reading.specs.Words.{g, is, word, word_of, only, name_of, long_of, and_then, at, named, long_named, taken}
+use Rattle.phrase_reading.specs.Words.{g, is, word, only, name_of, long_of, and_then, at, named, long_named, taken}
+use Rattle.sml_lexer.specs.Words.{word_of}
 use Rattle.phrase_reading.specs.declared.tall.Tall.{Tall}
 use Rattle.clause_heads.specs.declared.paren_head.Left.{Left}
 use Rattle.clause_heads.specs.declared.paren_head.Pair.{Pair}
 use Rattle.clause_heads.specs.declared.heads.Wanted.{Wanted}
 use Rattle.clause_heads.specs.declared.heads.Wanted.TheVariants as wanted
-use Rattle.phrase_reading.specs.declared.words.Word.{Word}
-use Rattle.phrase_reading.specs.declared.words.Word.TheVariants as w
+use Rattle.sml_lexer.specs.declared.words.Word.{Word}
+use Rattle.sml_lexer.specs.declared.words.Word.TheVariants as w
 
 -- ---- what the clauses before ask of a clause
 

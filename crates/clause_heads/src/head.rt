@@ -19,8 +19,7 @@ use phrase_reading::lexeme;
 use phrase_reading::lexemes::Lexemes;
 use phrase_reading::stop::Stop;
 use phrase_reading::tall::{Tall, both, more};
-use phrase_reading::words::Word;
-use sml_lexer::{Lexeme, LexemeKind};
+use sml_lexer::{Lexeme, LexemeKind, Word};
 use sml_trees::{At, FullHead, FullPat, LongName, Name, OpLong, OpName};
 use std::alloc::Global;
 

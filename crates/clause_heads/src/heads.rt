@@ -13,8 +13,7 @@ use core_patterns::pat_starts::starts_atpat;
 use infix_names::fixity::Fixities;
 use phrase_reading::lexemes::Lexemes;
 use phrase_reading::stop::Stop;
-use phrase_reading::words::Word;
-use sml_lexer::{Lexeme, LexemeKind};
+use sml_lexer::{Lexeme, LexemeKind, Word};
 use sml_trees::{FullHead, LongName, Name};
 
 /// What the clauses before ask of a clause.

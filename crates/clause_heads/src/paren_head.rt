@@ -22,7 +22,7 @@ use phrase_reading::lexeme;
 use phrase_reading::lexemes::Lexemes;
 use phrase_reading::stop::Stop;
 use phrase_reading::tall::{Tall, both, boxed, lower, one_above};
-use phrase_reading::words::Word;
+use sml_lexer::Word;
 use sml_trees::{At, Fixity, FullHead, FullPat, Name};
 use std::alloc::Global;
 

@@ -27,10 +27,11 @@ use Rattle.core_expressions.specs.Levels.{level}
 use Rattle.infix_names.specs.Fixities.{Fixities, fixity_of}
 use Rattle.phrase_reading.specs.Names.{if_taken}
 use Rattle.phrase_reading.specs.Sized.{one, more, further}
-use Rattle.phrase_reading.specs.Words.{g, at, named, long_named, word_of, name_of, only, and_then, made, taken}
+use Rattle.phrase_reading.specs.Words.{g, at, named, long_named, name_of, only, and_then, made, taken}
+use Rattle.sml_lexer.specs.Words.{word_of}
 use Rattle.phrase_reading.specs.declared.tall.Tall.{Tall}
-use Rattle.phrase_reading.specs.declared.words.Word.{Word}
-use Rattle.phrase_reading.specs.declared.words.Word.TheVariants as w
+use Rattle.sml_lexer.specs.declared.words.Word.{Word}
+use Rattle.sml_lexer.specs.declared.words.Word.TheVariants as w
 use Rattle.clause_heads.specs.Heads.{may_be, may_end, may_be_bare, wanted_by, if_infix, operator_in, bare_operator, if_prefix, prefix_name, infix_head, infix_from, atom_head, arguments, prefix_head, long_head, short_head, named_head_by, op_head, too_high, closed_head, pair_run, pair_arguments, pair_left, pair_head, pair_pattern, pair_behind, pair_from, pair_of, parens_pattern, is_named, parens_behind, parens_from, parens_some, unit_head, parens_head, head_word, head_kind, head_after}
 use Rattle.clause_heads.specs.declared.heads.Wanted.{Wanted}
 use Rattle.clause_heads.specs.declared.heads.Wanted.TheVariants as wanted

@@ -32,7 +32,7 @@ use Rattle.infix_names.specs.Fixities.{Fixities}
 use Rattle.phrase_reading.specs.Sized.{leaf, over, part, one, more, further, maybe}
 use Rattle.phrase_reading.specs.Words.{g, long_named, name, tycon, token}
 use Rattle.phrase_reading.specs.declared.tall.Tall.{Tall}
-use Rattle.phrase_reading.specs.declared.words.Word.TheVariants as w
+use Rattle.sml_lexer.specs.declared.words.Word.TheVariants as w
 use Rattle.phrase_reading.specs.Names.{either, flat, if_mark, names, op_long, op_name, short_tycon, strid, strid_of, taken_from, tyvars}
 use Rattle.core_bindings.specs.Decs.{Decs, declares}
 

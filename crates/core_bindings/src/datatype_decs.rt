@@ -13,7 +13,7 @@ use phrase_reading::binders::{op_name, short_tycon, tyvars};
 use phrase_reading::lexemes::Lexemes;
 use phrase_reading::stop::Stop;
 use phrase_reading::tall::{Tall, more, one, one_above};
-use phrase_reading::words::Word;
+use sml_lexer::Word;
 use sml_trees::{At, FullConBind, FullDatBind, FullDec, Name};
 use std::alloc::Global;
 

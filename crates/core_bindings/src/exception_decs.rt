@@ -12,7 +12,7 @@ use phrase_reading::binders::{op_long, op_name};
 use phrase_reading::lexemes::Lexemes;
 use phrase_reading::stop::Stop;
 use phrase_reading::tall::{Tall, more, one, one_above};
-use phrase_reading::words::Word;
+use sml_lexer::Word;
 use sml_trees::{At, FullDec, FullExBind, FullExBody};
 use std::alloc::Global;
 

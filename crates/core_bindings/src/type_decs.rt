@@ -13,7 +13,7 @@ use phrase_reading::binders::{short_tycon, tyvars};
 use phrase_reading::lexemes::Lexemes;
 use phrase_reading::stop::Stop;
 use phrase_reading::tall::{Tall, more, one, one_above};
-use phrase_reading::words::Word;
+use sml_lexer::Word;
 use sml_trees::{At, FullDec, FullTy, FullTypBind};
 use std::alloc::Global;
 

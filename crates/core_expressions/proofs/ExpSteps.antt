@@ -29,7 +29,7 @@ use Rattle.phrase_reading.specs.Words.{g, is, word, named}
 use Rattle.expression_parts.specs.declared.chain.Chain.{Chain}
 use Rattle.expression_parts.specs.declared.runs.Run.{Run}
 use Rattle.phrase_reading.specs.declared.tall.Tall.{Tall}
-use Rattle.phrase_reading.specs.declared.words.Word.TheVariants as w
+use Rattle.sml_lexer.specs.declared.words.Word.TheVariants as w
 use Rattle.phrase_reading.proofs.NameSteps.{first_go}
 
 -- ---- levels

@@ -18,7 +18,7 @@ use Rattle.core_expressions.specs.Level.{Level}
 use Rattle.phrase_reading.specs.Sized.{opened}
 use Rattle.phrase_reading.specs.Words.{g, is, at}
 use Rattle.core_expressions.specs.declared.binds.Binds.{Binds}
-use Rattle.phrase_reading.specs.declared.words.Word.TheVariants as w
+use Rattle.sml_lexer.specs.declared.words.Word.TheVariants as w
 use Rattle.phrase_reading.proofs.Steps.{one_less}
 
 pub recs_go : (recs : ℕ) (xs : List Lexeme) → begins (is w.Rec) (head_or xs None) ≡ true

@@ -35,7 +35,7 @@ use Rattle.phrase_reading.specs.Words.{g, at, token}
 use Rattle.phrase_reading.specs.declared.tall.Tall.{Tall}
 use Rattle.clause_heads.specs.declared.heads.Wanted.{Wanted}
 use Rattle.clause_heads.specs.declared.heads.Wanted.TheVariants as wanted
-use Rattle.phrase_reading.specs.declared.words.Word.TheVariants as w
+use Rattle.sml_lexer.specs.declared.words.Word.TheVariants as w
 use Rattle.clause_heads.specs.Heads.{head_after, parens_head, starts_head, wanted_by}
 
 -- ---- clauses and functions

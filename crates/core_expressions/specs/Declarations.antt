@@ -30,8 +30,8 @@ use Rattle.infix_names.specs.Fixities.{Fixities, left_over}
 use Rattle.core_expressions.specs.Level.{Level}
 use Rattle.core_types.specs.Types.{ty}
 use Rattle.phrase_reading.specs.Words.{g, is, word, at, token}
-use Rattle.phrase_reading.specs.declared.words.Word.{Word}
-use Rattle.phrase_reading.specs.declared.words.Word.TheVariants as w
+use Rattle.sml_lexer.specs.declared.words.Word.{Word}
+use Rattle.sml_lexer.specs.declared.words.Word.TheVariants as w
 use Rattle.expression_parts.specs.ExpStarts.{starts_dec_word}
 use Rattle.core_bindings.specs.Decs.{plain, with_dec}
 

@@ -38,11 +38,12 @@ use Rattle.infix_names.specs.Fixities.{Fixities, fixity_of}
 use Rattle.core_expressions.specs.Level.{Level}
 use Rattle.core_patterns.specs.Patterns.{starts_atpat}
 use Rattle.phrase_reading.specs.Sized.{leaf, over, over_two, part, one, more, lower, further, opened}
-use Rattle.phrase_reading.specs.Words.{g, is, word, word_of, at, long_named, named, taken, label, token}
+use Rattle.phrase_reading.specs.Words.{g, is, word, at, long_named, named, taken, label, token}
+use Rattle.sml_lexer.specs.Words.{word_of}
 use Rattle.expression_parts.specs.declared.runs.Run.{Run}
 use Rattle.phrase_reading.specs.declared.tall.Tall.{Tall}
-use Rattle.phrase_reading.specs.declared.words.Word.{Word}
-use Rattle.phrase_reading.specs.declared.words.Word.TheVariants as w
+use Rattle.sml_lexer.specs.declared.words.Word.{Word}
+use Rattle.sml_lexer.specs.declared.words.Word.TheVariants as w
 use Rattle.phrase_reading.specs.Names.{beginning}
 use Rattle.expression_parts.specs.ExpStarts.{goes_on, infix_name, op_parts, starts_atexp, starts_exp, starts_prefix}
 use Rattle.expression_parts.specs.ExpNodes.{branched, chain_word, link, run_exp, run_of, with_atom, with_operator}

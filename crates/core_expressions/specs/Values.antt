@@ -27,7 +27,7 @@ use Rattle.phrase_reading.specs.Sized.{over, one, more}
 use Rattle.phrase_reading.specs.Words.{g, is, at, token}
 use Rattle.phrase_reading.specs.declared.tall.Tall.{Tall}
 use Rattle.core_expressions.specs.declared.binds.Binds.{Binds}
-use Rattle.phrase_reading.specs.declared.words.Word.TheVariants as w
+use Rattle.sml_lexer.specs.declared.words.Word.TheVariants as w
 use Rattle.phrase_reading.specs.Names.{either, if_marked, if_tyvar, tyvar_list}
 
 -- ---- values

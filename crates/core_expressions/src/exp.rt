@@ -18,8 +18,7 @@ use phrase_reading::lexeme::{at, word};
 use phrase_reading::lexemes::Lexemes;
 use phrase_reading::stop::Stop;
 use phrase_reading::tall::{Tall, both, lower, more, one, one_above};
-use phrase_reading::words::Word;
-use sml_lexer::Lexeme;
+use sml_lexer::{Lexeme, Word};
 use sml_trees::{At, FullExp, FullRule};
 use std::alloc::Global;
 

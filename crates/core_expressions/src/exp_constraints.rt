@@ -10,7 +10,7 @@ use expression_parts::nodes::typed;
 use phrase_reading::lexemes::Lexemes;
 use phrase_reading::stop::Stop;
 use phrase_reading::tall::{Tall, both, lower};
-use phrase_reading::words::Word;
+use sml_lexer::Word;
 use sml_trees::{At, FullExp};
 use std::alloc::Global;
 

@@ -21,8 +21,7 @@ use phrase_reading::lexeme;
 use phrase_reading::lexemes::Lexemes;
 use phrase_reading::stop::Stop;
 use phrase_reading::tall::{Tall, both, more, one, one_above};
-use phrase_reading::words::Word;
-use sml_lexer::Lexeme;
+use sml_lexer::{Lexeme, Word};
 use sml_trees::{At, FullDec, FullExp, FullPat, FullValBind, Name};
 use std::alloc::Global;
 

@@ -22,8 +22,8 @@ use Rattle.infix_names.specs.Fixities.{Fixities, joining}
 use Rattle.phrase_reading.specs.Sized.{leaf, over, part, lower, maybe}
 use Rattle.core_types.specs.Types.{ty}
 use Rattle.core_patterns.specs.Patterns.{PatLevel, pat, atpat, plain, pat_level, level_of, no_level, starts_atpat, pat_after, pat_behind, atpat_after, start, goes_on, run_step, run_part, run_on, run_of, run_from, run_rest, by_operator, operand_behind, operand_joined, behind_operand, alone, layered, layer, no_type, some_type, typed_id, behind_id, behind_name, behind_typed, leaf_id, id_under, typed, constrained, constraint, in_parens, inside_parens, behind_first, tuple_of, in_brackets, items_of, record_of, fields_of, field_behind, labelled, named_field, if_name}
-use Rattle.phrase_reading.specs.declared.words.Word.{Word}
-use Rattle.phrase_reading.specs.declared.words.Word.TheVariants as w
+use Rattle.sml_lexer.specs.declared.words.Word.{Word}
+use Rattle.sml_lexer.specs.declared.words.Word.TheVariants as w
 use Rattle.phrase_reading.specs.declared.tall.Tall.{Tall}
 use Rattle.phrase_reading.specs.declared.lexemes.Label.{Label}
 use Rattle.core_patterns.specs.declared.operand.Operand.{Operand}

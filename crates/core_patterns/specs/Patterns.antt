@@ -32,12 +32,13 @@ use Rattle.sml_trees.specs.declared.full_pat.FullPatField.{FullPatField}
 use Rattle.sml_trees.specs.declared.full_pat.FullPatField.TheVariants as f
 use Rattle.grammars.specs.Grammar.{◌>>=◌, ◌>>◌}
 use Rattle.grammars.specs.Grammar.Grammar.{pure, refuse, on, many, within}
-use Rattle.phrase_reading.specs.Words.{g, word_of, is, given, only, field_label, name_of, or_empty, long, token, at, named, long_named}
+use Rattle.phrase_reading.specs.Words.{g, is, given, only, field_label, name_of, or_empty, long, token, at, named, long_named}
+use Rattle.sml_lexer.specs.Words.{word_of}
 use Rattle.infix_names.specs.Fixities.{if_name as if_name_of, Fixities, fixity_of, joining, open_after}
 use Rattle.phrase_reading.specs.Sized.{leaf, over, over_two, part, one, more, lower, further, maybe}
 use Rattle.core_types.specs.Types.{ty}
-use Rattle.phrase_reading.specs.declared.words.Word.{Word}
-use Rattle.phrase_reading.specs.declared.words.Word.TheVariants as w
+use Rattle.sml_lexer.specs.declared.words.Word.{Word}
+use Rattle.sml_lexer.specs.declared.words.Word.TheVariants as w
 use Rattle.phrase_reading.specs.declared.tall.Tall.{Tall}
 use Rattle.phrase_reading.specs.declared.lexemes.Label.{Label}
 use Rattle.core_patterns.specs.declared.operand.Operand.{Operand}

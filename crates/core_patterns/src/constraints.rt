@@ -10,7 +10,7 @@ use core_types::types::ty;
 use phrase_reading::lexemes::Lexemes;
 use phrase_reading::stop::Stop;
 use phrase_reading::tall::Tall;
-use phrase_reading::words::Word;
+use sml_lexer::Word;
 use sml_trees::{At, FullPat};
 use std::alloc::Global;
 

@@ -17,7 +17,7 @@ use phrase_reading::lexeme;
 use phrase_reading::lexemes::Lexemes;
 use phrase_reading::stop::Stop;
 use phrase_reading::tall::Tall;
-use phrase_reading::words::Word;
+use sml_lexer::Word;
 use sml_trees::{At, FullPat, FullTy, OpLong, OpName};
 use std::alloc::Global;
 

@@ -14,7 +14,7 @@ use infix_names::fixity::Fixities;
 use phrase_reading::lexemes::{Label, Lexemes};
 use phrase_reading::stop::Stop;
 use phrase_reading::tall::{Tall, more, one};
-use phrase_reading::words::Word;
+use sml_lexer::Word;
 use sml_trees::{At, FullPat, FullPatField, FullTy, Name};
 use std::alloc::Global;
 

@@ -9,8 +9,7 @@ use cm_base::Text;
 use infix_names::fixity::{Fixities, joining};
 use phrase_reading::lexemes::Lexemes;
 use phrase_reading::stop::Stop;
-use phrase_reading::words::Word;
-use sml_lexer::{Lexeme, LexemeKind};
+use sml_lexer::{Lexeme, LexemeKind, Word};
 use sml_trees::Fixity;
 
 /// Whether a name is an operand of a run: one with structures before it, or one that isn't infix.

@@ -13,7 +13,7 @@ use Rattle.sml_trees.specs.declared.full_ty.FullTy.TheVariants as t
 use Rattle.phrase_reading.specs.Words.{g, is, is_tycon, is_star, tycon, tycon_of, made, token, long_named}
 use Rattle.phrase_reading.specs.Sized.{leaf, over, more, lower}
 use Rattle.core_types.specs.Types.{TyLevel, ty, ty_level, level_of, no_level, starts_ty, ty_after, part_after, applied, apply, constructor, constructor_after, behind_first, applied_all, record_of, fields_of, tuple, tuple_of, starred, arrow, arrow_of}
-use Rattle.phrase_reading.specs.declared.words.Word.TheVariants as w
+use Rattle.sml_lexer.specs.declared.words.Word.TheVariants as w
 use Rattle.phrase_reading.specs.declared.tall.Tall.{Tall}
 use Rattle.phrase_reading.proofs.Steps.{on_true, lower_go, lower_deep, one_less, taken_shorter, taken_is}
 

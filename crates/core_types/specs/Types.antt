@@ -20,10 +20,11 @@ use Rattle.sml_trees.specs.declared.full_ty.FullTy.TheVariants as t
 use Rattle.sml_trees.specs.declared.full_ty.FullTyField.{FullTyField, roll-FullTyField}
 use Rattle.grammars.specs.Grammar.{fold, ◌>>=◌, ◌>>◌}
 use Rattle.grammars.specs.Grammar.Grammar.{pure, refuse, on, many, within}
-use Rattle.phrase_reading.specs.Words.{g, word_of, is, is_tycon, is_star, tycon_of, tycon_parts, made, label, tycon, token, at, named, long_named}
+use Rattle.phrase_reading.specs.Words.{g, is, is_tycon, is_star, tycon_of, tycon_parts, made, label, tycon, token, at, named, long_named}
+use Rattle.sml_lexer.specs.Words.{word_of}
 use Rattle.phrase_reading.specs.Sized.{leaf, over, over_two, part, one, more, lower, further}
-use Rattle.phrase_reading.specs.declared.words.Word.{Word}
-use Rattle.phrase_reading.specs.declared.words.Word.TheVariants as w
+use Rattle.sml_lexer.specs.declared.words.Word.{Word}
+use Rattle.sml_lexer.specs.declared.words.Word.TheVariants as w
 use Rattle.phrase_reading.specs.declared.tall.Tall.{Tall}
 
 -- the phrases that nest at most so many levels

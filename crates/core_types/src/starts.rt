@@ -4,8 +4,7 @@ ghost use Rattle.std.specs.Prelude.{◌≡◌};
 ghost use Rattle.core_types.specs.Types.{starts_ty};
 
 use phrase_reading::lexeme;
-use phrase_reading::words::Word;
-use sml_lexer::{Lexeme, LexemeKind};
+use sml_lexer::{Lexeme, LexemeKind, Word};
 
 /// Whether a type begins with the lexeme.
 pub fn starts_ty(lexeme: &Lexeme) -> bool

@@ -13,8 +13,7 @@ use phrase_reading::lexeme;
 use phrase_reading::lexemes::Lexemes;
 use phrase_reading::stop::Stop;
 use phrase_reading::tall::{Tall, more, one};
-use phrase_reading::words::Word;
-use sml_lexer::{Lexeme, LexemeKind};
+use sml_lexer::{Lexeme, LexemeKind, Word};
 use sml_trees::{At, FullTy, FullTyField, LongName, Name};
 use std::alloc::Global;
 

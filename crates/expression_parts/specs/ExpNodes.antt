@@ -4,8 +4,8 @@ use Rattle.sml_trees.specs.declared.full_exp.FullExp.{FullExp}
 use Rattle.sml_trees.specs.declared.full_exp.FullExp.TheVariants as e
 use Rattle.sml_trees.specs.declared.name.At.{At}
 use Rattle.phrase_reading.specs.declared.tall.Tall.{Tall}
-use Rattle.phrase_reading.specs.declared.words.Word.{Word}
-use Rattle.phrase_reading.specs.declared.words.Word.TheVariants as w
+use Rattle.sml_lexer.specs.declared.words.Word.{Word}
+use Rattle.sml_lexer.specs.declared.words.Word.TheVariants as w
 use Rattle.expression_parts.specs.declared.chain.Chain.{Chain}
 use Rattle.expression_parts.specs.declared.chain.Chain.TheVariants as chain
 use Rattle.sml_trees.specs.declared.full_exp.FullExpItem.TheVariants as item

@@ -6,9 +6,10 @@ use Rattle.sml_lexer.specs.declared.lexeme.LexemeKind.{LexemeKind}
 use Rattle.sml_lexer.specs.declared.lexeme.LexemeKind.TheVariants as k
 use Rattle.sml_trees.specs.declared.full_pat.Fixity.{Fixity}
 use Rattle.infix_names.specs.Fixities.{Fixities, if_name, clash}
-use Rattle.phrase_reading.specs.Words.{word, word_of, only}
-use Rattle.phrase_reading.specs.declared.words.Word.{Word}
-use Rattle.phrase_reading.specs.declared.words.Word.TheVariants as w
+use Rattle.phrase_reading.specs.Words.{word, only}
+use Rattle.sml_lexer.specs.Words.{word_of}
+use Rattle.sml_lexer.specs.declared.words.Word.{Word}
+use Rattle.sml_lexer.specs.declared.words.Word.TheVariants as w
 
 -- ---- first lexemes
 

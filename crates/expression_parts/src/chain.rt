@@ -3,7 +3,7 @@
 ghost use Rattle.std.specs.Prelude.{◌≡◌};
 ghost use Rattle.expression_parts.specs.ExpNodes.{chain_word};
 
-use phrase_reading::words::Word;
+use sml_lexer::Word;
 
 /// A chain of operands.
 #[derive(Clone, Copy, Debug, PartialEq, Eq)]

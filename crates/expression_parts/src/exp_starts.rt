@@ -14,8 +14,7 @@ use infix_names::fixity::{Fixities, clash};
 use phrase_reading::lexeme::{copy_parts, word};
 use phrase_reading::lexemes::Lexemes;
 use phrase_reading::stop::Stop;
-use phrase_reading::words::Word;
-use sml_lexer::{Lexeme, LexemeKind};
+use sml_lexer::{Lexeme, LexemeKind, Word};
 use sml_trees::Fixity;
 use std::alloc::Global;
 

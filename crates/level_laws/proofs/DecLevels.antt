@@ -30,8 +30,8 @@ use Rattle.expression_parts.specs.ExpStarts.{starts_prefix}
 use Rattle.phrase_reading.specs.Sized.{one}
 use Rattle.phrase_reading.specs.Words.{g, at, is, word}
 use Rattle.phrase_reading.specs.declared.tall.Tall.{Tall}
-use Rattle.phrase_reading.specs.declared.words.Word.{Word}
-use Rattle.phrase_reading.specs.declared.words.Word.TheVariants as w
+use Rattle.sml_lexer.specs.declared.words.Word.{Word}
+use Rattle.sml_lexer.specs.declared.words.Word.TheVariants as w
 use Rattle.level_laws.specs.Levels.{all_levels, typ_bind_levels, con_bind_levels, dat_bind_levels, ex_body_levels, ex_bind_levels, dec_levels, clause_levels, fun_bind_levels, val_bind_levels}
 use Rattle.level_laws.specs.Promises.{IsMeasured, AreMeasured, ExpressionsHaveTheirLevels}
 use Rattle.level_laws.proofs.Keeping.{Keeps, keep_pure, keep_refuse, keep_bind, keep_then, keep_within, keep_many, keep_none, keep_if_taken, keep_if_mark, keep_if_marked, keep_either, leaf_is, over_is, part_is, one_is, more_is, two_is, further_keeps, maybe_keeps, declares_is, with_dec_is, plain_keeps}

@@ -21,10 +21,11 @@ use Rattle.expression_parts.specs.declared.chain.Chain.TheVariants as chain
 use Rattle.expression_parts.specs.ExpStarts.{infix_name, starts_prefix}
 use Rattle.expression_parts.specs.ExpNodes.{link, run_of, with_atom, with_operator}
 use Rattle.phrase_reading.specs.Sized.{one}
-use Rattle.phrase_reading.specs.Words.{at, named, word, word_of}
+use Rattle.phrase_reading.specs.Words.{at, named, word}
+use Rattle.sml_lexer.specs.Words.{word_of}
 use Rattle.phrase_reading.specs.declared.tall.Tall.{Tall}
-use Rattle.phrase_reading.specs.declared.words.Word.{Word}
-use Rattle.phrase_reading.specs.declared.words.Word.TheVariants as w
+use Rattle.sml_lexer.specs.declared.words.Word.{Word}
+use Rattle.sml_lexer.specs.declared.words.Word.TheVariants as w
 use Rattle.level_laws.specs.Levels.{all_levels, dec_levels, exp_levels, exp_item_levels, exp_field_levels, rule_levels}
 use Rattle.level_laws.specs.Promises.{IsMeasured, AreMeasured}
 use Rattle.level_laws.proofs.Keeping.{Keeps, keep_pure, keep_refuse, keep_bind, keep_then, keep_on, keep_within, keep_many, keep_taken, leaf_is, over_is, over_two_is, part_is, lowered, one_is, more_is, all-one, all-more, further_keeps, two_is}

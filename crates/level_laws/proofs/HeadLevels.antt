@@ -18,10 +18,11 @@ use Rattle.core_patterns.specs.declared.operand.Run.{Run}
 use Rattle.core_types.specs.Types.{ty}
 use Rattle.infix_names.specs.Fixities.{Fixities, fixity_of}
 use Rattle.phrase_reading.specs.Sized.{over}
-use Rattle.phrase_reading.specs.Words.{at, named, long_named, word_of}
+use Rattle.phrase_reading.specs.Words.{at, named, long_named}
+use Rattle.sml_lexer.specs.Words.{word_of}
 use Rattle.phrase_reading.specs.declared.tall.Tall.{Tall}
-use Rattle.phrase_reading.specs.declared.words.Word.{Word}
-use Rattle.phrase_reading.specs.declared.words.Word.TheVariants as w
+use Rattle.sml_lexer.specs.declared.words.Word.{Word}
+use Rattle.sml_lexer.specs.declared.words.Word.TheVariants as w
 use Rattle.clause_heads.specs.Heads.{may_end, may_be_bare, prefix_name, atom, argument, infix_head, infix_from, atom_head, arguments_from, arguments, prefix_head, long_pat, long_head, short_head, named_head_by, op_head, too_high, closed_head, pair_run, pair_arguments, pair_left, pair_head, behind_run, pair_pattern, pair_behind, pair_from, left_from, pair_of, parens_pattern, is_named, parens_behind, parens_from, parens_some, unit_head, parens_head, head_word, head_kind, head_after}
 use Rattle.clause_heads.specs.declared.heads.Wanted.{Wanted}
 use Rattle.clause_heads.specs.declared.paren_head.Left.{Left}

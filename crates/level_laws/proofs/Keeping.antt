@@ -10,7 +10,7 @@ use Rattle.phrase_reading.specs.Names.{either, if_mark, if_marked, if_taken}
 use Rattle.phrase_reading.specs.Sized.{leaf, over, over_two, part, one, more, further, maybe}
 use Rattle.phrase_reading.specs.Words.{g, made, taken}
 use Rattle.phrase_reading.specs.declared.tall.Tall.{Tall}
-use Rattle.phrase_reading.specs.declared.words.Word.{Word}
+use Rattle.sml_lexer.specs.declared.words.Word.{Word}
 use Rattle.tree_heights.specs.Heights.{highest}
 use Rattle.tree_heights.proofs.Highest.{alone, highest_with-append, highest_with-is}
 use Rattle.level_laws.specs.Levels.{all_levels, if_levels}

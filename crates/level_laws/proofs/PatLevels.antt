@@ -21,10 +21,11 @@ use Rattle.core_patterns.specs.declared.operand.Operand.{Operand}
 use Rattle.core_patterns.specs.declared.operand.Operand.TheVariants as o
 use Rattle.core_patterns.specs.declared.operand.Run.{Run}
 use Rattle.phrase_reading.specs.Sized.{more}
-use Rattle.phrase_reading.specs.Words.{g, is, at, word_of, given}
+use Rattle.phrase_reading.specs.Words.{g, is, at, given}
+use Rattle.sml_lexer.specs.Words.{word_of}
 use Rattle.phrase_reading.specs.declared.tall.Tall.{Tall}
-use Rattle.phrase_reading.specs.declared.words.Word.{Word}
-use Rattle.phrase_reading.specs.declared.words.Word.TheVariants as w
+use Rattle.sml_lexer.specs.declared.words.Word.{Word}
+use Rattle.sml_lexer.specs.declared.words.Word.TheVariants as w
 use Rattle.level_laws.specs.Levels.{all_levels, if_levels, ty_levels, pat_levels, pat_item_levels, pat_field_levels}
 use Rattle.level_laws.specs.Promises.{IsMeasured, PatternsHaveTheirLevels}
 use Rattle.level_laws.proofs.Keeping.{Keeps, keep_pure, keep_refuse, keep_bind, keep_then, keep_on, keep_within, keep_many, keep_none, leaf_is, over_is, over_two_is, part_is, lowered, below_limit, one_is, more_is, all-one, all-more, further_keeps, maybe_keeps, two_is}

@@ -11,8 +11,8 @@ use Rattle.core_types.specs.Types.{ty}
 use Rattle.core_bindings.specs.Bindings.{has_none}
 use Rattle.phrase_reading.specs.Words.{g, is, word, at}
 use Rattle.phrase_reading.specs.declared.tall.Tall.{Tall}
-use Rattle.phrase_reading.specs.declared.words.Word.{Word}
-use Rattle.phrase_reading.specs.declared.words.Word.TheVariants as w
+use Rattle.sml_lexer.specs.declared.words.Word.{Word}
+use Rattle.sml_lexer.specs.declared.words.Word.TheVariants as w
 use Rattle.signature_parser.specs.Joined.{module_name_of, apart, alone, next_binding, bindings_from, bindings}
 use Rattle.signature_parser.specs.Signatures.{SigLevel, sig_body, sig_name, sig_atom, where_bind, where_type, one_type, and_type, where_types_from, where_types, where_of, where_behind, wheres, sig_within, sig_of, sig_bind}
 use Rattle.signature_parser.specs.SigLevels.{sig_level, sig_below, no_sig_level}

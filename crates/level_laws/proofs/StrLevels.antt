@@ -14,8 +14,8 @@ use Rattle.core_expressions.specs.Levels.{level}
 use Rattle.phrase_reading.specs.Names.{strid_of}
 use Rattle.phrase_reading.specs.Words.{g, is, word, at}
 use Rattle.phrase_reading.specs.declared.tall.Tall.{Tall}
-use Rattle.phrase_reading.specs.declared.words.Word.{Word}
-use Rattle.phrase_reading.specs.declared.words.Word.TheVariants as w
+use Rattle.sml_lexer.specs.declared.words.Word.{Word}
+use Rattle.sml_lexer.specs.declared.words.Word.TheVariants as w
 use Rattle.signature_parser.specs.Joined.{module_name_of, apart}
 use Rattle.signature_parser.specs.SigLevels.{sig_level}
 use Rattle.signature_parser.specs.declared.joined.Joined.{Joined}

@@ -9,10 +9,11 @@ use Rattle.sml_trees.specs.declared.full_ty.FullTy.{FullTy}
 use Rattle.sml_trees.specs.declared.full_ty.FullTy.TheVariants as t
 use Rattle.core_types.specs.Types.{TyLevel, field, fields_of, record_of, applied_all, behind_first, in_parens, atom_word, atom_kind, apply, constructor_after, applied, part_after, starred, tuple_of, tuple, arrow_of, arrow, ty_after, ty_level, ty}
 use Rattle.phrase_reading.specs.Sized.{more, one}
-use Rattle.phrase_reading.specs.Words.{g, is, tycon_of, made, at, named, long_named, word_of}
+use Rattle.phrase_reading.specs.Words.{g, is, tycon_of, made, at, named, long_named}
+use Rattle.sml_lexer.specs.Words.{word_of}
 use Rattle.phrase_reading.specs.declared.tall.Tall.{Tall}
-use Rattle.phrase_reading.specs.declared.words.Word.{Word}
-use Rattle.phrase_reading.specs.declared.words.Word.TheVariants as w
+use Rattle.sml_lexer.specs.declared.words.Word.{Word}
+use Rattle.sml_lexer.specs.declared.words.Word.TheVariants as w
 use Rattle.level_laws.specs.Levels.{all_levels, ty_levels, ty_field_levels}
 use Rattle.level_laws.specs.Promises.{IsMeasured, TypesHaveTheirLevels}
 use Rattle.level_laws.proofs.Keeping.{Keeps, keep_pure, keep_refuse, keep_bind, keep_then, keep_on, keep_within, keep_many, keep_none, leaf_is, over_is, over_two_is, part_is, lowered, one_is, more_is, further_keeps}

@@ -10,8 +10,8 @@ use Rattle.sml_trees.specs.declared.full_unit.FullTopDec.TheVariants as top
 use Rattle.infix_names.specs.Fixities.{initial}
 use Rattle.phrase_reading.specs.Words.{at, word}
 use Rattle.phrase_reading.specs.declared.tall.Tall.{Tall}
-use Rattle.phrase_reading.specs.declared.words.Word.{Word}
-use Rattle.phrase_reading.specs.declared.words.Word.TheVariants as w
+use Rattle.sml_lexer.specs.declared.words.Word.{Word}
+use Rattle.sml_lexer.specs.declared.words.Word.TheVariants as w
 use Rattle.signature_parser.specs.SigLevels.{sig_level, sig_below}
 use Rattle.signature_parser.specs.Specifications.{no_specs}
 use Rattle.module_parser.specs.Functors.{begin_at, named_param, specs_at, spec_param, functor_param, fun_bind, funsig_bind}

@@ -22,7 +22,7 @@ use Rattle.phrase_reading.specs.Reads.{Stops}
 use Rattle.phrase_reading.specs.Words.{g, is, word, token}
 use Rattle.phrase_reading.specs.declared.stop.Stop.{Stop}
 use Rattle.phrase_reading.specs.declared.stop.Stop.TheVariants as stop
-use Rattle.phrase_reading.specs.declared.words.Word.TheVariants as w
+use Rattle.sml_lexer.specs.declared.words.Word.TheVariants as w
 use Rattle.phrase_reading.proofs.NameSteps.{marked_go, marked_stop}
 use Rattle.core_expressions.proofs.DecSteps.{opened_go, opened_deep}
 use Rattle.infix_names.proofs.Kept.{kept_then}

@@ -15,7 +15,7 @@ use Rattle.phrase_reading.specs.Sized.{part}
 use Rattle.phrase_reading.specs.Words.{is, word}
 use Rattle.phrase_reading.specs.declared.stop.Stop.{Stop}
 use Rattle.phrase_reading.specs.declared.tall.Tall.{Tall}
-use Rattle.phrase_reading.specs.declared.words.Word.TheVariants as w
+use Rattle.sml_lexer.specs.declared.words.Word.TheVariants as w
 use Rattle.module_parser.specs.Functors.{begin_at, specs_at, spec_param}
 use Rattle.signature_parser.specs.Rounds.{next_begin, if_begins}
 use Rattle.signature_parser.specs.SigLevels.{sig_level, sig_below}

@@ -25,7 +25,7 @@ use Rattle.infix_names.specs.Fixities.{initial}
 use Rattle.phrase_reading.specs.Sized.{part}
 use Rattle.phrase_reading.specs.Words.{g, word, named, token}
 use Rattle.phrase_reading.specs.declared.tall.Tall.{Tall}
-use Rattle.phrase_reading.specs.declared.words.Word.TheVariants as w
+use Rattle.sml_lexer.specs.declared.words.Word.TheVariants as w
 use Rattle.signature_parser.specs.Joined.{module_name_of, module_name, alone}
 use Rattle.signature_parser.specs.SigLevels.{sig_level, sig_below}
 use Rattle.signature_parser.specs.Specifications.{is_spec_round, spec_round, specs_from, no_specs}

@@ -28,8 +28,8 @@ use Rattle.infix_names.specs.Fixities.{initial}
 use Rattle.phrase_reading.specs.Sized.{over, more}
 use Rattle.phrase_reading.specs.Words.{g, is, word, at}
 use Rattle.phrase_reading.specs.declared.tall.Tall.{Tall}
-use Rattle.phrase_reading.specs.declared.words.Word.{Word}
-use Rattle.phrase_reading.specs.declared.words.Word.TheVariants as w
+use Rattle.sml_lexer.specs.declared.words.Word.{Word}
+use Rattle.sml_lexer.specs.declared.words.Word.TheVariants as w
 use Rattle.module_parser.specs.Functors.{fun_bind, funsig_bind}
 use Rattle.signature_parser.specs.Joined.{bindings}
 use Rattle.signature_parser.specs.SigLevels.{sig_level}

@@ -18,11 +18,12 @@ use infix_names::fixity::Fixities;
 use phrase_reading::lexemes::Lexemes;
 use phrase_reading::stop::Stop;
 use phrase_reading::tall::Tall;
-use phrase_reading::{Word, lexeme};
+use phrase_reading::lexeme;
 use signature_parser::joined::{Joined, alone, joined_more, joined_one, next_name};
 use signature_parser::names::{module_name, sees_module_name};
 use signature_parser::rounds::next_spec;
 use signature_parser::sig_exps::{sig, specs};
+use sml_lexer::Word;
 use sml_trees::{At, FullFunctorBind, FullFunsigBind, FullParam, FullStrExp, Name};
 use std::alloc::Global;
 

@@ -14,9 +14,9 @@ use infix_names::fixity::Fixities;
 use phrase_reading::lexemes::Lexemes;
 use phrase_reading::stop::Stop;
 use phrase_reading::tall::{Tall, more, one_above};
-use phrase_reading::{Word, lexeme};
+use phrase_reading::lexeme;
 use signature_parser::sig_exps::sig_binds;
-use sml_lexer::Lexeme;
+use sml_lexer::{Lexeme, Word};
 use sml_trees::{At, FullTopDec};
 use std::alloc::Global;
 

@@ -10,8 +10,8 @@ use Rattle.phrase_reading.specs.Words.{g, is, made, taken, tyvar}
 use Rattle.phrase_reading.specs.Sized.{part, maybe}
 use Rattle.phrase_reading.specs.Names.{if_mark, if_marked, marked, if_taken, and_one, taken_from, tyvars_from, beginning}
 use Rattle.phrase_reading.specs.declared.tall.Tall.{Tall}
-use Rattle.phrase_reading.specs.declared.words.Word.{Word}
-use Rattle.phrase_reading.specs.declared.words.Word.TheVariants as w
+use Rattle.sml_lexer.specs.declared.words.Word.{Word}
+use Rattle.sml_lexer.specs.declared.words.Word.TheVariants as w
 
 -- a text that begins with a lexeme has one to take
 pub some_left : (t : Lexeme → Bool) (xs : List Lexeme) → begins t (head_or xs None) ≡ true

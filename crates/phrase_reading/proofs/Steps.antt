@@ -12,7 +12,7 @@ use Rattle.grammars.proofs.Rounds.{fold_go, fold_end, not_longer}
 use Rattle.phrase_reading.specs.Words.{g, is, taken, made, token}
 use Rattle.phrase_reading.specs.Sized.{more, lower, further}
 use Rattle.phrase_reading.specs.declared.tall.Tall.{Tall}
-use Rattle.phrase_reading.specs.declared.words.Word.{Word}
+use Rattle.sml_lexer.specs.declared.words.Word.{Word}
 
 pub token_go : (w : Word) (xs : List Lexeme) → begins (is w) (head_or xs None) ≡ true
     → read (token w) xs ≡ Out.out (End.whole tt) (drop 1 xs)

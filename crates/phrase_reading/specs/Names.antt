@@ -15,8 +15,8 @@ use Rattle.sml_trees.specs.declared.name.LongName.{LongName}
 use Rattle.sml_trees.specs.declared.name.Name.{Name}
 use Rattle.phrase_reading.specs.Words.{g, is, name_of, long_of, tyvar_of, is_star_text, last_part, if_not, and_then, named, long_named, made, taken, name, tyvar, long, token}
 use Rattle.phrase_reading.specs.declared.tall.Tall.{Tall}
-use Rattle.phrase_reading.specs.declared.words.Word.{Word}
-use Rattle.phrase_reading.specs.declared.words.Word.TheVariants as w
+use Rattle.sml_lexer.specs.declared.words.Word.{Word}
+use Rattle.sml_lexer.specs.declared.words.Word.TheVariants as w
 
 -- ---- parts of productions
 

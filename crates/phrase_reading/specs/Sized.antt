@@ -3,7 +3,7 @@
 use Rattle.std.specs.Prelude.{ℕ, ◌+◌, ◌++◌, max, Option, Some, None, List, [], ◌∷◌, nat_lt}
 use Rattle.grammars.specs.Grammar.{Grammar, fold}
 use Rattle.phrase_reading.specs.Words.{g, is}
-use Rattle.phrase_reading.specs.declared.words.Word.{Word}
+use Rattle.sml_lexer.specs.declared.words.Word.{Word}
 use Rattle.phrase_reading.specs.declared.tall.Tall.{Tall}
 
 -- a tree of one level

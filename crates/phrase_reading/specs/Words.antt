@@ -2,7 +2,7 @@
 -- places of trees.
 use Rattle.std.specs.Prelude.{ℕ, Bool, true, false, Option, None, Some, is_some, List, [], ◌∷◌, nat_eq, length, ◌-◌, slice_get, if◌then◌else◌, codes, ℤ, pos, negsuc}
 use Rattle.std.specs.Fmt.{decimal}
-use denote.Enum.Bare.{sameb}
+use Rattle.sml_lexer.specs.Words.{same_word, word_of}
 use Rattle.sml_lexer.specs.declared.lexeme.Lexeme.{Lexeme}
 use Rattle.sml_lexer.specs.declared.lexeme.LexemeKind.{LexemeKind}
 use Rattle.sml_lexer.specs.declared.lexeme.LexemeKind.TheVariants as k
@@ -11,108 +11,14 @@ use Rattle.sml_trees.specs.declared.name.Name.{Name}
 use Rattle.sml_trees.specs.declared.name.LongName.{LongName}
 use Rattle.grammars.specs.Grammar.{Grammar}
 use lib.Pointwise.{pointwise}
-use Rattle.phrase_reading.specs.contracts.words.Word.{the_type}
-use Rattle.phrase_reading.specs.declared.words.Word.{Word}
+use Rattle.sml_lexer.specs.declared.words.Word.{Word}
 use Rattle.phrase_reading.specs.declared.lexemes.Label.{Label}
-use Rattle.phrase_reading.specs.declared.words.Word.TheVariants as w
 
 -- a grammar of phrases of Standard ML
 abbrev pub g : Type 0 → Type 1
 g A = Grammar Lexeme A
 
 -- ---- reserved words and marks (The Definition of Standard ML, sections 2.1 and 3.1)
-
--- whether a word is that word
-unfoldable pub same_word : Word → Word → Bool
-same_word = sameb the_type
-
--- the mark that a text is, if it is one
-unfoldable pub mark : List ℕ → Option Word
-mark text =
-    if pointwise nat_eq text (codes "(") then Some w.Open
-    else (if pointwise nat_eq text (codes ")") then Some w.Close
-    else (if pointwise nat_eq text (codes "[") then Some w.OpenBracket
-    else (if pointwise nat_eq text (codes "]") then Some w.CloseBracket
-    else (if pointwise nat_eq text (codes "{") then Some w.OpenBrace
-    else (if pointwise nat_eq text (codes "}") then Some w.CloseBrace
-    else (if pointwise nat_eq text (codes ",") then Some w.Comma
-    else (if pointwise nat_eq text (codes ":") then Some w.Colon
-    else (if pointwise nat_eq text (codes ":>") then Some w.Seal
-    else (if pointwise nat_eq text (codes ";") then Some w.Semicolon
-    else (if pointwise nat_eq text (codes "...") then Some w.Dots
-    else (if pointwise nat_eq text (codes "_") then Some w.Wild
-    else (if pointwise nat_eq text (codes "|") then Some w.Bar
-    else (if pointwise nat_eq text (codes "=") then Some w.Equals
-    else (if pointwise nat_eq text (codes "=>") then Some w.DoubleArrow
-    else (if pointwise nat_eq text (codes "->") then Some w.Arrow
-    else (if pointwise nat_eq text (codes "#") then Some w.Hash
-    else None))))))))))))))))
-
--- the reserved word of the core from `abstype` to `fun` that a text is, if it is one
-unfoldable pub core_word : List ℕ → Option Word
-core_word text =
-    if pointwise nat_eq text (codes "abstype") then Some w.AbsType
-    else (if pointwise nat_eq text (codes "and") then Some w.And
-    else (if pointwise nat_eq text (codes "andalso") then Some w.AndAlso
-    else (if pointwise nat_eq text (codes "as") then Some w.As
-    else (if pointwise nat_eq text (codes "case") then Some w.Case
-    else (if pointwise nat_eq text (codes "datatype") then Some w.Datatype
-    else (if pointwise nat_eq text (codes "do") then Some w.Do
-    else (if pointwise nat_eq text (codes "else") then Some w.Else
-    else (if pointwise nat_eq text (codes "end") then Some w.End
-    else (if pointwise nat_eq text (codes "exception") then Some w.Exception
-    else (if pointwise nat_eq text (codes "fn") then Some w.Fn
-    else (if pointwise nat_eq text (codes "fun") then Some w.Fun
-    else None)))))))))))
-
--- the reserved word of the core from `handle` to `withtype` that a text is, if it is one
-unfoldable pub later_word : List ℕ → Option Word
-later_word text =
-    if pointwise nat_eq text (codes "handle") then Some w.Handle
-    else (if pointwise nat_eq text (codes "if") then Some w.If
-    else (if pointwise nat_eq text (codes "in") then Some w.In
-    else (if pointwise nat_eq text (codes "infix") then Some w.Infix
-    else (if pointwise nat_eq text (codes "infixr") then Some w.Infixr
-    else (if pointwise nat_eq text (codes "let") then Some w.Let
-    else (if pointwise nat_eq text (codes "local") then Some w.Local
-    else (if pointwise nat_eq text (codes "nonfix") then Some w.Nonfix
-    else (if pointwise nat_eq text (codes "of") then Some w.Of
-    else (if pointwise nat_eq text (codes "op") then Some w.Op
-    else (if pointwise nat_eq text (codes "open") then Some w.OpenWord
-    else (if pointwise nat_eq text (codes "orelse") then Some w.OrElse
-    else (if pointwise nat_eq text (codes "raise") then Some w.Raise
-    else (if pointwise nat_eq text (codes "rec") then Some w.Rec
-    else (if pointwise nat_eq text (codes "then") then Some w.Then
-    else (if pointwise nat_eq text (codes "type") then Some w.TypeWord
-    else (if pointwise nat_eq text (codes "val") then Some w.Val
-    else (if pointwise nat_eq text (codes "while") then Some w.While
-    else (if pointwise nat_eq text (codes "with") then Some w.With
-    else (if pointwise nat_eq text (codes "withtype") then Some w.WithType
-    else None)))))))))))))))))))
-
--- the reserved word of modules that a text is, if it is one
-unfoldable pub module_word : List ℕ → Option Word
-module_word text =
-    if pointwise nat_eq text (codes "eqtype") then Some w.EqType
-    else (if pointwise nat_eq text (codes "functor") then Some w.Functor
-    else (if pointwise nat_eq text (codes "funsig") then Some w.Funsig
-    else (if pointwise nat_eq text (codes "include") then Some w.Include
-    else (if pointwise nat_eq text (codes "sharing") then Some w.Sharing
-    else (if pointwise nat_eq text (codes "sig") then Some w.Sig
-    else (if pointwise nat_eq text (codes "signature") then Some w.Signature
-    else (if pointwise nat_eq text (codes "struct") then Some w.Struct
-    else (if pointwise nat_eq text (codes "structure") then Some w.Structure
-    else (if pointwise nat_eq text (codes "where") then Some w.Where
-    else None)))))))))
-
--- the first of two, or else the second
-abbrev pub or_else : {A : Type 0} → Option A → Option A → Option A
-or_else None other = other
-or_else (Some found) other = Some found
-
--- the reserved word or mark that a text spells
-unfoldable pub word_of : List ℕ → Option Word
-word_of text = or_else (mark text) (or_else (core_word text) (or_else (later_word text) (module_word text)))
 
 abbrev pub word_in : LexemeKind → Option Word
 word_in (k.Reserved text) = word_of text

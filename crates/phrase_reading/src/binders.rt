@@ -10,9 +10,8 @@ ghost use Rattle.phrase_reading.specs.Names.{marked, tyvars, tyvar_list, tyvars_
 use crate::lexeme::{self, is_star_text};
 use crate::lexemes::Lexemes;
 use crate::stop::Stop;
-use crate::words::Word;
 use cm_base::{List, NoMemory, Text};
-use sml_lexer::{Lexeme, LexemeKind};
+use sml_lexer::{Lexeme, LexemeKind, Word};
 use sml_trees::{Name, OpLong, OpName};
 use std::alloc::Global;
 

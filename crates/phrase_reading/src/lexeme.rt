@@ -4,9 +4,8 @@ ghost use Rattle.std.specs.Prelude.{◌≡◌, IfOk, is_some};
 ghost use Rattle.phrase_reading.specs.Words.{is, word, is_star, is_star_text, is_tycon, name_of, long_of, label_of, tyvar_of, tycon_of, at, digits_of, last_part, only, named, or_empty};
 ghost use Rattle.std.specs.Fmt.{decimal};
 
-use crate::words::Word;
 use cm_base::{List, NoMemory, Text};
-use sml_lexer::{Lexeme, LexemeKind};
+use sml_lexer::{Lexeme, LexemeKind, Word};
 use sml_trees::{At, Name};
 use std::alloc::Global;
 

@@ -8,8 +8,7 @@ ghost use Rattle.phrase_reading.specs.Reads.{Reads};
 
 use crate::lexeme;
 use crate::stop::Stop;
-use crate::words::Word;
-use sml_lexer::Lexeme;
+use sml_lexer::{Lexeme, Word};
 use sml_trees::{LongName, Name};
 use std::alloc::Global;
 

@@ -38,8 +38,8 @@ use Rattle.phrase_reading.specs.Names.{either}
 use Rattle.phrase_reading.specs.Sized.{one, more, further}
 use Rattle.phrase_reading.specs.Words.{g, at, is, word}
 use Rattle.phrase_reading.specs.declared.tall.Tall.{Tall}
-use Rattle.phrase_reading.specs.declared.words.Word.{Word}
-use Rattle.phrase_reading.specs.declared.words.Word.TheVariants as w
+use Rattle.sml_lexer.specs.declared.words.Word.{Word}
+use Rattle.sml_lexer.specs.declared.words.Word.TheVariants as w
 use Rattle.level_laws.proofs.Keeping.{Keeps, keep_pure, keep_refuse, keep_bind, keep_then, keep_within, keep_many, keep_none, keep_if_taken, keep_if_mark, keep_if_marked, keep_either, keep_weak}
 use Rattle.clause_laws.specs.Forms.{HasArgument}
 use Rattle.clause_laws.proofs.HeadForms.{head_keeps, parens_keep}

@@ -29,10 +29,11 @@ use Rattle.expression_parts.specs.declared.chain.Chain.TheVariants as chain
 use Rattle.expression_parts.specs.ExpStarts.{infix_name, starts_prefix}
 use Rattle.expression_parts.specs.ExpNodes.{link, run_of, with_atom, with_operator}
 use Rattle.phrase_reading.specs.Sized.{one, more, further}
-use Rattle.phrase_reading.specs.Words.{g, at, named, word, word_of}
+use Rattle.phrase_reading.specs.Words.{g, at, named, word}
+use Rattle.sml_lexer.specs.Words.{word_of}
 use Rattle.phrase_reading.specs.declared.tall.Tall.{Tall}
-use Rattle.phrase_reading.specs.declared.words.Word.{Word}
-use Rattle.phrase_reading.specs.declared.words.Word.TheVariants as w
+use Rattle.sml_lexer.specs.declared.words.Word.{Word}
+use Rattle.sml_lexer.specs.declared.words.Word.TheVariants as w
 use Rattle.level_laws.proofs.Keeping.{Keeps, keep_pure, keep_refuse, keep_bind, keep_then, keep_on, keep_within, keep_many, keep_taken, keep_weak}
 use Rattle.recursion_laws.specs.Functions.{ExpFacts, is_sound, dec_binds, exp_binds, item_binds, field_binds, rule_binds, clause_binds, fun_binds, val_binds, exp_step}
 use Rattle.recursion_laws.proofs.Forms.{exp_form, item_form, field_form, rule_form, both_true, AllPass, one_passes, more_pass}

@@ -18,8 +18,8 @@ use Rattle.core_bindings.specs.Decs.{Decs, plain}
 use Rattle.phrase_reading.specs.Names.{strid_of}
 use Rattle.phrase_reading.specs.Words.{g, is, word, at}
 use Rattle.phrase_reading.specs.declared.tall.Tall.{Tall}
-use Rattle.phrase_reading.specs.declared.words.Word.{Word}
-use Rattle.phrase_reading.specs.declared.words.Word.TheVariants as w
+use Rattle.sml_lexer.specs.declared.words.Word.{Word}
+use Rattle.sml_lexer.specs.declared.words.Word.TheVariants as w
 use Rattle.signature_parser.specs.Joined.{module_name_of, apart, alone, bindings, bindings_from, next_binding}
 use Rattle.signature_parser.specs.declared.joined.Joined.{Joined}
 use Rattle.module_parser.specs.StrLevels.{str_level, str_level_of, str_below, no_str_level}

@@ -7,8 +7,8 @@ use Rattle.sml_trees.specs.declared.full_unit.FullTopDec.{FullTopDec}
 use Rattle.infix_names.specs.Fixities.{initial}
 use Rattle.phrase_reading.specs.Words.{at, word}
 use Rattle.phrase_reading.specs.declared.tall.Tall.{Tall}
-use Rattle.phrase_reading.specs.declared.words.Word.{Word}
-use Rattle.phrase_reading.specs.declared.words.Word.TheVariants as w
+use Rattle.sml_lexer.specs.declared.words.Word.{Word}
+use Rattle.sml_lexer.specs.declared.words.Word.TheVariants as w
 use Rattle.module_parser.specs.Functors.{fun_bind}
 use Rattle.module_parser.specs.StrLevels.{str_level}
 use Rattle.module_parser.specs.Units.{top_structures, top_signatures, top_functors, top_funsigs, top_word, top_round, topdecs_from, topdecs}

@@ -10,7 +10,7 @@ use Rattle.phrase_reading.specs.Reads.{Stops}
 use Rattle.phrase_reading.specs.Words.{g, is, made, named}
 use Rattle.phrase_reading.specs.declared.stop.Stop.{Stop}
 use Rattle.phrase_reading.specs.declared.stop.Stop.TheVariants as stop
-use Rattle.phrase_reading.specs.declared.words.Word.TheVariants as w
+use Rattle.sml_lexer.specs.declared.words.Word.TheVariants as w
 use Rattle.phrase_reading.proofs.NameSteps.{if_taken_go, if_taken_stop, if_mark_go, if_mark_stop}
 use Rattle.phrase_reading.specs.Names.{if_taken, if_mark}
 use Rattle.signature_parser.specs.Bound.{next_name}

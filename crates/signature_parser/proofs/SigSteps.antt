@@ -21,8 +21,8 @@ use Rattle.phrase_reading.specs.Words.{g, is, word, at}
 use Rattle.phrase_reading.specs.declared.stop.Stop.{Stop}
 use Rattle.phrase_reading.specs.declared.stop.Stop.TheVariants as stop
 use Rattle.phrase_reading.specs.declared.tall.Tall.{Tall}
-use Rattle.phrase_reading.specs.declared.words.Word.{Word}
-use Rattle.phrase_reading.specs.declared.words.Word.TheVariants as w
+use Rattle.sml_lexer.specs.declared.words.Word.{Word}
+use Rattle.sml_lexer.specs.declared.words.Word.TheVariants as w
 use Rattle.phrase_reading.proofs.NameSteps.{marked_go, marked_stop}
 use Rattle.phrase_reading.proofs.Steps.{lower_go, one_less}
 use Rattle.signature_parser.specs.Rounds.{next_begin, if_begins}

@@ -5,7 +5,7 @@ use Rattle.grammars.specs.Grammar.Grammar.{pure}
 use Rattle.sml_trees.specs.declared.name.Name.{Name}
 use Rattle.phrase_reading.specs.Names.{if_mark, if_taken}
 use Rattle.phrase_reading.specs.Words.{g, named}
-use Rattle.phrase_reading.specs.declared.words.Word.TheVariants as w
+use Rattle.sml_lexer.specs.declared.words.Word.TheVariants as w
 use Rattle.signature_parser.specs.Joined.{module_name_of, module_name}
 
 -- the name of another binding, if one goes on, where the `and` before it was taken or not

@@ -13,7 +13,7 @@ use Rattle.phrase_reading.specs.Names.{begins_with_letter, either}
 use Rattle.phrase_reading.specs.Sized.{part, over_two, one, more}
 use Rattle.phrase_reading.specs.Words.{g, is, name_of, and_then, named, made, taken}
 use Rattle.phrase_reading.specs.declared.tall.Tall.{Tall}
-use Rattle.phrase_reading.specs.declared.words.Word.TheVariants as w
+use Rattle.sml_lexer.specs.declared.words.Word.TheVariants as w
 use Rattle.signature_parser.specs.declared.joined.Joined.{Joined}
 
 -- ---- names of structures, signatures and functors

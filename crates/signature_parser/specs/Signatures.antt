@@ -23,8 +23,8 @@ use Rattle.phrase_reading.specs.Sized.{leaf, over, part, one, more, lower}
 use Rattle.core_types.specs.Types.{ty}
 use Rattle.phrase_reading.specs.Words.{g, is, at, named, made, tycon, token}
 use Rattle.phrase_reading.specs.declared.tall.Tall.{Tall}
-use Rattle.phrase_reading.specs.declared.words.Word.{Word}
-use Rattle.phrase_reading.specs.declared.words.Word.TheVariants as w
+use Rattle.sml_lexer.specs.declared.words.Word.{Word}
+use Rattle.sml_lexer.specs.declared.words.Word.TheVariants as w
 use Rattle.signature_parser.specs.Joined.{module_name_of, is_module_name, apart, joined_part, joined_over}
 use Rattle.signature_parser.specs.declared.joined.Joined.{Joined}
 

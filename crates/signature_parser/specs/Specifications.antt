@@ -38,8 +38,8 @@ use Rattle.phrase_reading.specs.Sized.{leaf, over, part, one, more, further, may
 use Rattle.core_types.specs.Types.{ty}
 use Rattle.phrase_reading.specs.Words.{g, is, word, at, named, name, tycon, token}
 use Rattle.phrase_reading.specs.declared.tall.Tall.{Tall}
-use Rattle.phrase_reading.specs.declared.words.Word.{Word}
-use Rattle.phrase_reading.specs.declared.words.Word.TheVariants as w
+use Rattle.sml_lexer.specs.declared.words.Word.{Word}
+use Rattle.sml_lexer.specs.declared.words.Word.TheVariants as w
 use Rattle.signature_parser.specs.Joined.{module_name_of, alone, bindings}
 use Rattle.signature_parser.specs.Signatures.{SigLevel, where_behind, wheres, sig_bind}
 

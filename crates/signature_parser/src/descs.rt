@@ -12,11 +12,11 @@ use cm_base::List;
 use core_bindings::datatype_decs::has_none;
 use core_bindings::type_decs::of_ty;
 use core_types::types::ty;
-use phrase_reading::Word;
 use phrase_reading::binders::{short_tycon, tyvars};
 use phrase_reading::lexemes::Lexemes;
 use phrase_reading::stop::Stop;
 use phrase_reading::tall::{Tall, more, one, one_above};
+use sml_lexer::Word;
 use sml_trees::{
     At, FullConBind, FullDatBind, FullSpec, FullTypDesc, FullValDesc, Name, OpName, TypDesc,
 };

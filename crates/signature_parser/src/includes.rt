@@ -9,11 +9,11 @@ use crate::joined::{Joined, alone};
 use crate::names::{module_name, module_names_from, sees_module_name};
 use crate::wheres::{where_behind, wheres};
 use cm_base::{List, NoMemory};
-use phrase_reading::Word;
 use phrase_reading::binders::single;
 use phrase_reading::lexemes::Lexemes;
 use phrase_reading::stop::Stop;
 use phrase_reading::tall::{Tall, boxed, one_above};
+use sml_lexer::Word;
 use sml_trees::{At, FullSigExp, FullSpec, Name};
 use std::alloc::Global;
 

@@ -7,10 +7,10 @@ ghost use Rattle.signature_parser.specs.Bound.{next_name};
 
 use crate::names::{module_name, sees_module_name};
 use cm_base::{List, NoMemory};
-use phrase_reading::Word;
 use phrase_reading::lexemes::Lexemes;
 use phrase_reading::stop::Stop;
 use phrase_reading::tall::{Tall, more, one};
+use sml_lexer::Word;
 use sml_trees::Name;
 use std::alloc::Global;
 

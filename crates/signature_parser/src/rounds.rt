@@ -7,8 +7,8 @@ ghost use Rattle.signature_parser.specs.Rounds.{next_begin};
 ghost use Rattle.signature_parser.specs.Specifications.{is_spec_round};
 
 use phrase_reading::lexemes::Lexemes;
-use phrase_reading::{Word, lexeme};
-use sml_lexer::Lexeme;
+use phrase_reading::lexeme;
+use sml_lexer::{Lexeme, Word};
 
 /// Whether a specification begins with this word, or it is a semicolon.
 fn is_spec_round(word: Option<Word>) -> bool

@@ -19,8 +19,8 @@ use cm_base::List;
 use phrase_reading::lexemes::Lexemes;
 use phrase_reading::stop::Stop;
 use phrase_reading::tall::{Tall, boxed, more, one_above};
-use phrase_reading::{Word, lexeme};
-use sml_lexer::Lexeme;
+use phrase_reading::lexeme;
+use sml_lexer::{Lexeme, Word};
 use sml_trees::{At, FullSigBind, FullSigExp, FullSpec, Name};
 use std::alloc::Global;
 

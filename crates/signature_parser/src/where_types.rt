@@ -12,8 +12,8 @@ use phrase_reading::binders::{marked, tyvars};
 use phrase_reading::lexemes::Lexemes;
 use phrase_reading::stop::Stop;
 use phrase_reading::tall::{Tall, more, one};
-use phrase_reading::{Word, lexeme};
-use sml_lexer::Lexeme;
+use phrase_reading::lexeme;
+use sml_lexer::{Lexeme, Word};
 use sml_trees::FullWhere;
 use std::alloc::Global;
 

@@ -10,10 +10,10 @@ ghost use Rattle.sml_trees.specs.declared.full_sig.FullSigExp.TheVariants.{Where
 use crate::joined::Joined;
 use crate::where_types::where_types;
 use cm_base::{List, NoMemory};
-use phrase_reading::Word;
 use phrase_reading::lexemes::Lexemes;
 use phrase_reading::stop::Stop;
 use phrase_reading::tall::{Tall, both, boxed_first, one_above};
+use sml_lexer::Word;
 use sml_trees::{At, FullSigExp, FullWhere};
 use std::alloc::Global;
 

@@ -7,7 +7,7 @@ use Rattle.expression_parts.specs.ExpNodes.{chain_word}
 use Rattle.expression_parts.specs.ExpStarts.{goes_on}
 use Rattle.core_expressions.specs.Levels.{below, level}
 use Rattle.phrase_reading.specs.Words.{is}
-use Rattle.phrase_reading.specs.declared.words.Word.TheVariants as w
+use Rattle.sml_lexer.specs.declared.words.Word.TheVariants as w
 use Rattle.core_bindings.specs.Decs.{declared}
 use Rattle.core_expressions.specs.Declarations.{starts_round}
 use Rattle.core_expressions.specs.Values.{val_bind}

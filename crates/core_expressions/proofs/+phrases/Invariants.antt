@@ -7,7 +7,7 @@ use Rattle.core_expressions.specs.Expressions.{chained, exps, fields, more_rules
 use Rattle.core_expressions.specs.Levels.{below, level}
 use Rattle.phrase_reading.specs.Sized.{further}
 use Rattle.core_expressions.specs.Values.{val_binds_from}
-use Rattle.phrase_reading.specs.declared.words.Word.TheVariants as w
+use Rattle.sml_lexer.specs.declared.words.Word.TheVariants as w
 use Rattle.core_expressions.proofs.+phrases.Given as goal
 
 -- Each function goes down a level, or to one that stands lower in the order of calls at one level.

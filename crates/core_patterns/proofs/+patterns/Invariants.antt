@@ -3,7 +3,7 @@ use Rattle.grammars.specs.Reading.{read}
 use Rattle.phrase_reading.specs.Sized.{further}
 use Rattle.core_types.specs.Types.{ty}
 use Rattle.core_patterns.specs.Patterns.{pat, pat_level, field, run_on}
-use Rattle.phrase_reading.specs.declared.words.Word.TheVariants as w
+use Rattle.sml_lexer.specs.declared.words.Word.TheVariants as w
 use Rattle.core_patterns.proofs.+patterns.Given as goal
 
 -- Each function goes down a level, or to one that stands lower in the order of calls at one level.

@@ -3,7 +3,7 @@ use Rattle.grammars.specs.Reading.{read}
 use Rattle.core_bindings.specs.Bindings.{con_bind}
 use Rattle.phrase_reading.specs.Sized.{further}
 use Rattle.core_types.specs.Types.{ty}
-use Rattle.phrase_reading.specs.declared.words.Word.TheVariants as w
+use Rattle.sml_lexer.specs.declared.words.Word.TheVariants as w
 use Rattle.core_bindings.proofs.datatype_decs.con_binds.Given as goal
 
 -- what is left to read goes on from what was found so far

@@ -3,7 +3,7 @@ use Rattle.grammars.specs.Grammar.{begins, head_or}
 use Rattle.phrase_reading.specs.Words.{is}
 use Rattle.core_types.specs.Types.{ty}
 use Rattle.core_bindings.specs.Bindings.{typ_bind}
-use Rattle.phrase_reading.specs.declared.words.Word.TheVariants as w
+use Rattle.sml_lexer.specs.declared.words.Word.TheVariants as w
 use Rattle.phrase_reading.proofs.Steps.{round_less}
 use Rattle.core_bindings.proofs.type_decs.typ_binds.Goals as goal
 

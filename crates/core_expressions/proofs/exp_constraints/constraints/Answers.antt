@@ -3,7 +3,7 @@ use Rattle.grammars.specs.Grammar.{begins, head_or}
 use Rattle.core_expressions.specs.Expressions.{constraint}
 use Rattle.core_expressions.specs.Levels.{below}
 use Rattle.phrase_reading.specs.Words.{is}
-use Rattle.phrase_reading.specs.declared.words.Word.TheVariants as w
+use Rattle.sml_lexer.specs.declared.words.Word.TheVariants as w
 use Rattle.phrase_reading.proofs.Steps.{round_less}
 use Rattle.core_expressions.proofs.exp_constraints.constraints.Goals as goal
 

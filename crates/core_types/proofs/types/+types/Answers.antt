@@ -2,7 +2,7 @@ use Rattle.std.proofs.Common.{◌≡◌, ◌-◌, true, None}
 use Rattle.grammars.specs.Grammar.{begins, head_or}
 use Rattle.phrase_reading.specs.Words.{is, is_star}
 use Rattle.core_types.specs.Types.{ty, ty_level, field}
-use Rattle.phrase_reading.specs.declared.words.Word.TheVariants as w
+use Rattle.sml_lexer.specs.declared.words.Word.TheVariants as w
 use Rattle.phrase_reading.proofs.Steps.{round_less}
 use Rattle.core_types.proofs.types.+types.Goals as goal
 

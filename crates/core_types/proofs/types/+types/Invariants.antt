@@ -2,7 +2,7 @@ use Rattle.std.proofs.Common.{◌≡◌, ◌+◌, ◌*◌, ◌-◌, ◌<◌, len
 use Rattle.grammars.specs.Reading.{read}
 use Rattle.phrase_reading.specs.Sized.{further}
 use Rattle.core_types.specs.Types.{ty, ty_level, field, starred}
-use Rattle.phrase_reading.specs.declared.words.Word.TheVariants as w
+use Rattle.sml_lexer.specs.declared.words.Word.TheVariants as w
 use Rattle.core_types.proofs.types.+types.Given as goal
 
 -- Each function goes down a level, or to one that stands lower in the order of calls at one level.

@@ -2,7 +2,7 @@ use Rattle.std.proofs.Common.{◌≡◌, length}
 use Rattle.grammars.specs.Reading.{read}
 use Rattle.phrase_reading.specs.Sized.{further}
 use Rattle.core_types.specs.Types.{ty}
-use Rattle.phrase_reading.specs.declared.words.Word.TheVariants as w
+use Rattle.sml_lexer.specs.declared.words.Word.TheVariants as w
 use Rattle.signature_parser.specs.Specifications.{dat_desc}
 use Rattle.signature_parser.proofs.descs.dat_descs.Given as goal
 

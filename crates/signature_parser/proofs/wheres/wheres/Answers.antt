@@ -2,7 +2,7 @@ use Rattle.std.proofs.Common.{◌≡◌, ◌-◌, true, None}
 use Rattle.grammars.specs.Grammar.{begins, head_or}
 use Rattle.phrase_reading.specs.Words.{is}
 use Rattle.core_types.specs.Types.{ty}
-use Rattle.phrase_reading.specs.declared.words.Word.TheVariants as w
+use Rattle.sml_lexer.specs.declared.words.Word.TheVariants as w
 use Rattle.phrase_reading.proofs.Steps.{round_less}
 use Rattle.signature_parser.specs.Signatures.{where_behind}
 use Rattle.signature_parser.proofs.wheres.wheres.Goals as goal
