@@ -11,10 +11,10 @@ ghost use Rattle.signature_parser.specs.Joined.{joined_over};
 
 use cm_base::{Boxed, NoMemory};
 use phrase_reading::binders::marked;
+use phrase_reading::lexeme;
 use phrase_reading::lexemes::Lexemes;
 use phrase_reading::stop::Stop;
 use phrase_reading::tall::{Tall, both, boxed_first, one_above};
-use phrase_reading::lexeme;
 use signature_parser::joined::{Joined, alone};
 use signature_parser::sig_exps::sig;
 use sml_lexer::{Lexeme, Word};

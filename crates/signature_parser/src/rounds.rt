@@ -6,8 +6,8 @@ ghost use Rattle.grammars.specs.Grammar.{head_or};
 ghost use Rattle.signature_parser.specs.Rounds.{next_begin};
 ghost use Rattle.signature_parser.specs.Specifications.{is_spec_round};
 
-use phrase_reading::lexemes::Lexemes;
 use phrase_reading::lexeme;
+use phrase_reading::lexemes::Lexemes;
 use sml_lexer::{Lexeme, Word};
 
 /// Whether a specification begins with this word, or it is a semicolon.

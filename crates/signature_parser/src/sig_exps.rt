@@ -16,10 +16,10 @@ use crate::names::{is_module_name, module_name, module_name_of, sees_module_name
 use crate::rounds::next_spec;
 use crate::wheres::wheres;
 use cm_base::List;
+use phrase_reading::lexeme;
 use phrase_reading::lexemes::Lexemes;
 use phrase_reading::stop::Stop;
 use phrase_reading::tall::{Tall, boxed, more, one_above};
-use phrase_reading::lexeme;
 use sml_lexer::{Lexeme, Word};
 use sml_trees::{At, FullSigBind, FullSigExp, FullSpec, Name};
 use std::alloc::Global;
