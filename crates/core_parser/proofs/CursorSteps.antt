@@ -9,7 +9,8 @@ use Rattle.grammars.proofs.Sound.{sound}
 use Rattle.grammars.proofs.Fronts.{place}
 use Rattle.sml_lexer.specs.declared.lexeme.Lexeme.{Lexeme}
 use Rattle.sml_trees.specs.declared.full_exp.FullDec.{FullDec}
-use Rattle.core_parser.specs.Answers.{Answers, AnswersDec, LongestRun, Refuses, refusal, place_of}
+use Rattle.core_parser.specs.Answers.{Answers, AnswersDec}
+use Rattle.phrase_reading.specs.Refusals.{LongestRun, Refuses, refusal, place_of}
 use Rattle.core_bindings.specs.Decs.{declares}
 use Rattle.core_parser.specs.Cursors.{CursorState, before, mark_last, marked, fault_of, failure_of, refused_before, refused_at, scoped, FailsBefore, FailsWith, Settles, ParsesHere, ParsesDecHere}
 use Rattle.infix_names.specs.Fixities.{Fixities}

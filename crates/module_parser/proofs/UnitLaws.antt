@@ -15,7 +15,7 @@ use Rattle.sml_lexer.specs.Lexing.{lexemes_of}
 use Rattle.sml_lexer.specs.declared.lexeme.Lexeme.{Lexeme}
 use Rattle.sml_trees.specs.declared.full_unit.FullTopDec.{FullTopDec}
 use Rattle.sml_trees.specs.declared.full_unit.FullUnit.{FullUnit}
-use Rattle.core_parser.specs.Answers.{LongestRun, refusal}
+use Rattle.phrase_reading.specs.Refusals.{LongestRun, refusal}
 use Rattle.phrase_reading.specs.Reads.{Stops}
 use Rattle.phrase_reading.specs.Words.{g}
 use Rattle.phrase_reading.specs.declared.stop.Stop.{Stop}

@@ -7,7 +7,7 @@ use Rattle.cm_base.specs.declared.fault.Fault.TheVariants as fault
 use Rattle.grammars.specs.Grammar.{Phrase}
 use Rattle.sml_lexer.specs.declared.lexeme.Lexeme.{Lexeme}
 use Rattle.sml_trees.specs.declared.full_unit.FullUnit.{FullUnit}
-use Rattle.core_parser.specs.Answers.{place_of, refusal}
+use Rattle.phrase_reading.specs.Refusals.{place_of, refusal}
 use Rattle.phrase_reading.specs.declared.stop.Stop.{Stop}
 use Rattle.phrase_reading.specs.declared.stop.Stop.TheVariants as stop
 use Rattle.module_parser.specs.Units.{topdecs, IsUnit, IsFirstDiagnostic, IsCutShort, IsTooDeep, IsBehindUnit}

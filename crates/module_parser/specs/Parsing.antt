@@ -10,7 +10,7 @@ use Rattle.sml_lexer.specs.Lexing.{lexemes_of}
 use Rattle.sml_lexer.specs.declared.lexeme.Lexeme.{Lexeme}
 use Rattle.sml_trees.specs.declared.full_unit.FullTopDec.{FullTopDec}
 use Rattle.sml_trees.specs.declared.full_unit.FullUnit.{FullUnit}
-use Rattle.core_parser.specs.Answers.{refusal}
+use Rattle.phrase_reading.specs.Refusals.{refusal}
 use Rattle.phrase_reading.specs.declared.tall.Tall.{Tall}
 use Rattle.module_parser.specs.Units.{topdecs, top_refusal}
 

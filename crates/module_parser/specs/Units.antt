@@ -22,7 +22,7 @@ use Rattle.sml_trees.specs.declared.full_unit.FullTopDec.{FullTopDec}
 use Rattle.sml_trees.specs.declared.full_unit.FullTopDec.TheVariants as top
 use Rattle.sml_trees.specs.declared.full_unit.FullUnit.{FullUnit}
 use Rattle.sml_trees.specs.declared.name.At.{At}
-use Rattle.core_parser.specs.Answers.{LongestRun, place_of, refusal}
+use Rattle.phrase_reading.specs.Refusals.{LongestRun, place_of, refusal}
 use Rattle.expression_parts.specs.ExpStarts.{starts_dec_word}
 use Rattle.infix_names.specs.Fixities.{initial}
 use Rattle.phrase_reading.specs.Sized.{over, more}

@@ -2,7 +2,7 @@
 
 ghost use Rattle.std.specs.Prelude.{◌≡◌, None, Some, IfOk};
 ghost use Rattle.std.specs.Option.{option_copied};
-ghost use Rattle.core_parser.specs.Answers.{refusal};
+ghost use Rattle.phrase_reading.specs.Refusals.{refusal};
 ghost use Rattle.phrase_reading.specs.Reads.{Reads};
 ghost use Rattle.module_parser.specs.Answers.{AnswersUnit, AnswersLexemes, refused, StopsWith};
 ghost use Rattle.module_parser.specs.Units.{topdecs, top_refusal};
