@@ -3,21 +3,10 @@
 //! Where it fails, they are let go here, in functions of any type. The checker goes through all kinds of trees at each
 //! place where a tree may be let go, so the functions that make trees have few such places of their own.
 
-ghost use Rattle.std.specs.Prelude.{◌≡◌, ◌∷◌, ◌++◌, [], Ok, Err, IfOk, IfErr, MatchResult, length};
+ghost use Rattle.std.specs.Prelude.{◌≡◌, ◌∷◌, ◌++◌, [], IfOk, IfErr, MatchResult, length};
 
 use cm_base::{Boxed, List, NoMemory};
 use std::alloc::Global;
-
-/// What is held beside what was made meanwhile, or why that wasn't made.
-pub fn both<A: Drop, B, E>(held: A, made: Result<B, E>) -> Result<(A, B), E>
-    ensures held { IfOk result (λ pair. pair.0 ≡ held) }
-    ensures made { MatchResult result (λ pair. made ≡ Ok pair.1) (λ why. made ≡ Err why) }
-{
-    match made {
-        Ok(made) => Ok((held, made)),
-        Err(why) => Err(why),
-    }
-}
 
 /// A list of one item.
 pub fn one<T: Drop>(alloc: Global, only: T) -> Result<List<T>, NoMemory>

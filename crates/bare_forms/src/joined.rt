@@ -7,11 +7,12 @@ ghost use Rattle.bare_forms.specs.Patterns as pats;
 ghost use Rattle.bare_forms.specs.Patterns.{joined_pat};
 ghost use Rattle.sml_trees.specs.declared.exp.Exp.TheVariants as bare;
 
-use crate::held::{both, boxed_beside, boxed_two, two};
+use crate::held::{boxed_beside, boxed_two, two};
 use crate::name::{long_of_name, pair_labels, place};
 use crate::placed::{PlacedExp, PlacedPat};
 use crate::run::Operand;
 use cm_base::NoMemory;
+use sml_trees::held::both;
 use sml_trees::{At, Exp, ExpField, Name, Pat, PatField};
 use std::alloc::Global;
 

@@ -4,8 +4,8 @@ ghost use Rattle.std.specs.Prelude.{◌≡◌, IfOk};
 ghost use Rattle.bare_forms.specs.Types.{label_of};
 ghost use Rattle.bare_forms.specs.Patterns.{at_name, long_name, long_at};
 
-use crate::held::both;
 use cm_base::{List, NoMemory, Text};
+use sml_trees::held::both;
 use sml_trees::{At, LongName, Name};
 use std::alloc::Global;
 

@@ -18,8 +18,9 @@ use infix_names::fixity::Fixities;
 use phrase_reading::lexeme;
 use phrase_reading::lexemes::Lexemes;
 use phrase_reading::stop::Stop;
-use phrase_reading::tall::{Tall, both, more};
+use phrase_reading::tall::{Tall, more};
 use sml_lexer::{Lexeme, LexemeKind, Word};
+use sml_trees::held::both;
 use sml_trees::{At, FullHead, FullPat, LongName, Name, OpLong, OpName};
 use std::alloc::Global;
 

@@ -15,8 +15,9 @@ use infix_names::fixity::Fixities;
 use phrase_reading::lexeme::{at, copy_parts};
 use phrase_reading::lexemes::Lexemes;
 use phrase_reading::stop::Stop;
-use phrase_reading::tall::{Tall, both, more, one, one_above, two};
+use phrase_reading::tall::{Tall, more, one, one_above, two};
 use sml_lexer::{Lexeme, LexemeKind, Word};
+use sml_trees::held::both;
 use sml_trees::{At, Constant, FullExp, FullExpField, LongName, OpLong};
 use std::alloc::Global;
 

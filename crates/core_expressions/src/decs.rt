@@ -21,8 +21,9 @@ use infix_names::fixity::Fixities;
 use phrase_reading::lexeme;
 use phrase_reading::lexemes::Lexemes;
 use phrase_reading::stop::Stop;
-use phrase_reading::tall::{Tall, both, more, one_above};
+use phrase_reading::tall::{Tall, more, one_above};
 use sml_lexer::{Lexeme, Word};
+use sml_trees::held::both;
 use sml_trees::{At, FullDec};
 use std::alloc::Global;
 

@@ -17,8 +17,9 @@ use infix_names::fixity::Fixities;
 use phrase_reading::lexeme::{at, word};
 use phrase_reading::lexemes::Lexemes;
 use phrase_reading::stop::Stop;
-use phrase_reading::tall::{Tall, both, lower, more, one, one_above};
+use phrase_reading::tall::{Tall, lower, more, one, one_above};
 use sml_lexer::{Lexeme, Word};
+use sml_trees::held::both;
 use sml_trees::{At, FullExp, FullRule};
 use std::alloc::Global;
 

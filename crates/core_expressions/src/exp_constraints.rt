@@ -9,8 +9,9 @@ use core_types::types::ty;
 use expression_parts::nodes::typed;
 use phrase_reading::lexemes::Lexemes;
 use phrase_reading::stop::Stop;
-use phrase_reading::tall::{Tall, both, lower};
+use phrase_reading::tall::{Tall, lower};
 use sml_lexer::Word;
+use sml_trees::held::both;
 use sml_trees::{At, FullExp};
 use std::alloc::Global;
 

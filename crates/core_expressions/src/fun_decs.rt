@@ -17,8 +17,9 @@ use phrase_reading::binders::{marked, sees_tyvar, single, tyvar_list};
 use phrase_reading::lexeme;
 use phrase_reading::lexemes::Lexemes;
 use phrase_reading::stop::Stop;
-use phrase_reading::tall::{Tall, both, more, one, one_above};
+use phrase_reading::tall::{Tall, more, one, one_above};
 use sml_lexer::{Lexeme, Word};
+use sml_trees::held::both;
 use sml_trees::{At, FullClause, FullDec, FullFunBind, FullHead, Name};
 use std::alloc::Global;
 

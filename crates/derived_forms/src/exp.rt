@@ -9,7 +9,7 @@ ghost use Rattle.bare_forms.specs.Types.{bare_ty};
 ghost use Rattle.sml_trees.specs.declared.exp.Exp.TheVariants as bare;
 
 use crate::part::{clause_of, datatypes_dec, exceptions_dec, place_of_exp, types_dec};
-use bare_forms::held::{appended, both, pushed, with};
+use bare_forms::held::{appended, pushed, with};
 use bare_forms::name::copy_name;
 use bare_forms::placed::{BareClause, CountedRule, PlacedExp};
 use bare_forms::run::operator_of;
@@ -22,6 +22,7 @@ use expression_nodes::node::{
 use expression_nodes::part::{fun_dec, local_dec, open_dec, replication_dec, val_dec};
 use phrase_forms::pat::to_pat;
 use phrase_forms::ty::to_ty;
+use sml_trees::held::both;
 use sml_trees::{
     At, Dec, Exp, ExpField, FullClause, FullDec, FullExp, FullExpField, FullExpItem, FullFunBind,
     FullRule, FullTy, FullValBind, Rule,

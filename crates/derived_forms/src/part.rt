@@ -6,7 +6,7 @@ ghost use Rattle.bare_forms.specs.Patterns.{bare_pat};
 ghost use Rattle.bare_forms.specs.Types.{bare_typ_bind, bare_dat_bind, bare_ex_bind};
 ghost use Rattle.sml_trees.specs.declared.exp.Dec.TheVariants as dec;
 
-use bare_forms::held::{appended, both, one, pushed};
+use bare_forms::held::{appended, one, pushed};
 use bare_forms::joined::pair_pat;
 use bare_forms::name::copy_name;
 use bare_forms::placed::{BareClause, PlacedExp, PlacedPat};
@@ -15,6 +15,7 @@ use expression_nodes::node::typed_exp;
 use phrase_forms::bare::to_list;
 use phrase_forms::pat::{to_pat, to_pats};
 use phrase_forms::ty::to_ty;
+use sml_trees::held::both;
 use sml_trees::{
     At, Dec, Exp, FullDatBind, FullExBind, FullExp, FullHead, FullPat, FullTy, FullTypBind, Name,
 };

@@ -5,7 +5,7 @@ ghost use Rattle.bare_forms.specs.Expressions as exps;
 ghost use Rattle.bare_forms.specs.Structures as spec;
 
 use crate::exp::to_dec;
-use bare_forms::held::{appended, both, with};
+use bare_forms::held::{appended, with};
 use bare_forms::name::{copy_long, copy_name};
 use bare_forms::placed::PlacedStr;
 use cm_base::{List, NoMemory};
@@ -13,6 +13,7 @@ use expression_nodes::part::{
     functor_str, local_dec, opaque_str, struct_of, structures_dec, transparent_str, within_str,
 };
 use phrase_forms::sig::to_sig;
+use sml_trees::held::both;
 use sml_trees::{At, Dec, FullSeal, FullStrBind, FullStrDec, FullStrExp, Name, StrBind, StrExp};
 use std::alloc::Global;
 

@@ -8,12 +8,13 @@ ghost use Rattle.sml_trees.specs.declared.exp.Dec.TheVariants as dec;
 ghost use Rattle.sml_trees.specs.declared.full_unit.FullParam.TheVariants as full;
 
 use crate::str_exp::{place_of_str, sealed, to_str, to_str_binds};
-use bare_forms::held::{both, one, with};
+use bare_forms::held::{one, with};
 use bare_forms::name::{copy_name, long_of_text};
 use bare_forms::placed::PlacedStr;
 use cm_base::{List, NoMemory, Text};
 use expression_nodes::part::within_str;
 use phrase_forms::sig::{sig_of, to_sig, to_sig_binds, to_specs};
+use sml_trees::held::both;
 use sml_trees::{
     At, BareUnit, Dec, FullFunctorBind, FullFunsigBind, FullParam, FullSigExp, FullSpec,
     FullTopDec, FullUnit, FunBind, FunsigBind, Name, SigExp, StrExp, TopDec,

@@ -6,10 +6,11 @@ ghost use Rattle.bare_forms.specs.Patterns.{pat_fields_from};
 ghost use Rattle.bare_forms.specs.Types.{label_of};
 
 use crate::node::{case_exp, long_exp, long_pat, one_rule, unit_exp};
-use bare_forms::held::{both, only, pushed, with};
+use bare_forms::held::{only, pushed, with};
 use bare_forms::name::{label, long_of_name, place};
 use bare_forms::placed::{BareClause, PlacedPat};
 use cm_base::{List, NoMemory, Text};
+use sml_trees::held::both;
 use sml_trees::{At, Exp, ExpField, Pat, PatField, Rule};
 use std::alloc::Global;
 

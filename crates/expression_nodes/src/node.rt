@@ -8,12 +8,13 @@ ghost use Rattle.bare_forms.specs.Runs as runs;
 ghost use Rattle.bare_forms.specs.Runs.{applied_to};
 ghost use Rattle.sml_trees.specs.declared.exp.Exp.TheVariants as bare;
 
-use bare_forms::held::{both, boxed_beside, boxed_two, one, pushed, two};
+use bare_forms::held::{boxed_beside, boxed_two, one, pushed, two};
 use bare_forms::joined::{app_exp, pair_exp};
 use bare_forms::name::{copy_long, label, long_of_text};
 use bare_forms::placed::PlacedExp;
 use bare_forms::run::{Infix, bind_all};
 use cm_base::{Boxed, List, NoMemory};
+use sml_trees::held::both;
 use sml_trees::{At, Constant, Dec, Exp, ExpField, LongName, Pat, Rule, Ty};
 use std::alloc::Global;
 

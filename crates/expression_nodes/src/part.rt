@@ -5,10 +5,11 @@ ghost use Rattle.bare_forms.specs.Expressions as spec;
 ghost use Rattle.sml_trees.specs.declared.exp.Dec.TheVariants as dec;
 ghost use Rattle.sml_trees.specs.declared.exp.StrExp.TheVariants as str;
 
-use bare_forms::held::{both, boxed_beside, boxed_two, one, with};
+use bare_forms::held::{boxed_beside, boxed_two, one, with};
 use bare_forms::name::{copy_long, copy_longs, copy_name, copy_names};
 use bare_forms::placed::CountedRule;
 use cm_base::{Boxed, List, NoMemory};
+use sml_trees::held::both;
 use sml_trees::{At, Dec, LongName, Name, Rule, SigExp, StrBind, StrExp};
 use std::alloc::Global;
 

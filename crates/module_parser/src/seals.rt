@@ -14,10 +14,11 @@ use phrase_reading::binders::marked;
 use phrase_reading::lexeme;
 use phrase_reading::lexemes::Lexemes;
 use phrase_reading::stop::Stop;
-use phrase_reading::tall::{Tall, both, boxed_first, one_above};
+use phrase_reading::tall::{Tall, boxed_first, one_above};
 use signature_parser::joined::{Joined, alone};
 use signature_parser::sig_exps::sig;
 use sml_lexer::{Lexeme, Word};
+use sml_trees::held::both;
 use sml_trees::{At, FullSeal, FullSigExp, FullStrExp};
 use std::alloc::Global;
 

@@ -20,10 +20,11 @@ use infix_names::fixity::Fixities;
 use phrase_reading::lexeme;
 use phrase_reading::lexemes::Lexemes;
 use phrase_reading::stop::Stop;
-use phrase_reading::tall::{Tall, both, more, one_above};
+use phrase_reading::tall::{Tall, more, one_above};
 use signature_parser::joined::{Joined, alone, joined_more, joined_one, next_name};
 use signature_parser::names::module_name;
 use sml_lexer::{Lexeme, Word};
+use sml_trees::held::both;
 use sml_trees::{At, FullStrBind, FullStrDec};
 use std::alloc::Global;
 

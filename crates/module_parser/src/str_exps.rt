@@ -21,10 +21,11 @@ use phrase_reading::binders::single;
 use phrase_reading::lexeme;
 use phrase_reading::lexemes::Lexemes;
 use phrase_reading::stop::Stop;
-use phrase_reading::tall::{Tall, both, boxed, boxed_first, one_above};
+use phrase_reading::tall::{Tall, boxed, boxed_first, one_above};
 use signature_parser::joined::{Joined, alone, apart};
 use signature_parser::names::module_name_of;
 use sml_lexer::{Lexeme, Word};
+use sml_trees::held::both;
 use sml_trees::{At, FullStrBind, FullStrExp, LongName, Name};
 use std::alloc::Global;
 

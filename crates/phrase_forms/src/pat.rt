@@ -9,12 +9,13 @@ ghost use Rattle.bare_forms.specs.Runs.{applied_to, run_of};
 ghost use Rattle.sml_trees.specs.declared.pat.Pat.TheVariants as bare;
 
 use crate::ty::{to_optional_ty, to_ty};
-use bare_forms::held::{both, boxed_beside, pushed, with};
+use bare_forms::held::{boxed_beside, pushed, with};
 use bare_forms::joined::pair_pat;
 use bare_forms::name::{copy_long, copy_name, label, long_of_name, long_of_text, place};
 use bare_forms::placed::PlacedPat;
 use bare_forms::run::{bind_all, operator_of};
 use cm_base::{List, NoMemory};
+use sml_trees::held::both;
 use sml_trees::{At, Constant, FullPat, FullPatField, FullPatItem, FullTy, Name, Pat, PatField};
 use std::alloc::Global;
 

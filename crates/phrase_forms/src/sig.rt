@@ -9,9 +9,10 @@ ghost use Rattle.sml_trees.specs.declared.sig_exp.Spec.TheVariants as bare_spec;
 
 use crate::bare::{Full, to_list};
 use crate::ty::to_ty;
-use bare_forms::held::{appended, both, boxed_beside, one, with};
+use bare_forms::held::{appended, boxed_beside, one, with};
 use bare_forms::name::{copy_long, copy_name, copy_names, long_of_name, place};
 use cm_base::{Boxed, List, NoMemory};
+use sml_trees::held::both;
 use sml_trees::{
     At, FullSigBind, FullSigExp, FullSpec, FullTypDesc, FullWhere, LongName, Name, SigBind, SigExp,
     Spec, Ty, TypDesc,

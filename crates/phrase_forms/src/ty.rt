@@ -5,9 +5,10 @@ ghost use Rattle.std.specs.Option.{option_map};
 ghost use Rattle.bare_forms.specs.Types.{ty_fields_from, bare_ty, bare_ty_field};
 ghost use Rattle.sml_trees.specs.declared.ty.Ty.TheVariants as bare;
 
-use bare_forms::held::{both, boxed_two, one, with};
+use bare_forms::held::{boxed_two, one, with};
 use bare_forms::name::{copy_long, copy_name, label};
 use cm_base::{List, NoMemory};
+use sml_trees::held::both;
 use sml_trees::{At, FullTy, FullTyField, LongName, Ty, TyField};
 use std::alloc::Global;
 

@@ -1,6 +1,6 @@
 //! Trees with their height.
 
-ghost use Rattle.std.specs.Prelude.{◌≡◌, ◌+◌, ◌<◌, ◌≤◌, Ok, Err, IfOk, MatchResult};
+ghost use Rattle.std.specs.Prelude.{◌≡◌, ◌+◌, ◌<◌, ◌≤◌, IfOk, MatchResult};
 ghost use Rattle.phrase_reading.specs.Sized.{one, more};
 
 use crate::stop::Stop;
@@ -95,17 +95,6 @@ pub fn one_above<T: Drop>(tree: T, height: u32) -> Result<Tall<T>, NoMemory>
     match height.checked_add(1) {
         Some(height) => Ok(Tall { tree, height }),
         None => Err(NoMemory),
-    }
-}
-
-/// What was made first beside what was to be made after it, or why that wasn't made.
-pub fn both<A: Drop, B, E>(first: A, second: Result<B, E>) -> Result<(A, B), E>
-    ensures first { IfOk result (λ pair. pair.0 ≡ first) }
-    ensures second { MatchResult result (λ pair. second ≡ Ok pair.1) (λ why. second ≡ Err why) }
-{
-    match second {
-        Ok(found) => Ok((first, found)),
-        Err(why) => Err(why),
     }
 }
 

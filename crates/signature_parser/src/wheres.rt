@@ -12,8 +12,9 @@ use crate::where_types::where_types;
 use cm_base::{List, NoMemory};
 use phrase_reading::lexemes::Lexemes;
 use phrase_reading::stop::Stop;
-use phrase_reading::tall::{Tall, both, boxed_first, one_above};
+use phrase_reading::tall::{Tall, boxed_first, one_above};
 use sml_lexer::Word;
+use sml_trees::held::both;
 use sml_trees::{At, FullSigExp, FullWhere};
 use std::alloc::Global;
 

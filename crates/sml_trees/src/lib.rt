@@ -1,4 +1,5 @@
-//! The trees of Standard ML: bare, as a unit is elaborated, and as they are written.
+//! The trees of Standard ML: bare, as a unit is elaborated, and as they are written; and what holds one while another
+//! is made.
 #![tactic(auto)]
 
 mod exp;
@@ -8,6 +9,7 @@ mod full_sig;
 mod full_str;
 mod full_ty;
 mod full_unit;
+pub mod held;
 mod name;
 mod pat;
 mod sig_exp;
