@@ -69,7 +69,7 @@ fn read(graph: &mut EnvGraph, home: &Text, bytes: &[u8]) -> Result<TopId, Restor
 }
 
 /// The unit that bytes are the interface of, where `home` is its name: they are refused exactly where they are none.
-/// More than 2^32 bytes are refused as want of memory is.
+/// 2^32 bytes or more are refused as want of memory is.
 pub fn restore(graph: &mut EnvGraph, home: &Text, bytes: &[u8]) -> Result<TopId, RestoreFault>
     ensures restores { Restores home.now bytes.now graph.old graph.new result }
     ensures extends { Extends graph.old graph.new }

@@ -68,7 +68,7 @@ fn defined_in(
 /// What is given is to have names of the unit below the next number alone, and so has what stands for variables of the
 /// table; its tables are to rise, and no type variable may stand in it. The call looks itself, at each node once, and
 /// refuses what isn't so as want of memory is, with nothing changed. The empty top may always be given over a new table
-/// (`basis_laws`). Where no name was made since the last `enter`, the answer hangs on the unit, its name, the options and
+/// (`basis_laws`); a table that has served a unit of the same name before is refused once that unit is entered again. Where no name was made since the last `enter`, the answer hangs on the unit, its name, the options and
 /// what is given alone, whatever else graph and table hold. Where `rec` bindings bind functions, as those of every source
 /// do, what is defined is given by the rules.
 /// The Definition of Standard ML (Revised), rules 50 to 89.

@@ -28,8 +28,8 @@ use Rattle.module_elab.specs.Units.{unit_alone}
 abbrev pub bare_of_source : List ℕ → List ℕ → Result BareUnit Diag
 bare_of_source unit source = parsed_unit unit source >>= bare_unit
 
--- what inference gives. It gives nothing only past 2^64 - 1 levels of a unification, where a compiler wants memory: as
--- no call ever answers that, it may be anything, and is 12 at the unit
+-- what inference gives. Of the unit of a source it gives nothing only past 2^64 - 1 levels of a unification, where a
+-- compiler wants memory: as no call ever answers that, it may be anything, and is 12 at the unit
 abbrev pub inferred_or : List ℕ → Answer (Top × ℕ) → Result Top Diag
 inferred_or unit None = Err (whole_file 12 unit)
 inferred_or unit (Some (Err diag)) = Err diag
