@@ -1,7 +1,6 @@
 -- A plan is an order of its units.
 use Rattle.std.proofs.Common.{◌≡◌, ◌∙◌, sym, ap, refl, subst, ℕ, zero, suc, List, [], ◌∷◌, length, map, slice_get, Option, Some, None, Result, Ok, Err, inl, inr}
 use Rattle.cm_base.specs.Diags.{◌>>=◌}
-use Rattle.cm_base.specs.Files.{Files}
 use Rattle.cm_base.specs.declared.diag.Diag.{Diag}
 use Rattle.cm_base.specs.declared.record.Def.{Def}
 use Rattle.cm_base.specs.declared.record.Skeleton.{Skeleton}
@@ -11,14 +10,14 @@ use Rattle.cm_description.specs.declared.loaded.Unit.{Unit as ProjectUnit}
 use Rattle.cm_description.specs.declared.loaded.UnitBody.{UnitBody}
 use Rattle.visibility.specs.Naming.{names_of}
 use Rattle.visibility.specs.declared.names.Names.{Names}
-use Rattle.dependency_graph.specs.Cycle.{HasNoCycle, IsOrdered}
+use Rattle.dependency_graph.specs.Cycle.{HasNoCycle}
 use Rattle.dependency_graph.specs.Order.{Placed}
 use Rattle.dependency_graph.specs.Ordered.{ordered}
 use Rattle.dependency_graph.proofs.Counting.{Differ, Member}
 use Rattle.order_laws.specs.Laws.{AreUnits}
 use Rattle.order_laws.proofs.Values.{order_is_value, order_without_cycle}
 use Rattle.skeleton_asking.specs.Skeletons.{Answer, Skeletons, answer_over, skeletons_by, skeletons_over, then_skeletons}
-use Rattle.project_planning.specs.Planning.{edges_of, in_order, plan_in, plan_over, plan_with, unit_names, unless_cycle, unless_refused}
+use Rattle.project_planning.specs.Planning.{edges_of, in_order, plan_in, plan_with, unit_names, unless_cycle, unless_refused}
 use Rattle.project_planning.specs.declared.plan.Plan.{Plan}
 use Rattle.project_planning.proofs.Graphs.{edges_are_units, edges_count, units_differ}
 use Rattle.project_planning.proofs.Planned.{order_differs}

@@ -9,7 +9,7 @@ use Rattle.std.proofs.lemmas.Option.{get_or_from_slice_get, slice_get-get_or, sl
 use Rattle.cm_base.specs.declared.record.PlannedUnit.{PlannedUnit}
 use Rattle.cm_base.specs.declared.record.Skeleton.{Skeleton}
 use Rattle.cm_base.specs.declared.record.WantedName.{WantedName}
-use Rattle.cm_description.specs.WellFormed.{AllDiffer, IsWellFormed, StandsAt}
+use Rattle.cm_description.specs.WellFormed.{AllDiffer}
 use Rattle.cm_description.specs.declared.loaded.Project.{Project}
 use Rattle.cm_description.specs.declared.loaded.Unit.{Unit as ProjectUnit}
 use Rattle.cm_description.specs.declared.loaded.UnitBody.{UnitBody}

@@ -1,5 +1,5 @@
 -- What units import are names that their skeletons use, so of short skeletons these names are short.
-use Rattle.std.proofs.Common.{arith, suc, ◌≡◌, subst, refl, ℕ, ◌<◌, ◌≤◌, ◌^◌, Bool, true, false, not, ◌&&◌, ◌||◌, cond, List, [], ◌∷◌, ◌++◌, length, length-append, map, slice_get, Option, Some, None, unwrap_or, Result, Ok, Err}
+use Rattle.std.proofs.Common.{arith, suc, ◌≡◌, subst, refl, ℕ, ◌<◌, ◌≤◌, ◌^◌, Bool, true, false, not, ◌&&◌, ◌||◌, cond, List, [], ◌∷◌, ◌++◌, length, length-append, slice_get, Option, Some, None, unwrap_or, Result, Ok, Err}
 use Rattle.std.specs.Prelude.{All, slice_set}
 use Rattle.std.proofs.lemmas.List.Elements.{All-nil, All-push, All-append, All-head, All-map, All-set, All-tail}
 use Rattle.std.proofs.lemmas.Option.{get_or_from_slice_get, slice_get_within}

@@ -1,18 +1,18 @@
 -- What a compiler gives is short, and so is what a whole binfile has.
-use Rattle.std.proofs.Common.{◌≡◌, ◌∙◌, sym, ap, subst, refl, ℕ, ◌<◌, ◌^◌, Bool, true, false, cond, ◌&&◌, List, [], ◌∷◌, ◌++◌, length, Option, Some, None, arith}
+use Rattle.std.proofs.Common.{◌≡◌, sym, subst, refl, ℕ, ◌<◌, ◌^◌, Bool, true, false, cond, ◌&&◌, List, [], ◌∷◌, ◌++◌, length, Option, Some, None, arith}
 use Rattle.std.specs.Prelude.{nat_eq, All}
 use Rattle.std.specs.List.{list_all, AllByRecursion}
 use Rattle.std.specs.Cmp.Lexicographic.{pointwise}
 use Rattle.std.proofs.lemmas.Bool.{ltb-true}
 use Rattle.std.proofs.lemmas.List.Elements.{All-from_recursion, All-nil, All-push}
-use Rattle.cm_base.specs.Calls.{GivesSmall, IsSmallSkeleton}
+use Rattle.cm_base.specs.Calls.{IsSmallSkeleton}
 use Rattle.cm_base.specs.Files.{Files}
 use Rattle.cm_base.specs.declared.record.Need.{Need}
 use Rattle.cm_base.specs.declared.record.Skeleton.{Skeleton}
 use Rattle.cm_base.specs.declared.record.Spot.{Spot}
 use Rattle.bin_formats.specs.declared.bin.Bin.{Bin}
 use Rattle.bin_formats.specs.Fitting.{fits_bin, fits_import, fits_spot, is_u32}
-use Rattle.bin_formats.specs.Format.{IsBin, IsSpot}
+use Rattle.bin_formats.specs.Format.{IsSpot}
 use Rattle.bin_formats.proofs.FittingLemmas.{bin_passes}
 use Rattle.bin_store.specs.Stored.{stored_bin}
 use Rattle.bin_store.proofs.StoredBins.{bin_is_whole}
