@@ -1,11 +1,13 @@
 //! What a build asks of its project, as tests, and the order of its units.
 
-ghost use Rattle.std.specs.Prelude.{◌≡◌, ℕ, true, ◌<◌, All, IfOk, IfSome, length};
+ghost use Rattle.std.specs.Prelude.{◌≡◌, ℕ, true, ◌<◌, ◌^◌, All, IfOk, IfSome, length};
 ghost use Rattle.std.specs.Cmp.Lexicographic.{slice_cmp};
 ghost use Rattle.std.specs.Ordering.{is_lt, nat_cmp};
 ghost use Rattle.dependency_graph.specs.Order.{AllAreUnits, AllDiffer, name_of};
+ghost use Rattle.skeleton_asking.specs.Short.{IsShortSkeleton};
+ghost use Rattle.cutoff_builder.specs.Small.{AreShortNames};
 
-use cm_base::{List, NoMemory, Text};
+use cm_base::{List, NoMemory, Skeleton, Text};
 use cm_description::Wanted;
 use dependency_graph::{OrderFault, UnitOrder, order};
 use std::alloc::Global;
@@ -109,6 +111,57 @@ pub fn are_below(wanted: &[List<Wanted>], count: usize) -> bool
 {
     for list in wanted {
         if !all_wanted_below(list.as_slice(), count) {
+            return false;
+        }
+    }
+    true
+}
+
+/// Each name is shorter than 2^32 bytes.
+fn all_short(wanted: &[Wanted]) -> bool
+    ensures { result ≡ true → All (λ wanted. length wanted.name.name < 2 ^ 32) wanted.now }
+{
+    for name in wanted {
+        if name.name.name.as_bytes().len() >= 1 << 32 {
+            return false;
+        }
+    }
+    true
+}
+
+/// There are fewer than 2^32 names, and each is shorter.
+fn is_short_list(wanted: &[Wanted]) -> bool
+    ensures { result ≡ true → AreShortNames wanted.now }
+{
+    wanted.len() < 1 << 32 && all_short(wanted)
+}
+
+/// All lists of wanted names are short.
+pub fn are_short(wanted: &[List<Wanted>]) -> bool
+    ensures { result ≡ true → All AreShortNames wanted.now }
+{
+    for list in wanted {
+        if !is_short_list(list.as_slice()) {
+            return false;
+        }
+    }
+    true
+}
+
+/// A skeleton has no name.
+#[tactic(auto, using(crate::proofs::Short::empty_is_short))]
+fn is_empty(skeleton: &Skeleton) -> bool
+    ensures { result ≡ true → IsShortSkeleton skeleton.now }
+{
+    skeleton.defined.is_empty() && skeleton.free.is_empty()
+}
+
+/// No skeleton has a name.
+pub fn are_empty(skeletons: &[Skeleton]) -> bool
+    ensures { result ≡ true → All IsShortSkeleton skeletons.now }
+{
+    for skeleton in skeletons {
+        if !is_empty(skeleton) {
             return false;
         }
     }

@@ -1,9 +1,11 @@
 //! The work of a command, up to its report.
 
-ghost use Rattle.std.specs.Prelude.{◌≡◌, Err, IfOk, None, length};
+ghost use Rattle.std.specs.Prelude.{◌≡◌, All, Err, IfOk, None, length};
 ghost use Rattle.cm_base.specs.Causes.{HasCause};
 ghost use Rattle.cm_base.specs.Files.{Told};
+ghost use Rattle.skeleton_asking.specs.Short.{IsShortSkeleton};
 ghost use Rattle.build_laws.specs.Planned.{NamesDiffer};
+ghost use Rattle.cutoff_builder.specs.Small.{AreShortNames};
 ghost use Rattle.cm_description.specs.WellFormed.{IsWellFormed};
 ghost use Rattle.project_planning.specs.Buildable.{AreProvided, planned_units};
 ghost use Rattle.project_planning.specs.Planning.{plain_plan, plan_over};
@@ -127,6 +129,8 @@ fn build_plan<F: Folder, C: Compiler>(
     requires wanted { length plan.now.wanted ≡ length project.now.units }
     requires providers { AreProvided project.now plan.now.wanted }
     requires apart { NamesDiffer (planned_units project.now plan.now) }
+    requires short { All IsShortSkeleton plan.now.skeletons }
+    requires names { All AreShortNames plan.now.wanted }
     ensures cause { HasCause (F.faults folder.old) (F.faults folder.new) (result ≡ Err WorkFault.Folder) }
     ensures plain { IfOk result (λ report. IsReported report.status) }
     ensures does { IsOutside target.now → Told (F.holds folder.old) (λ files.

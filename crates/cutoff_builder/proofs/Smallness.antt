@@ -1,19 +1,23 @@
--- A unit that passes the test is small; and a build that does nothing.
-use Rattle.std.proofs.Common.{◌≡◌, sym, ap, subst, refl, ℕ, ◌<◌, ◌^◌, Bool, true, false, ◌&&◌, List, [], ◌∷◌, ◌++◌, suc, length, map}
-use Rattle.std.specs.Prelude.{IsTrue, slice_get}
+-- The store's formats can hold the units that a build takes of short ones.
+use Rattle.std.proofs.Common.{◌≡◌, sym, subst, refl, ℕ, zero, suc, ◌<◌, ◌^◌, Bool, true, false, ◌&&◌, List, [], ◌∷◌, ◌++◌, length, map, Option, Some, None, arith}
+use Rattle.std.specs.Prelude.{All, IsTrue, slice_get}
 use Rattle.std.specs.List.{AllByRecursion, list_all}
 use Rattle.std.proofs.lemmas.Bool.{ltb-true}
-use Rattle.std.proofs.lemmas.List.Elements.{All-from_recursion}
-use Rattle.cm_base.specs.declared.record.Options.{Options}
+use Rattle.std.proofs.lemmas.List.{length-map}
+use Rattle.std.proofs.lemmas.List.Elements.{All-head, All-tail}
+use Rattle.std.proofs.lemmas.Option.{get_or_from_slice_get, slice_get_within}
 use Rattle.cm_base.specs.declared.record.Skeleton.{Skeleton}
-use Rattle.cm_base.specs.declared.record.Spot.{Spot}
+use Rattle.cm_description.specs.declared.loaded.Project.{Project}
 use Rattle.cm_description.specs.declared.loaded.Unit.{Unit as ProjectUnit}
+use Rattle.cm_description.specs.declared.loaded.UnitBody.{UnitBody}
+use Rattle.cm_description.specs.declared.loaded.UnitBody.TheVariants as body
 use Rattle.cm_description.specs.declared.loaded.Wanted.{Wanted}
-use Rattle.bin_formats.specs.Fitting.{fits_spot, is_u32}
-use Rattle.bin_formats.specs.Format.{IsSpot}
+use Rattle.dependency_graph.specs.Order.{Placed}
+use Rattle.bin_formats.specs.Fitting.{is_u32}
+use Rattle.skeleton_asking.specs.Short.{IsShortSkeleton}
 use Rattle.build_laws.specs.Storing.{IsShortWanted, IsSmallPlanned}
-use Rattle.cutoff_builder.specs.Planning.{name_in, source_unit, wanted_name}
-use Rattle.cutoff_builder.specs.Small.{is_small, is_small_wanted}
+use Rattle.cutoff_builder.specs.Planning.{name_in, of_body, of_parts, planned_at, planned_in, planned_of, wanted_name}
+use Rattle.cutoff_builder.specs.Small.{AreShortNames, is_short_body, is_short_unit}
 
 both : (a b : Bool) → (a && b) ≡ true → (a ≡ true) × (b ≡ true)
 both true b h = (refl, h)
@@ -22,51 +26,91 @@ both false b h = cc
 below : (n : ℕ) → is_u32 n ≡ true → n < 2 ^ 32
 below n h = ltb-true n (2 ^ 32) h
 
-spot_is : (s : Spot) → fits_spot s ≡ true → IsSpot s
-spot_is s h =
-    let one = both (is_u32 (length s.name.name)) (is_u32 s.line && is_u32 s.col) h in
-    let two = both (is_u32 s.line) (is_u32 s.col) one.1 in
-    record { name = below (length s.name.name) one.0; line = below s.line two.0; col = below s.col two.1 }
+-- ---- what stands at a place
 
-each_is : {A : Type 0} (p : A → Bool) (P : A → Type 0) (xs : List A) → ((x : A) → p x ≡ true → P x) → list_all p xs ≡ true
-    → AllByRecursion P xs
-each_is p P [] so h = tt
-each_is p P (x ∷ xs) so h = let two = both (p x) (list_all p xs) h in (so x two.0, each_is p P xs so two.1)
+unit_passes : (units : List ProjectUnit) (i : ℕ) (unit : ProjectUnit) → list_all is_short_unit units ≡ true
+    → slice_get units i ≡ Some unit → is_short_unit unit ≡ true
+unit_passes [] i unit all is = cc
+unit_passes (u ∷ us) zero unit all is =
+    let same : u ≡ unit = cc in
+    subst (λ (v : ProjectUnit). is_short_unit v ≡ true) same (both (is_short_unit u) (list_all is_short_unit us) all).0
+unit_passes (u ∷ us) (suc i) unit all is =
+    unit_passes us i unit (both (is_short_unit u) (list_all is_short_unit us) all).1 is
 
-wanted_are : (units : List ProjectUnit) (ws : List Wanted) → list_all (is_small_wanted units) ws ≡ true
-    → AllByRecursion IsShortWanted (map (wanted_name units) ws)
-wanted_are units [] h = tt
-wanted_are units (w ∷ ws) h =
-    let two = both (is_small_wanted units w) (list_all (is_small_wanted units) ws) h in
-    let parts = both (is_u32 (length w.name.name)) (is_u32 (length (name_in (slice_get units w.provider)))) two.0 in (
-      record { name = below (length w.name.name) parts.0; provider = below (length (name_in (slice_get units w.provider))) parts.1 },
-      wanted_are units ws two.1,
-    )
+item_of : {A : Type 0} (P : A → Type 0) (xs : List A) (i : ℕ) (x : A) → All P xs → slice_get xs i ≡ Some x → P x
+item_of P xs i x all is = subst P (get_or_from_slice_get xs i x x is) (all i x (slice_get_within xs i x is))
 
-length_map : {A B : Type 0} (f : A → B) (xs : List A) → length (map f xs) ≡ length xs
-length_map f [] = refl
-length_map f (x ∷ xs) = ap (λ n. suc n) (length_map f xs)
+name_is : (units : List ProjectUnit) (i : ℕ) (o : Option ProjectUnit) → list_all is_short_unit units ≡ true
+    → slice_get units i ≡ o → length (name_in o) < 2 ^ 32
+name_is units i None all is = omega arith
+name_is units i (Some unit) all is =
+    below (length unit.name)
+    (both (is_u32 (length unit.name)) (is_short_body unit.body) (unit_passes units i unit all is)).0
 
-pub small_planned : (units : List ProjectUnit) (name : List ℕ) (options : Options) (source : List ℕ) (skeleton : Skeleton)
-    (wanted : List Wanted) (b : Bool) → b ≡ is_small units name source skeleton wanted → IsTrue b
-    → IsSmallPlanned (source_unit units name options source skeleton wanted)
-unfolding is_small
-small_planned units name options source skeleton wanted false is holds = cc
-small_planned units name options source skeleton wanted true is holds =
-    let a = both _ _ (sym is) in let b = both _ _ a.1 in let d = both _ _ b.1 in let e = both _ _ d.1 in
-    let f = both _ _ e.1 in let i = both _ _ f.1 in let j = both _ _ i.1 in
-    record {
-      unit = below (length name) a.0;
-      source = below (length source) b.0;
-      defined = below (length skeleton.defined) d.0;
-      each_defined = All-from_recursion IsSpot skeleton.defined (each_is fits_spot IsSpot skeleton.defined spot_is e.0);
-      free = below (length skeleton.free) f.0;
-      each_free = All-from_recursion (λ need. IsSpot need.spot) skeleton.free
-          (each_is (λ need. fits_spot need.spot) (λ need. IsSpot need.spot) skeleton.free (λ need h. spot_is need.spot h) i.0);
-      wanted = subst (λ n. n < 2 ^ 32) (sym (length_map (wanted_name units) wanted)) (below (length wanted) j.0);
-      each_wanted = wanted_are units wanted j.1;
-    }
+-- ---- a unit that a build takes
 
-pub all_append : {A : Type 0} (P : A → Type 0) (xs ys : List A) → AllByRecursion P xs → AllByRecursion P ys → AllByRecursion P (xs ++ ys)
+wanted_are : (units : List ProjectUnit) (ws : List Wanted) → list_all is_short_unit units ≡ true
+    → All (λ (w : Wanted). length w.name.name < 2 ^ 32) ws → AllByRecursion IsShortWanted (map (wanted_name units) ws)
+wanted_are units [] all each = tt
+wanted_are units (w ∷ ws) all each = (
+  record {
+    name = All-head (λ (w : Wanted). length w.name.name < 2 ^ 32) w ws each;
+    provider = name_is units w.provider (slice_get units w.provider) all refl;
+  },
+  wanted_are units ws all (All-tail (λ (w : Wanted). length w.name.name < 2 ^ 32) w ws each),
+)
+
+body_small : (units : List ProjectUnit) (name : List ℕ) (b : UnitBody) (skeleton : Skeleton) (wanted : List Wanted)
+    → list_all is_short_unit units ≡ true → length name < 2 ^ 32 → is_short_body b ≡ true → IsShortSkeleton skeleton
+    → AreShortNames wanted → AllByRecursion IsSmallPlanned (of_body units name b skeleton wanted)
+body_small units name (body.Source options source) skeleton wanted all named short small names = (
+  record {
+    unit = named;
+    source = below (length source) short;
+    defined = small.defined;
+    each_defined = small.each_defined;
+    free = small.free;
+    each_free = small.each_free;
+    wanted = subst (λ n. n < 2 ^ 32) (sym (length-map wanted (wanted_name units))) names.count;
+    each_wanted = wanted_are units wanted all names.each;
+  },
+  tt,
+)
+body_small units name (body.Frozen imports interface code) skeleton wanted all named short small names = tt
+
+parts_small : (units : List ProjectUnit) (skeletons : List Skeleton) (wanted : List (List Wanted)) (number : ℕ)
+    (o : Option ProjectUnit) (s : Option Skeleton) (w : Option (List Wanted)) → list_all is_short_unit units ≡ true
+    → All IsShortSkeleton skeletons → All AreShortNames wanted → slice_get units number ≡ o
+    → slice_get skeletons number ≡ s → slice_get wanted number ≡ w
+    → AllByRecursion IsSmallPlanned (of_parts units o s w)
+parts_small units skeletons wanted number (Some unit) (Some skeleton) (Some names) all short each here with these =
+    let two = both (is_u32 (length unit.name)) (is_short_body unit.body) (unit_passes units number unit all here) in
+    body_small units unit.name unit.body skeleton names all (below (length unit.name) two.0) two.1
+    (item_of IsShortSkeleton skeletons number skeleton short with)
+    (item_of AreShortNames wanted number names each these)
+parts_small units skeletons wanted number (Some unit) (Some skeleton) None all short each here with these = tt
+parts_small units skeletons wanted number (Some unit) None w all short each here with these = tt
+parts_small units skeletons wanted number None s w all short each here with these = tt
+
+-- ---- all of them
+
+all_append : {A : Type 0} (P : A → Type 0) (xs ys : List A) → AllByRecursion P xs → AllByRecursion P ys
+    → AllByRecursion P (xs ++ ys)
 all_append P [] ys all more = more
 all_append P (x ∷ xs) ys all more = (all.0, all_append P xs ys all.1 more)
+
+each_small : (p : Project) (skeletons : List Skeleton) (wanted : List (List Wanted)) (numbers : List ℕ)
+    → list_all is_short_unit p.units ≡ true → All IsShortSkeleton skeletons → All AreShortNames wanted
+    → AllByRecursion IsSmallPlanned (planned_in p skeletons wanted numbers)
+each_small p skeletons wanted [] all short each = tt
+each_small p skeletons wanted (number ∷ more) all short each =
+    all_append IsSmallPlanned (planned_at p skeletons wanted number) (planned_in p skeletons wanted more)
+    (parts_small p.units skeletons wanted number (slice_get p.units number) (slice_get skeletons number)
+    (slice_get wanted number) all short each refl refl refl)
+    (each_small p skeletons wanted more all short each)
+
+pub all_small : (p : Project) (skeletons : List Skeleton) (wanted : List (List Wanted)) (order : List Placed)
+    → IsTrue (list_all is_short_unit p.units) → All IsShortSkeleton skeletons → All AreShortNames wanted
+    → AllByRecursion IsSmallPlanned (planned_of p skeletons wanted order)
+all_small p skeletons wanted order all short each =
+    each_small p skeletons wanted (map (λ (placed : Placed). placed.unit) order) all short each

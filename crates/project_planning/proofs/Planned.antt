@@ -30,7 +30,7 @@ all_append : {A : Type 0} (P : A → Type 0) (xs ys : List A) → AllByRecursion
 all_append P [] ys first second = second
 all_append P (x ∷ xs) ys first second = (first.0, all_append P xs ys first.1 second)
 
-to_member : (xs : List ℕ) (x : ℕ) → Contains xs x → Member xs x
+pub to_member : (xs : List ℕ) (x : ℕ) → Contains xs x → Member xs x
 to_member [] x c = none_in x c
 to_member (y ∷ ys) x c = elim (member_cases y ys x c) [ inl same ↦ inl same | inr more ↦ inr (to_member ys x more) ]
 
@@ -56,7 +56,7 @@ parts_other units number m name (Some unit) (Some skeleton) None differ here oth
 parts_other units number m name (Some unit) None w differ here other is = tt
 parts_other units number m name None s w differ here other is = tt
 
-others : (p : Project) (skeletons : List Skeleton) (wanted : List (List Wanted)) (number : ℕ) (name : List ℕ)
+pub others : (p : Project) (skeletons : List Skeleton) (wanted : List (List Wanted)) (number : ℕ) (name : List ℕ)
     (numbers : List ℕ) → AllDiffer (unit_names p) → StandsAt (unit_names p) number name → (Member numbers number → ⊥)
     → AllByRecursion (λ (q : PlannedUnit). q.unit ≢ name) (planned_in p skeletons wanted numbers)
 others p skeletons wanted number name [] differ here away = tt
@@ -96,7 +96,7 @@ in_differ p skeletons wanted (number ∷ more) differ once =
     (in_differ p skeletons wanted more differ once.1)
 
 -- an order has each unit once
-order_differs : (names edges : List (List ℕ)) (order : List Placed) → IsOrder names edges order
+pub order_differs : (names edges : List (List ℕ)) (order : List Placed) → IsOrder names edges order
     → Differ (map (λ (placed : Placed). placed.unit) order)
 order_differs names edges order whole =
     let numbers = map (λ (placed : Placed). placed.unit) order in

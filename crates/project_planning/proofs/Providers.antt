@@ -129,7 +129,7 @@ behind_below n p below defining among name first all =
 -- ---- steps
 
 -- what follows on a step was reached by it
-then_step : {A B : Type 0} (r : Result A Diag) (next : A → Result B Diag) (last : B) (P : Type 0)
+pub then_step : {A B : Type 0} (r : Result A Diag) (next : A → Result B Diag) (last : B) (P : Type 0)
     → ((x : A) → r ≡ Ok x → next x ≡ Ok last → P) → (r >>= next) ≡ Ok last → P
 then_step (Ok x) next last P each is = each x refl is
 then_step (Err diag) next last P each is = cc

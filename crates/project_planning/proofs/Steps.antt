@@ -1,6 +1,6 @@
 -- The steps of a plan: what each refusal and each answer makes of it.
 use Rattle.std.proofs.Common.{◌≡◌, ◌∙◌, sym, ap, refl, subst, ℕ, List, None}
-use Rattle.std.specs.Prelude.{Result, Ok, Err, IsErrAnd}
+use Rattle.std.specs.Prelude.{All, Result, Ok, Err, IsErrAnd}
 use Rattle.cm_base.specs.Calls.{Gives}
 use Rattle.cm_base.specs.Definitions.{Definitions}
 use Rattle.cm_base.specs.Diags.{◌>>=◌}
@@ -17,17 +17,21 @@ use Rattle.dependency_graph.specs.Order.{Placed}
 use Rattle.bin_store.specs.GoodStore.{IsGoodStore}
 use Rattle.skeleton_asking.specs.Answers.{FindsAll}
 use Rattle.skeleton_asking.specs.Faults.{of_fault}
+use Rattle.skeleton_asking.specs.Short.{IsShortSkeleton}
 use Rattle.skeleton_asking.specs.Skeletons.{Skeletons, plain_over, skeletons_over}
 use Rattle.skeleton_asking.specs.declared.fault.PlanFault.{PlanFault}
 use Rattle.skeleton_asking.specs.declared.fault.PlanFault.TheVariants as plan_fault
 use Rattle.skeleton_asking.proofs.StoredSkeletons.{stored_same}
 use Rattle.visibility.specs.Naming.{names_of}
 use Rattle.visibility.specs.declared.names.Names.{Names}
+use Rattle.cutoff_builder.specs.Small.{AreShortNames}
 use Rattle.project_planning.specs.Buildable.{planned_units}
 use Rattle.project_planning.specs.Answers.{Plans}
 use Rattle.project_planning.specs.Planning.{edges_of, in_order, plain_plan, plan_in, plan_over, plan_with, planning_after, unit_names, unless_refused}
 use Rattle.project_planning.specs.declared.plan.Plan.{Plan}
 use Rattle.project_planning.proofs.Planned.{planned_have}
+use Rattle.project_planning.proofs.Providers.{then_step}
+use Rattle.project_planning.proofs.ShortImports.{names_short}
 
 -- what holds of a fault holds of the answer that passes it on
 pub passed : {A E : Type 0} (r : Result A E) (e : E) (P : Result A E → Type 0) → IsErrAnd r (λ y. y ≡ e)
@@ -53,6 +57,18 @@ pub order_refused : (p : Project) (skeletons : List Skeleton) (defs : List Def) 
 order_refused p skeletons defs names (fault.Diag diag) found is =
     ap (λ r. r >>= ordered_next p skeletons) found ∙ ap (λ r. r >>= (λ order. Ok (plan_in skeletons names order))) is
 order_refused p skeletons defs names fault.NoMemory found is = tt
+
+-- of short skeletons the imports of a plan are short
+pub plan_short : (p : Project) (skeletons : List Skeleton) (defs : List Def) (plan : Plan)
+    → All IsShortSkeleton skeletons → plan_with p defs skeletons ≡ Ok plan → All AreShortNames plan.wanted
+plan_short p skeletons defs plan short is =
+    then_step (names_of p skeletons defs) (ordered_next p skeletons) plan (All AreShortNames plan.wanted)
+    (λ names found rest.
+    then_step (in_order (unit_names p) (edges_of names.wanted)) (λ order. Ok (plan_in skeletons names order)) plan
+    (All AreShortNames plan.wanted)
+    (λ order gives last.
+    let same : plan_in skeletons names order ≡ plan = cc in
+    subst (λ (q : Plan). All AreShortNames q.wanted) same (names_short p skeletons defs names short found)) rest) is
 
 pub plan_found : (p : Project) (skeletons : List Skeleton) (defs : List Def) (names : Names) (order : List Placed)
     → names_of p skeletons defs ≡ Ok names → in_order (unit_names p) (edges_of names.wanted) ≡ Ok order

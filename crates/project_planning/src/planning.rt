@@ -1,12 +1,14 @@
 //! A project is planned: its skeletons and its names are found, and its units ordered.
 
-ghost use Rattle.std.specs.Prelude.{◌≡◌, ℕ, Err, IfOk, List, length};
+ghost use Rattle.std.specs.Prelude.{◌≡◌, ℕ, All, Err, IfOk, List, length};
 ghost use Rattle.bin_store.specs.GoodStore.{IsGoodStore};
 ghost use Rattle.cm_base.specs.Calls.{Gives};
 ghost use Rattle.cm_base.specs.Causes.{HasCause};
 ghost use Rattle.cm_base.specs.Files.{Told};
 ghost use Rattle.cm_description.specs.WellFormed.{IsWellFormed};
+ghost use Rattle.skeleton_asking.specs.Short.{IsShortSkeleton};
 ghost use Rattle.build_laws.specs.Planned.{HaveSkeletons, NamesDiffer};
+ghost use Rattle.cutoff_builder.specs.Small.{AreShortNames};
 ghost use Rattle.project_planning.specs.Answers.{Plans};
 ghost use Rattle.project_planning.specs.Buildable.{AreProvided, planned_units};
 ghost use Rattle.project_planning.specs.Planning.{plain_plan, plan_over, plan_with};
@@ -21,7 +23,7 @@ use visibility::all_names;
 
 /// The plan of a project whose units have these skeletons, or the first refusal: of names, group by group in the order
 /// in which their loading ended (22, 3, 4, 25, 23, 24), and then of a cycle of units (26). 2^32 units are want of
-/// memory.
+/// memory. Each unit has a skeleton.
 #[tactic(auto, using(crate::proofs::Providers::names_counted, crate::proofs::Providers::names_provided, crate::proofs::Graphs::order_count, crate::proofs::Planned::planned_differ))]
 pub fn plan_with(
     alloc: Global,
@@ -30,6 +32,7 @@ pub fn plan_with(
     defs: &List<Def>,
 ) -> Result<Plan, Fault>
     requires formed { IsWellFormed project.now }
+    requires counted { length skeletons ≡ length project.now.units }
     ensures gives { Gives result (plan_with project.now defs.now skeletons) }
     ensures skeletons { IfOk result (λ plan. plan.skeletons ≡ skeletons) }
     ensures order { IfOk result (λ plan. length plan.order ≡ length project.now.units) }
@@ -53,8 +56,9 @@ pub fn plan_with(
 /// order, and for none after a refused one. 2^32 units are want of memory. No file changes.
 ///
 /// It is the plan over the store as it stands, whoever wrote it. From a good store it is the compiler's plan. A build
-/// takes it as it is: its lists have an entry for each unit, providers are units, and the units that it names in order
-/// have names that differ, and from a good store the compiler's skeletons.
+/// takes it as it is: its lists have an entry for each unit, the store's formats can hold its skeletons and its
+/// imports, providers are units, and the units that it names in order have names that differ, and from a good store the
+/// compiler's skeletons.
 pub fn make_plan<F: Folder, C: Compiler>(
     alloc: Global,
     folder: &mut F,
@@ -79,6 +83,8 @@ pub fn make_plan<F: Folder, C: Compiler>(
     ensures apart { IfOk result (λ plan. NamesDiffer (planned_units project.now plan)) }
     ensures lawful { Told (F.holds folder.old) (λ files. (known : List (List ℕ)) → IsGoodStore C.defines known files
         → IfOk result (λ plan. HaveSkeletons C.defines.skel (planned_units project.now plan))) }
+    ensures short { IfOk result (λ plan. All IsShortSkeleton plan.skeletons) }
+    ensures names { IfOk result (λ plan. All AreShortNames plan.wanted) }
 {
     let skeletons = find_skeletons(alloc, folder, compiler, project)?;
     let plan = plan_with(alloc, project, skeletons, defs)?;

@@ -1,9 +1,10 @@
 //! The skeletons of a project's units are found in load order: in binfiles, else by asking the compiler.
 
-ghost use Rattle.std.specs.Prelude.{◌≡◌, ◌≢◌, Err, IfOk, length};
+ghost use Rattle.std.specs.Prelude.{◌≡◌, ◌≢◌, All, Err, IfOk, length};
 ghost use Rattle.cm_base.specs.Causes.{HasCause};
 ghost use Rattle.cm_base.specs.Files.{Told};
 ghost use Rattle.skeleton_asking.specs.Answers.{FindsAll, FindsOne};
+ghost use Rattle.skeleton_asking.specs.Short.{IsShortSkeleton};
 ghost use Rattle.skeleton_asking.specs.Skeletons.{answer_over, ask_for, empty_skeleton, skeletons_over, stored_skeleton, unless_stored};
 
 use crate::fault::PlanFault;
@@ -13,8 +14,10 @@ use cm_description::{Project, Unit, UnitBody};
 use std::alloc::Global;
 
 /// A skeleton without names.
+#[tactic(auto, using(crate::proofs::Shortness::empty_is_short))]
 fn empty_skeleton(alloc: Global) -> Skeleton
-    ensures { result ≡ empty_skeleton }
+    ensures is { result ≡ empty_skeleton }
+    ensures short { IsShortSkeleton result }
 {
     Skeleton {
         defined: List::new(alloc),
@@ -23,6 +26,7 @@ fn empty_skeleton(alloc: Global) -> Skeleton
 }
 
 /// Asks the compiler for the skeleton of a source.
+#[tactic(auto, using(crate::proofs::Shortness::small_is_short))]
 fn ask_skeleton<C: Compiler>(
     alloc: Global,
     compiler: &mut C,
@@ -33,6 +37,7 @@ fn ask_skeleton<C: Compiler>(
         (C.asked_skeletons compiler.new) }
     ensures folder { result ≢ Err PlanFault.Folder }
     ensures same { C.asked compiler.new ≡ C.asked compiler.old }
+    ensures short { IfOk result IsShortSkeleton }
 {
     match compiler.skeleton(alloc, name, source) {
         Ok(skeleton) => Ok(skeleton),
@@ -55,6 +60,7 @@ fn source_skeleton<F: Folder, C: Compiler>(
         (unless_stored (stored_skeleton files name.now source.now) (ask_for C.defines.skel name.now source.now))
         (C.asked_skeletons compiler.old) (C.asked_skeletons compiler.new)) }
     ensures same { C.asked compiler.new ≡ C.asked compiler.old }
+    ensures short { IfOk result IsShortSkeleton }
 {
     match get_skeleton(alloc, folder, name, source)? {
         Some(skeleton) => Ok(skeleton),
@@ -75,6 +81,7 @@ fn skeleton_of<F: Folder, C: Compiler>(
         (answer_over C.defines.skel files unit.now.name unit.now.body)
         (C.asked_skeletons compiler.old) (C.asked_skeletons compiler.new)) }
     ensures same { C.asked compiler.new ≡ C.asked compiler.old }
+    ensures short { IfOk result IsShortSkeleton }
 {
     match &unit.body {
         UnitBody::Source { options: _, source } => {
@@ -93,7 +100,8 @@ fn skeleton_of<F: Folder, C: Compiler>(
 /// asked for it, and for none behind one that it refuses. A frozen unit has an empty one.
 ///
 /// It does so over any store; over a good one these are the skeletons that the compiler gives. No file changes, and no
-/// unit is compiled. After a fault a front of what is to be asked for was asked.
+/// unit is compiled. After a fault a front of what is to be asked for was asked. The store's formats can hold each of
+/// them.
 pub fn find_skeletons<F: Folder, C: Compiler>(
     alloc: Global,
     folder: &mut F,
@@ -107,6 +115,7 @@ pub fn find_skeletons<F: Folder, C: Compiler>(
         (C.asked_skeletons compiler.old) (C.asked_skeletons compiler.new)) }
     ensures same { C.asked compiler.new ≡ C.asked compiler.old }
     ensures count { IfOk result (λ skeletons. length skeletons ≡ length project.now.units) }
+    ensures short { IfOk result (λ skeletons. All IsShortSkeleton skeletons) }
 {
     let mut skeletons = List::new(alloc);
     for unit in project.units.as_slice() {

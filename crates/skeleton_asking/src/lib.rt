@@ -5,6 +5,7 @@
 mod asking;
 mod fault;
 pub mod laws;
+mod short;
 mod stored;
 
 pub use asking::find_skeletons;

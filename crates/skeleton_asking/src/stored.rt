@@ -1,10 +1,12 @@
 //! A skeleton is taken out of a binfile.
 
-ghost use Rattle.std.specs.Prelude.{◌≡◌, Err, IfOk};
+ghost use Rattle.std.specs.Prelude.{◌≡◌, Err, IfOk, IfSome};
 ghost use Rattle.cm_base.specs.Causes.{HasCause};
 ghost use Rattle.cm_base.specs.Files.{Told};
+ghost use Rattle.skeleton_asking.specs.Short.{IsShortSkeleton};
 ghost use Rattle.skeleton_asking.specs.Skeletons.{skeleton_of_source, stored_skeleton};
 
+use crate::short::if_short;
 use bin_store::{Bin, StoreFault, get_bin};
 use cm_base::{Folder, Skeleton, Text};
 use std::alloc::Global;
@@ -26,8 +28,9 @@ fn skeleton_of_source(source: &Text, found: Option<Bin>) -> Option<Skeleton>
 }
 
 /// The skeleton of a source as the store has it: that of the unit's whole binfile, where this was made of the same
-/// whole source. Its options, its imports and its interface don't matter: a skeleton is one of the source alone.
-#[tactic(auto, unfolding(crate::specs::Skeletons::stored_skeleton))]
+/// whole source. Its options, its imports and its interface don't matter: a skeleton is one of the source alone. It is
+/// short, as all that a whole binfile has.
+#[tactic(auto, unfolding(crate::specs::Skeletons::stored_skeleton), using(crate::proofs::Shortness::stored_kept))]
 pub fn get_skeleton<F: Folder>(
     alloc: Global,
     folder: &mut F,
@@ -38,7 +41,8 @@ pub fn get_skeleton<F: Folder>(
     ensures holds { F.holds folder.new ≡ F.holds folder.old }
     ensures found { Told (F.holds folder.old) (λ files. IfOk result (λ found. found
         ≡ stored_skeleton files unit.now source.now)) }
+    ensures short { IfOk result (λ found. IfSome found IsShortSkeleton) }
 {
     let found = get_bin(alloc, folder, unit)?;
-    Ok(skeleton_of_source(source, found))
+    Ok(if_short(skeleton_of_source(source, found)))
 }

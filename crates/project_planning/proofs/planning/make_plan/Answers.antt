@@ -1,9 +1,11 @@
-use Rattle.std.specs.Prelude.{Ok, Err}
+use Rattle.std.proofs.Common.{subst, sym}
+use Rattle.std.specs.Prelude.{All, Ok, Err}
 use Rattle.skeleton_asking.specs.Faults.{of_fault}
+use Rattle.skeleton_asking.specs.Short.{IsShortSkeleton}
 use Rattle.skeleton_asking.specs.Skeletons.{plain_over, skeletons_over}
 use Rattle.project_planning.specs.Answers.{Plans}
 use Rattle.project_planning.specs.Planning.{plain_plan, plan_over}
-use Rattle.project_planning.proofs.Steps.{found_plain, passed, planned, planned_lawful, refused, unplanned}
+use Rattle.project_planning.proofs.Steps.{found_plain, passed, plan_short, planned, planned_lawful, refused, unplanned}
 use Rattle.project_planning.proofs.planning.make_plan.Goals as goal
 
 pub returns-in_err-skeletons-clause-plans : goal.returns-in_err-skeletons-clause-plans
@@ -76,3 +78,12 @@ returns-clause-lawful g c = λ files is known good.
     planned_lawful c.args.project.now c.in_ok-skeletons.skeletons c.in_ok-plan.plan
     (g.C.Compiler.asked_skeletons c.args.compiler.now) (g.C.Compiler.asked_skeletons c.find_skeletons.new.compiler) good
     (c.in_ok-skeletons.ensures.finds files is) c.in_ok-plan.ensures.skeletons
+
+pub returns-clause-short : goal.returns-clause-short
+returns-clause-short g c =
+    subst (All IsShortSkeleton) (sym c.in_ok-plan.ensures.skeletons) c.in_ok-skeletons.ensures.short
+
+pub returns-clause-names : goal.returns-clause-names
+returns-clause-names g c =
+    plan_short c.args.project.now c.in_ok-skeletons.skeletons c.args.defs.now c.in_ok-plan.plan
+    c.in_ok-skeletons.ensures.short c.in_ok-plan.ensures.gives

@@ -1,13 +1,18 @@
 use Rattle.std.proofs.Common.{◌<◌, ◌≤◌, ◌∙◌, ap, sym, refl, subst, arith, get_or, length, length-append, ◌∷◌, []}
+use Rattle.std.specs.Prelude.{All}
+use Rattle.std.proofs.lemmas.List.Elements.{All-nil}
 use Rattle.skeleton_asking.specs.Answers.{FindsAll}
+use Rattle.skeleton_asking.specs.Short.{IsShortSkeleton}
 use Rattle.skeleton_asking.specs.Skeletons.{answer_over, skeletons_over}
 use Rattle.skeleton_asking.specs.declared.fault.PlanFault.TheVariants as fault
+use Rattle.skeleton_asking.proofs.Shortness.{short_more}
 use Rattle.skeleton_asking.proofs.Steps.{all_found, none_before, one_found, one_lost, one_stops, passed}
 use Rattle.skeleton_asking.proofs.asking.find_skeletons.Goals as goal
 
 pub loop-unit-init : goal.loop-unit-init
 loop-unit-init g c = record {
   count = ap length c.new-skeletons.ensures;
+  short = subst (All IsShortSkeleton) (sym c.new-skeletons.ensures) (All-nil IsShortSkeleton);
   same = refl;
   holds = refl;
   later = omega arith;
@@ -26,6 +31,8 @@ loop-unit-preserved g c =
         length-append c.loop-unit.skeletons (c.in_ok-skeleton.skeleton ∷ []),
         c.loop-unit.invariant.count,
       );
+      short = short_more c.loop-unit.skeletons c.add.new.self c.in_ok-skeleton.skeleton c.in_ok-add.ensures.ok
+          c.loop-unit.invariant.short c.in_ok-skeleton.ensures.short;
       same = c.in_ok-skeleton.ensures.same ∙ c.loop-unit.invariant.same;
       holds = c.in_ok-skeleton.ensures.holds ∙ c.loop-unit.invariant.holds;
       later = omega (arith, c.in_ok-skeleton.ensures.cause.later, c.loop-unit.invariant.later);
@@ -86,3 +93,6 @@ returns-clause-finds g c = λ files is.
     (skeletons_over g.C.Compiler.defines.skel files c.args.project.now)
     (subst (λ us. length us ≤ c.loop-unit.unit-index) c.as_slice-unit-items.ensures c.loop-unit-test.false)
     (c.loop-unit.invariant.so files is)
+
+pub returns-clause-short : goal.returns-clause-short
+returns-clause-short g c = c.loop-unit.invariant.short
