@@ -5,7 +5,7 @@ use Rattle.grammars.specs.Grammar.{Grammar, End, Ends, Phrase, Rounds, head_or, 
 use Rattle.sml_lexer.specs.declared.lexeme.Lexeme.{Lexeme}
 use Rattle.phrase_reading.specs.Names.{either, if_mark, if_taken, beginning}
 use Rattle.phrase_reading.specs.Words.{g, is, made, taken, token}
-use Rattle.phrase_reading.specs.declared.words.Word.{Word}
+use Rattle.sml_lexer.specs.declared.words.Word.{Word}
 
 -- the same lexemes are phrases of both, with the same values
 pub record Same {A : Type 0} (first second : g A) : Type 0 where
@@ -433,6 +433,31 @@ pub within_in : {C : Type 0} (ok : Bool) (grammar : g C) (xs : List Lexeme) (nex
     → Phrase (Grammar.within ok grammar) xs next c → (ok ≡ true) × Phrase grammar xs next c
 within_in ok grammar xs next c (inl h) = h
 within_in {C} ok grammar xs next c (inr h) = let never : End.whole c ≡ End.deep = h.2 in absurd (cc)
+
+-- .. of a grammar that is a choice, or a limit
+pub same_yes : {A : Type 0} {grammar : g A} {t : Lexeme → Bool} {go : Lexeme → g A} {or : g A}
+    → Same grammar (Grammar.on t go or) → (x : Lexeme) (xs : List Lexeme) (next : Option Lexeme) (a : A) → t x ≡ true
+    → Phrase grammar (x ∷ xs) next a → Phrase (go x) xs next a
+same_yes {A} {grammar} {t} {go} {or} it x xs next a goes h = on_yes t go or x xs next a goes (it.to (x ∷ xs) next a h)
+
+pub same_no : {A : Type 0} {grammar : g A} {t : Lexeme → Bool} {go : Lexeme → g A} {or : g A}
+    → Same grammar (Grammar.on t go or) → (xs : List Lexeme) (next : Option Lexeme) (a : A)
+    → begins t (head_or xs next) ≡ false → Phrase grammar xs next a → Phrase or xs next a
+same_no {A} {grammar} {t} {go} {or} it xs next a stop h = on_no t go or xs next a stop (it.to xs next a h)
+
+pub same_or : {A : Type 0} {grammar : g A} {t : Lexeme → Bool} {go : Lexeme → g A} {or : g A}
+    → Same grammar (Grammar.on t go or) → (xs : List Lexeme) (next : Option Lexeme) (a : A)
+    → begins t (head_or xs next) ≡ false → Phrase or xs next a → Phrase grammar xs next a
+same_or {A} {grammar} {t} {go} {or} it xs next a stop h = it.back xs next a (on_or t go or xs next a stop h)
+
+pub same_began : {A : Type 0} {grammar : g A} {t : Lexeme → Bool} {go : Lexeme → g A}
+    → Same grammar (Grammar.on t go Grammar.refuse) → (xs : List Lexeme) (next : Option Lexeme) (a : A)
+    → Phrase grammar xs next a → Began t xs (λ x rest. Phrase (go x) rest next a)
+same_began {A} {grammar} {t} {go} it xs next a h = began t go xs next a (it.to xs next a h)
+
+pub same_low : {A : Type 0} {grammar : g A} {ok : Bool} {inner : g A} → Same grammar (Grammar.within ok inner)
+    → (xs : List Lexeme) (next : Option Lexeme) (a : A) → Phrase grammar xs next a → (ok ≡ true) × Phrase inner xs next a
+same_low {A} {grammar} {ok} {inner} it xs next a h = within_in ok inner xs next a (it.to xs next a h)
 
 -- no rounds where none begins
 pub many_none : {A : Type 0} (t : A → Lexeme → Bool) (step : A → Lexeme → g A) (a : A) (xs : List Lexeme)

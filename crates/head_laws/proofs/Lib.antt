@@ -1,5 +1,8 @@
 pub mod Passing
 pub mod TyPassing
-pub mod Algebra
 pub mod PatPassing
 pub mod Limits
+pub mod Algebra
+pub mod Lexemes
+pub mod Parens
+pub mod Heads

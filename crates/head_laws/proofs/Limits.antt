@@ -19,10 +19,11 @@ use Rattle.core_patterns.specs.declared.operand.Operand.{Operand}
 use Rattle.core_patterns.specs.declared.operand.Operand.TheVariants as o
 use Rattle.core_patterns.specs.declared.operand.Run.{Run}
 use Rattle.phrase_reading.specs.Sized.{more, one, further, maybe}
-use Rattle.phrase_reading.specs.Words.{g, at, word_of, given, made, tycon_of, long_named}
+use Rattle.sml_lexer.specs.Words.{word_of}
+use Rattle.phrase_reading.specs.Words.{g, at, given, made, tycon_of, long_named}
 use Rattle.phrase_reading.specs.declared.tall.Tall.{Tall}
-use Rattle.phrase_reading.specs.declared.words.Word.{Word}
-use Rattle.phrase_reading.specs.declared.words.Word.TheVariants as w
+use Rattle.sml_lexer.specs.declared.words.Word.{Word}
+use Rattle.sml_lexer.specs.declared.words.Word.TheVariants as w
 use Rattle.head_laws.proofs.Passing.{Keeps, keep_pure, keep_refuse, keep_bind, keep_then, keep_on, keep_within, keep_many, keep_weak, keep_none}
 use Rattle.head_laws.proofs.PatPassing.{plain_height}
 

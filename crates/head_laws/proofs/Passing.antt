@@ -7,7 +7,7 @@ use Rattle.sml_lexer.specs.declared.lexeme.Lexeme.{Lexeme}
 use Rattle.phrase_reading.specs.Sized.{more, further, maybe}
 use Rattle.phrase_reading.specs.Words.{g, is, made, taken}
 use Rattle.phrase_reading.specs.declared.tall.Tall.{Tall}
-use Rattle.phrase_reading.specs.declared.words.Word.{Word}
+use Rattle.sml_lexer.specs.declared.words.Word.{Word}
 
 -- ---- what holds of all values of a grammar
 

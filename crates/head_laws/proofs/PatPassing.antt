@@ -17,10 +17,11 @@ use Rattle.core_patterns.specs.declared.operand.Operand.{Operand}
 use Rattle.core_patterns.specs.declared.operand.Operand.TheVariants as o
 use Rattle.core_patterns.specs.declared.operand.Run.{Run}
 use Rattle.phrase_reading.specs.Sized.{more, one, maybe}
-use Rattle.phrase_reading.specs.Words.{g, at, word_of, given}
+use Rattle.sml_lexer.specs.Words.{word_of}
+use Rattle.phrase_reading.specs.Words.{g, at, given}
 use Rattle.phrase_reading.specs.declared.tall.Tall.{Tall}
-use Rattle.phrase_reading.specs.declared.words.Word.{Word}
-use Rattle.phrase_reading.specs.declared.words.Word.TheVariants as w
+use Rattle.sml_lexer.specs.declared.words.Word.{Word}
+use Rattle.sml_lexer.specs.declared.words.Word.TheVariants as w
 use Rattle.head_laws.proofs.Passing.{Keeps, keep_pure, keep_refuse, keep_bind, keep_then, keep_on, keep_within, keep_many, keep_weak, keep_none, Passes, pass_same, pass_none, pass_bind, pass_then, pass_first, pass_on, pass_within, pass_many, Fits, Low, fits_lower, fits_below, fits_above, fits_room, pass_high, pass_further, further_grows, pass_maybe}
 use Rattle.head_laws.proofs.TyPassing.{ty_some, ty_passes}
 

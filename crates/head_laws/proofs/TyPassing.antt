@@ -7,10 +7,11 @@ use Rattle.sml_trees.specs.declared.name.At.{At}
 use Rattle.sml_trees.specs.declared.full_ty.FullTy.{FullTy}
 use Rattle.core_types.specs.Types.{TyLevel, field, fields_of, record_of, applied_all, behind_first, in_parens, atom_word, atom_kind, atom_after, apply, constructor_after, applied, part_after, starred, tuple_of, tuple, arrow_of, arrow, ty_after, ty_level, ty}
 use Rattle.phrase_reading.specs.Sized.{more, one}
-use Rattle.phrase_reading.specs.Words.{g, is_star, tycon_of, made, at, long_named, word_of}
+use Rattle.sml_lexer.specs.Words.{word_of}
+use Rattle.phrase_reading.specs.Words.{g, is_star, tycon_of, made, at, long_named}
 use Rattle.phrase_reading.specs.declared.tall.Tall.{Tall}
-use Rattle.phrase_reading.specs.declared.words.Word.{Word}
-use Rattle.phrase_reading.specs.declared.words.Word.TheVariants as w
+use Rattle.sml_lexer.specs.declared.words.Word.{Word}
+use Rattle.sml_lexer.specs.declared.words.Word.TheVariants as w
 use Rattle.head_laws.proofs.Passing.{Keeps, keep_pure, keep_refuse, keep_bind, keep_then, keep_on, keep_within, keep_many, keep_weak, keep_none, Passes, pass_same, pass_none, pass_bind, pass_then, pass_first, pass_on, pass_within, pass_many, Fits, Low, fits_lower, fits_below, fits_room, pass_high, pass_further, further_grows}
 
 -- ---- no part is higher than the whole
