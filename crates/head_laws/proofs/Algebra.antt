@@ -45,7 +45,8 @@ pub same_equal : {A : Type 0} {first second : g A} → first ≡ second → Same
 same_equal {A} {first} equal = subst (λ (grammar : g A). Same first grammar) equal same_itself
 
 on_to : {A : Type 0} (t : Lexeme → Bool) (go to : Lexeme → g A) (or than : g A)
-    → ((x : Lexeme) (xs : List Lexeme) (next : Option Lexeme) (a : A) → Phrase (go x) xs next a → Phrase (to x) xs next a)
+    → ((x : Lexeme) (xs : List Lexeme) (next : Option Lexeme) (a : A) → Phrase (go x) xs next a → Phrase
+    (to x) xs next a)
     → ((xs : List Lexeme) (next : Option Lexeme) (a : A) → Phrase or xs next a → Phrase than xs next a)
     → (xs : List Lexeme) (next : Option Lexeme) (a : A) → Phrase (Grammar.on t go or) xs next a
     → Phrase (Grammar.on t to than) xs next a
@@ -53,7 +54,8 @@ on_to t go to or than ways other [] next a h = (h.0, other [] next a h.1)
 on_to t go to or than ways other (x ∷ xs) next a (inl h) = inl (h.0, ways x xs next a h.1)
 on_to t go to or than ways other (x ∷ xs) next a (inr h) = inr (h.0, other (x ∷ xs) next a h.1)
 
-pub same_on : {A : Type 0} {t : Lexeme → Bool} {go to : Lexeme → g A} {or than : g A} → ((x : Lexeme) → Same (go x) (to x))
+pub same_on : {A : Type 0} {t : Lexeme → Bool} {go to : Lexeme → g A} {or than : g A} → ((x : Lexeme) → Same (go x)
+    (to x))
     → Same or than → Same (Grammar.on t go or) (Grammar.on t to than)
 same_on {A} {t} {go} {to} {or} {than} ways other = record {
   to = on_to t go to or than (λ x. (ways x).to) other.to;
@@ -134,13 +136,18 @@ same_choice {A} {B} t go or k = record { to = by_parts; back = by_choice }
     or_whole [] next b stop h = (stop, h)
     or_whole (x ∷ xs) next b stop h = inr (stop, h)
 
-    by_parts : (xs : List Lexeme) (next : Option Lexeme) (b : B) → Phrase (Grammar.bind (Grammar.on t go or) k) xs next b
+    by_parts : (xs : List Lexeme) (next : Option Lexeme) (b : B) → Phrase (Grammar.bind
+        (Grammar.on t go or) k) xs next b
         → Phrase (parted t go or k) xs next b
     by_parts xs next b (inl (a, [], zs, split, h, r)) =
         or_whole xs next b (subst (λ (l : List Lexeme). begins t (head_or l next) ≡ false) (sym split) h.0)
         (inl (a, [], zs, split, h.1, r))
     by_parts xs next b (inl (a, y ∷ ys, zs, split, inl h, r)) =
-        subst (λ (l : List Lexeme). Phrase (parted t go or k) l next b) (sym split) (inl (h.0, inl (a, ys, zs, refl, h.1, r)))
+        subst (λ (l : List Lexeme). Phrase (parted t go or k) l next b) (sym split) (inl (
+          h.0,
+          inl
+              (a, ys, zs, refl, h.1, r),
+        ))
     by_parts xs next b (inl (a, y ∷ ys, zs, split, inr h, r)) =
         or_whole xs next b (subst (λ (l : List Lexeme). begins t (head_or l next) ≡ false) (sym split) h.0)
         (inl (a, y ∷ ys, zs, split, h.1, r))
@@ -264,7 +271,8 @@ module _ {A : Type 0} (t : Lexeme → Bool) (go : Lexeme → g A) (or : g A) whe
 -- ---- a lexeme of which something is known
 
 -- such a lexeme, and what holds of it and of the rest
-pub record Took {A : Type 0} (what : Lexeme → Option A) (xs : List Lexeme) (Q : Lexeme → A → List Lexeme → Type 0) : Type 0 where
+pub record Took {A : Type 0} (what : Lexeme → Option A) (xs : List Lexeme) (Q : Lexeme → A → List Lexeme
+    → Type 0) : Type 0 where
   pub first : Lexeme
   pub found : A
   pub rest : List Lexeme
@@ -272,7 +280,8 @@ pub record Took {A : Type 0} (what : Lexeme → Option A) (xs : List Lexeme) (Q 
   pub is : what first ≡ Some found
   pub then_so : Q first found rest
 
-made_in : {A B C : Type 0} (make : A → B) (go : B → g C) (found : Option A) (xs : List Lexeme) (next : Option Lexeme) (c : C)
+made_in : {A B C : Type 0} (make : A → B) (go : B → g C) (found : Option A) (xs : List Lexeme)
+    (next : Option Lexeme) (c : C)
     → Phrase (Grammar.bind (made make found) go) xs next c → (a : A) × (found ≡ Some a) × Phrase (go (make a)) xs next c
 made_in make go None xs next c h =
     let never = (same_refused go).to xs next c h in let no : End.whole c ≡ End.refused = never.1 in absurd (cc)
@@ -313,11 +322,13 @@ module _ {A B C : Type 0} (what : Lexeme → Option A) (make : Lexeme → A → 
   if_taken_or xs next c stop h =
       on_or (λ x. is_some (what x)) (λ x. Grammar.bind (made (make x) (what x)) go) or xs next c stop h
 
-  pub taken_in : (xs : List Lexeme) (next : Option Lexeme) (c : C) → Phrase (Grammar.bind (taken what make) go) xs next c
+  pub taken_in : (xs : List Lexeme) (next : Option Lexeme) (c : C) → Phrase (Grammar.bind
+      (taken what make) go) xs next c
       → Took what xs (λ x a rest. Phrase (go (make x a)) rest next c)
   unfolding taken
   taken_in xs next c h =
-      by_choice xs ((same_choice (λ x. is_some (what x)) (λ x. made (make x) (what x)) Grammar.refuse go).to xs next c h)
+      by_choice xs ((same_choice (λ x. is_some (what x)) (λ x. made (make x)
+      (what x)) Grammar.refuse go).to xs next c h)
     where
       never : {D : Type 0} (xs : List Lexeme) → Phrase (Grammar.bind (Grammar.refuse {A = B}) go) xs next c → D
       never xs h =
@@ -380,14 +391,16 @@ module _ {C : Type 0} (mark : Word) (go : g C) where
 
 pub if_mark_in : {C : Type 0} (mark : Word) (go or : g C) (xs : List Lexeme) (next : Option Lexeme) (c : C)
     → Phrase (if_mark mark go or) xs next c
-    → Began (is mark) xs (λ _ rest. Phrase go rest next c) ⊎ ((begins (is mark) (head_or xs next) ≡ false) × Phrase or xs next c)
+    → Began (is mark) xs (λ _ rest. Phrase go rest next c) ⊎ ((begins (is mark) (head_or xs next) ≡ false)
+    × Phrase or xs next c)
 unfolding if_mark
 if_mark_in mark go or [] next c h = inr (h.0, h.1)
 if_mark_in mark go or (x ∷ xs) next c (inl h) =
     inl (record { first = x; rest = xs; written = refl; is = h.0; then_so = h.1 })
 if_mark_in mark go or (x ∷ xs) next c (inr h) = inr (h.0, h.1)
 
-pub if_mark_of : {C : Type 0} (mark : Word) (go or : g C) (x : Lexeme) (rest : List Lexeme) (next : Option Lexeme) (c : C)
+pub if_mark_of : {C : Type 0} (mark : Word) (go or : g C) (x : Lexeme) (rest : List Lexeme) (next : Option Lexeme)
+    (c : C)
     → is mark x ≡ true → Phrase go rest next c → Phrase (if_mark mark go or) (x ∷ rest) next c
 unfolding if_mark
 if_mark_of mark go or x rest next c marked h = inl (marked, h)
@@ -456,7 +469,8 @@ pub same_began : {A : Type 0} {grammar : g A} {t : Lexeme → Bool} {go : Lexeme
 same_began {A} {grammar} {t} {go} it xs next a h = began t go xs next a (it.to xs next a h)
 
 pub same_low : {A : Type 0} {grammar : g A} {ok : Bool} {inner : g A} → Same grammar (Grammar.within ok inner)
-    → (xs : List Lexeme) (next : Option Lexeme) (a : A) → Phrase grammar xs next a → (ok ≡ true) × Phrase inner xs next a
+    → (xs : List Lexeme) (next : Option Lexeme) (a : A) → Phrase grammar xs next a → (ok ≡ true)
+    × Phrase inner xs next a
 same_low {A} {grammar} {ok} {inner} it xs next a h = within_in ok inner xs next a (it.to xs next a h)
 
 -- no rounds where none begins

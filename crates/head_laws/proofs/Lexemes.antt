@@ -1,5 +1,5 @@
 -- What is known of a lexeme that a head goes on with.
-use Rattle.std.proofs.Common.{◌≡◌, ℕ, zero, suc, ◌+◌, ◌≤◌, ◌<◌, List, [], ◌∷◌, length, Option, None, Some, is_some, Bool, true, false, not, ◌||◌, ◌&&◌, ◌==◌, ◌⊎◌, inl, inr, if◌then◌else◌, refl, sym, ap, ap₂, subst, ◌∙◌, arith, rules, eq-eqb}
+use Rattle.std.proofs.Common.{◌≡◌, ℕ, ◌+◌, ◌<◌, List, [], ◌∷◌, length, Option, None, Some, is_some, Bool, true, false, not, ◌||◌, ◌&&◌, ◌==◌, inl, inr, if◌then◌else◌, refl, sym, ap, ap₂, subst, ◌∙◌, arith, rules, eq-eqb}
 use Rattle.std.proofs.lemmas.Bool.{eqb-true, lt-ltb}
 use Rattle.std.proofs.lemmas.Slice.Eq.{bytes_eq-Decides}
 use Rattle.std.specs.Str.{bytes_eq}
@@ -7,20 +7,19 @@ use denote.Enum.Bare.{same_true, true_same}
 use Rattle.sml_lexer.specs.declared.lexeme.Lexeme.{Lexeme}
 use Rattle.sml_lexer.specs.declared.lexeme.LexemeKind.{LexemeKind}
 use Rattle.sml_lexer.specs.declared.lexeme.LexemeKind.TheVariants as k
-use Rattle.sml_trees.specs.declared.full_exp.FullHead.{FullHead}
 use Rattle.sml_trees.specs.declared.full_exp.FullHead.TheVariants as form
 use Rattle.sml_trees.specs.declared.full_pat.Fixity.{Fixity}
 use Rattle.sml_trees.specs.declared.full_pat.FullPat.{FullPat}
 use Rattle.sml_trees.specs.declared.full_ty.OpName.{OpName}
 use Rattle.sml_trees.specs.declared.name.Name.{Name}
-use Rattle.core_patterns.specs.Patterns.{is_operand, starts_atpat, starts_atpat_word, starts_atpat_kind, operator}
+use Rattle.core_patterns.specs.Patterns.{starts_atpat, starts_atpat_word, starts_atpat_kind, operator}
 use Rattle.infix_names.specs.Fixities.{Fixities, fixity_of, if_name, clash, joining}
-use Rattle.sml_lexer.specs.Words.{word_of, same_word}
-use Rattle.phrase_reading.specs.Words.{is, is_that, word, word_in, only, name_in, name_of, and_then, or_empty, named}
+use Rattle.sml_lexer.specs.Words.{same_word}
+use Rattle.phrase_reading.specs.Words.{is, is_that, word, word_in, name_in, name_of, and_then, named}
 use Rattle.sml_lexer.specs.contracts.words.Word.{the_type}
 use Rattle.sml_lexer.specs.declared.words.Word.{Word}
 use Rattle.sml_lexer.specs.declared.words.Word.TheVariants as w
-use Rattle.clause_heads.specs.Heads.{may_be, may_be_infix, may_be_bare, may_go_on, may_end, wanted_by, if_infix, operator_in, bare_operator}
+use Rattle.clause_heads.specs.Heads.{may_be, may_be_infix, may_be_bare, may_go_on, may_end, if_infix, operator_in, bare_operator}
 use Rattle.clause_heads.specs.declared.heads.Wanted.{Wanted}
 use Rattle.clause_heads.specs.declared.heads.Wanted.TheVariants as wanted
 use Rattle.head_laws.specs.Forms.{IsAsked, AsksForSome, IsBehindHead}
@@ -97,7 +96,8 @@ word_starts fs (k.Int value ok) v h = absurd (cc)
 word_starts fs (k.Str text) v h = absurd (cc)
 word_starts fs (k.Char byte) v h = absurd (cc)
 
-pub starts_by : (fs : Fixities) (x : Lexeme) (v : Word) → word x ≡ Some v → starts_atpat fs x ≡ starts_atpat_word (Some v)
+pub starts_by : (fs : Fixities) (x : Lexeme) (v : Word) → word x ≡ Some v → starts_atpat fs x ≡ starts_atpat_word
+    (Some v)
 starts_by fs x v h = word_starts fs x.kind v h
 
 -- what stands behind a head begins no atomic pattern
@@ -184,7 +184,8 @@ word_quiet fs wanted x v h = by_bare (may_be_bare fs wanted)
     by_bare false = refl
 
 -- a run of one operand goes on with an operator
-pub joins : (fs : Fixities) (x : Lexeme) (text : List ℕ) (f : Fixity) → name_of x ≡ Some text → fixity_of fs text ≡ Some f
+pub joins : (fs : Fixities) (x : Lexeme) (text : List ℕ) (f : Fixity) → name_of x ≡ Some text
+    → fixity_of fs text ≡ Some f
     → joining (operator fs x) [] ≡ Some f
 unfolding clash
 joins fs x text f name is = ap (λ (found : Option Fixity). joining found []) (ap (if_name fs) name ∙ is)
@@ -210,7 +211,8 @@ pub infix_asked : (fs : Fixities) (wanted : Wanted) (left right : FullPat) (x : 
     → may_be_bare fs wanted ≡ true → may_be wanted text ≡ true → IsAsked wanted (form.Infix left (named x text) right)
 infix_asked fs wanted.Any left right x text bare may = tt
 infix_asked fs (wanted.Same name args) left right x text bare may =
-    ap₂ wanted.Same (text_is name text may) (sym (eqb-true args 1 (both (args == 1) (is_some (fixity_of fs name)) bare).0))
+    ap₂ wanted.Same (text_is name text may) (sym (eqb-true args 1 (both (args == 1) (is_some
+    (fixity_of fs name)) bare).0))
 
 -- what asks for an infix head
 pub record AsksInfix (fs : Fixities) (wanted : Wanted) (text : List ℕ) : Type 0 where

@@ -1,5 +1,5 @@
 -- No type or pattern is higher than the limit that it is read under.
-use Rattle.std.proofs.Common.{◌≡◌, ℕ, zero, suc, ◌+◌, ◌≤◌, ◌<◌, max, List, [], ◌∷◌, Option, None, Some, Bool, true, false, nat_lt, arith, rules}
+use Rattle.std.proofs.Common.{◌≡◌, ℕ, zero, suc, ◌≤◌, List, Option, None, Some, Bool, true, false, nat_lt, arith}
 use Rattle.std.proofs.lemmas.Bool.{ltb-true}
 use Rattle.sml_lexer.specs.declared.lexeme.Lexeme.{Lexeme}
 use Rattle.sml_lexer.specs.declared.lexeme.LexemeKind.{LexemeKind}
@@ -13,8 +13,8 @@ use Rattle.sml_trees.specs.declared.full_pat.Fixity.{Fixity}
 use Rattle.sml_trees.specs.declared.full_pat.FullPat.{FullPat}
 use Rattle.infix_names.specs.Fixities.{Fixities, joining}
 use Rattle.core_types.specs.Types as t
-use Rattle.core_types.specs.Types.{TyLevel, ty_level, ty}
-use Rattle.core_patterns.specs.Patterns.{PatLevel, plain, operand_height, items_of, in_brackets, tuple_of, behind_first, inside_parens, in_parens, labelled, named_field, if_name, field_behind, field, fields_of, record_of, other, behind_op, atpat_word, atpat_kind, start, operator, operand_joined, operand_behind, argument, by_operator, run_step, run_on, whole_run, constrained, typed, layered, layer, id_under, behind_typed, typed_id, behind_name, behind_id, alone, run_rest, behind_operand, pat_after, pat_level, pat}
+use Rattle.core_types.specs.Types.{ty_level, ty}
+use Rattle.core_patterns.specs.Patterns.{PatLevel, operand_height, items_of, in_brackets, tuple_of, behind_first, inside_parens, in_parens, labelled, named_field, if_name, field_behind, field, fields_of, record_of, other, behind_op, atpat_word, atpat_kind, start, operator, operand_joined, operand_behind, argument, by_operator, run_step, run_on, whole_run, constrained, typed, layered, layer, id_under, behind_typed, typed_id, behind_name, behind_id, alone, run_rest, behind_operand, pat_after, pat_level, pat}
 use Rattle.core_patterns.specs.declared.operand.Operand.{Operand}
 use Rattle.core_patterns.specs.declared.operand.Operand.TheVariants as o
 use Rattle.core_patterns.specs.declared.operand.Run.{Run}
@@ -24,7 +24,7 @@ use Rattle.phrase_reading.specs.Words.{g, at, given, made, tycon_of, long_named}
 use Rattle.phrase_reading.specs.declared.tall.Tall.{Tall}
 use Rattle.sml_lexer.specs.declared.words.Word.{Word}
 use Rattle.sml_lexer.specs.declared.words.Word.TheVariants as w
-use Rattle.head_laws.proofs.Passing.{Keeps, keep_pure, keep_refuse, keep_bind, keep_then, keep_on, keep_within, keep_many, keep_weak, keep_none}
+use Rattle.head_laws.proofs.Passing.{Keeps, keep_pure, keep_refuse, keep_bind, keep_then, keep_on, keep_within, keep_many, keep_none}
 use Rattle.head_laws.proofs.PatPassing.{plain_height}
 
 -- at most so many levels
@@ -143,7 +143,8 @@ module _ (n : ℕ) (tys : g (Tall FullTy)) (it : Keeps tys (AtMost n)) (below : 
   parens_low place =
       keep_on (λ _. keep_pure _ (omega arith))
       (keep_bind pats (λ first le. keep_on
-      (λ _. keep_bind pats (λ second less. keep_bind (further_low n _ below (more (one first) second) pats (omega arith))
+      (λ _. keep_bind pats (λ second less. keep_bind (further_low n _ below (more (one first) second) pats
+      (omega arith))
       (λ parts low. keep_then (λ _. keep_pure _ (omega arith)))))
       (keep_then (λ _. keep_pure _ (omega arith)))))
 
@@ -227,14 +228,16 @@ module _ (n : ℕ) (tys : g (Tall FullTy)) (it : Keeps tys (AtMost n)) (below : 
     operator_low run x None le =
         keep_bind (each x) (λ operand low. keep_pure _ (let same = plain_height (at x) operand in omega arith))
     operator_low run x (Some f) le =
-        keep_on (λ y. keep_bind (each y) (λ operand low. keep_pure _ (let same = plain_height (at y) operand in omega arith)))
+        keep_on (λ y. keep_bind (each y) (λ operand low. keep_pure _ (let same = plain_height
+        (at y) operand in omega arith)))
         keep_refuse
 
     step_low : (run : Run) (x : Lexeme) → Keeps (run_step fs (suc n) parts run x) (RunAtMost n)
     step_low run x =
         keep_within (λ room. operator_low run x (joining (operator fs x) run.ops) (below_limit run.height n room))
 
-    rest_low : (place : At) (run : Run) → run.height ≤ n → Keeps (run_rest fs (suc n) tys parts place run) (AtMost (suc n))
+    rest_low : (place : At) (run : Run) → run.height ≤ n → Keeps (run_rest fs (suc n) tys parts place run) (AtMost
+        (suc n))
     unfolding run_rest run_on
     rest_low place run le =
         keep_bind (keep_many {P = RunAtMost n} (λ run x low. step_low run x) run le)
@@ -262,10 +265,12 @@ pat_levels_low fs zero = record { pat = keep_on (λ _. keep_none) keep_refuse; a
 pat_levels_low fs (suc n) =
     let below = pat_levels_low fs n in
     record {
-      pat = keep_on (λ x. after_low n (ty n) (ty_low n) (pat_level fs n).pat below.pat fs (pat_level fs n).atpat below.atpat x)
+      pat = keep_on (λ x. after_low n (ty n) (ty_low n) (pat_level fs n).pat below.pat fs
+          (pat_level fs n).atpat below.atpat x)
           keep_refuse;
       atpat = λ x. atpat_low n (ty n) (ty_low n) (pat_level fs n).pat below.pat x x.kind;
     }
 
-pub operand_low : (fs : Fixities) (n : ℕ) (x : Lexeme) → Keeps ((pat_level fs n).atpat x) (λ operand. operand_height operand ≤ n)
+pub operand_low : (fs : Fixities) (n : ℕ) (x : Lexeme) → Keeps ((pat_level fs n).atpat x)
+    (λ operand. operand_height operand ≤ n)
 operand_low fs n x = (pat_levels_low fs n).atpat x

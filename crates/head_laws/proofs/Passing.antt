@@ -1,11 +1,11 @@
 -- What one grammar takes another takes too, with the same value, form by form.
-use Rattle.std.proofs.Common.{◌≡◌, ℕ, zero, suc, ◌+◌, ◌≤◌, ◌<◌, List, [], ◌∷◌, ◌++◌, Option, Some, None, Bool, true, false, ◌⊎◌, inl, inr, nat_lt, max, refl, sym, subst, arith, rules}
-use Rattle.grammars.specs.Grammar.{Grammar, End, Ends, Phrase, Rounds, head_or, begins}
+use Rattle.std.proofs.Common.{◌≡◌, ℕ, zero, suc, ◌+◌, ◌≤◌, ◌<◌, List, [], ◌∷◌, Option, Bool, true, false, ◌⊎◌, inl, inr, nat_lt, max, arith, rules}
+use Rattle.grammars.specs.Grammar.{Grammar, End, Ends, Phrase, Rounds, head_or}
 use Rattle.grammars.specs.Laws.{Gives}
 use Rattle.grammars.proofs.Values.{gives_pure, gives_refuse, gives_bind, gives_on, gives_within, gives_many}
 use Rattle.sml_lexer.specs.declared.lexeme.Lexeme.{Lexeme}
 use Rattle.phrase_reading.specs.Sized.{more, further, maybe}
-use Rattle.phrase_reading.specs.Words.{g, is, made, taken}
+use Rattle.phrase_reading.specs.Words.{g, is, made}
 use Rattle.phrase_reading.specs.declared.tall.Tall.{Tall}
 use Rattle.sml_lexer.specs.declared.words.Word.{Word}
 
@@ -149,14 +149,17 @@ module _ {A : Type 0} (t : A → Lexeme → Bool) (step other : A → Lexeme →
   rounds_pass zero a b xs next p h = h
   rounds_pass (suc n) a b [] next p h = absurd h
   rounds_pass (suc n) a b (x ∷ xs) next p (go, inr h) = absurd h
-  rounds_pass (suc n) a b (x ∷ xs) next p (go, inl (c, ys, zs, split, q, r)) = (go, inl (
-    c,
-    ys,
-    zs,
-    split,
-    (each a x).pass ys (head_or zs next) c ((rounds_grow c).gives zs next b (n, r) p) q,
-    rounds_pass n c b zs next p r,
-  ))
+  rounds_pass (suc n) a b (x ∷ xs) next p (go, inl (c, ys, zs, split, q, r)) = (
+    go,
+    inl (
+      c,
+      ys,
+      zs,
+      split,
+      (each a x).pass ys (head_or zs next) c ((rounds_grow c).gives zs next b (n, r) p) q,
+      rounds_pass n c b zs next p r,
+    ),
+  )
 
   pub pass_many : (a : A) → Passes (Grammar.many t step a) (Grammar.many t other a) P
   pass_many a = record { pass = λ xs next b p h. (h.0, rounds_pass h.0 a b xs next p h.1) }
@@ -175,7 +178,8 @@ fits_lower low high le (inl h) = inl h
 fits_lower low high le (inr h) = inr (omega arith)
 
 -- one level below
-pub fits_below : {most limit : ℕ} (low high : ℕ) → low + 1 ≤ high → Fits (suc most) (suc limit) high → Fits most limit low
+pub fits_below : {most limit : ℕ} (low high : ℕ) → low + 1 ≤ high → Fits (suc most) (suc limit) high
+    → Fits most limit low
 fits_below low high le (inl h) = inl (omega arith)
 fits_below low high le (inr h) = inr (omega arith)
 
@@ -208,7 +212,8 @@ unfolding further
 pass_further {A} {most} {limit} mark {each} {other} found part =
     pass_many (λ _ x. is mark x) (λ found x. Grammar.bind each (λ next. Grammar.pure (more found next)))
     (λ found x. Grammar.bind other (λ next. Grammar.pure (more found next))) (Low most limit)
-    (λ found x. pass_first part (λ next. keep_pure _ (fits_lower next.height (max found.height next.height) (omega arith))))
+    (λ found x. pass_first part (λ next. keep_pure _ (fits_lower next.height (max found.height next.height)
+    (omega arith))))
     (λ found x. keep_then (λ next. keep_pure _
     (fits_lower found.height (max found.height next.height) (omega arith)))) found
 

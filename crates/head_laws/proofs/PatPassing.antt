@@ -1,5 +1,5 @@
 -- A pattern that is read under one limit is read under each other that is no lower than the pattern.
-use Rattle.std.proofs.Common.{◌≡◌, ℕ, zero, suc, ◌+◌, ◌≤◌, ◌<◌, max, List, [], ◌∷◌, Option, None, Some, Bool, true, false, nat_lt, refl, sym, subst, arith, rules}
+use Rattle.std.proofs.Common.{◌≡◌, ℕ, zero, suc, ◌+◌, ◌≤◌, max, Option, None, Some, Bool, true, false, refl, arith}
 use Rattle.sml_lexer.specs.declared.lexeme.Lexeme.{Lexeme}
 use Rattle.sml_lexer.specs.declared.lexeme.LexemeKind.{LexemeKind}
 use Rattle.sml_lexer.specs.declared.lexeme.LexemeKind.TheVariants as k
@@ -12,11 +12,11 @@ use Rattle.sml_trees.specs.declared.full_pat.Fixity.{Fixity}
 use Rattle.sml_trees.specs.declared.full_pat.FullPat.{FullPat}
 use Rattle.infix_names.specs.Fixities.{Fixities, joining}
 use Rattle.core_types.specs.Types.{ty}
-use Rattle.core_patterns.specs.Patterns.{PatLevel, plain, operand_height, items_of, in_brackets, tuple_of, behind_first, inside_parens, in_parens, labelled, named_field, if_name, field_behind, field, fields_of, record_of, other, behind_op, atpat_word, atpat_kind, start, operator, operand_joined, operand_behind, argument, by_operator, run_step, run_on, whole_run, constraint, constrained, typed, layered, layer, id_under, behind_typed, typed_id, behind_name, behind_id, alone, run_rest, behind_operand, pat_after, pat_level, pat}
+use Rattle.core_patterns.specs.Patterns.{PatLevel, plain, operand_height, items_of, in_brackets, tuple_of, behind_first, inside_parens, in_parens, labelled, named_field, if_name, field_behind, field, fields_of, record_of, other, behind_op, atpat_word, atpat_kind, start, operator, operand_joined, operand_behind, argument, by_operator, run_step, run_on, whole_run, constrained, typed, layered, layer, id_under, behind_typed, typed_id, behind_name, behind_id, alone, run_rest, behind_operand, pat_after, pat_level, pat}
 use Rattle.core_patterns.specs.declared.operand.Operand.{Operand}
 use Rattle.core_patterns.specs.declared.operand.Operand.TheVariants as o
 use Rattle.core_patterns.specs.declared.operand.Run.{Run}
-use Rattle.phrase_reading.specs.Sized.{more, one, maybe}
+use Rattle.phrase_reading.specs.Sized.{more, one}
 use Rattle.sml_lexer.specs.Words.{word_of}
 use Rattle.phrase_reading.specs.Words.{g, at, given}
 use Rattle.phrase_reading.specs.declared.tall.Tall.{Tall}
@@ -33,7 +33,8 @@ plain_height place (o.Id id) = refl
 plain_height place (o.Other pat) = refl
 
 module _ (below : g (Tall FullPat)) where
-  tuple_grows : (place : At) (first : Tall FullPat) → Keeps (tuple_of below place first) (λ made. first.height + 1 ≤ made.height)
+  tuple_grows : (place : At) (first : Tall FullPat) → Keeps (tuple_of below place first)
+      (λ made. first.height + 1 ≤ made.height)
   unfolding tuple_of
   tuple_grows place first =
       keep_then (λ second. keep_bind (further_grows _ below (more (one first) second)) (λ parts le. keep_then (λ _.
@@ -100,7 +101,8 @@ module _ (levels : ℕ) (tys : g (Tall FullTy)) where
 
   layer_grows : (pats : g (Tall FullPat)) (place : At) (called : Option OpName) (ty : Tall (Option FullTy))
       → Keeps pats (λ made. 1 ≤ made.height)
-      → Keeps (given (λ called. layer pats place called ty) called) (λ made. (ty.height + 1 ≤ made.height) × (2 ≤ made.height))
+      → Keeps (given (λ called. layer pats place called ty) called) (λ made. (ty.height + 1 ≤ made.height) ×
+      (2 ≤ made.height))
   unfolding layer
   layer_grows pats place None ty some = keep_refuse
   layer_grows pats place (Some called) ty some =
@@ -149,7 +151,8 @@ module _ (fs : Fixities) (levels : ℕ) (below : PatLevel) where
       keep_bind (on_grows run) (λ all le. keep_weak (typed_grows levels tys place (whole_run place all))
       (λ made less. omega arith))
 
-  pub behind_grows : (tys : g (Tall FullTy)) (place : At) (operand : Operand) → Keeps below.pat (λ made. 1 ≤ made.height)
+  pub behind_grows : (tys : g (Tall FullTy)) (place : At) (operand : Operand) → Keeps below.pat
+      (λ made. 1 ≤ made.height)
       → Keeps (behind_operand fs levels tys below place operand) (λ made. operand_height operand ≤ made.height)
   unfolding behind_operand
   behind_grows tys place operand some =
@@ -164,7 +167,8 @@ unfolding pat_level pat_after
 pat_some fs zero = keep_on (λ _. keep_none) keep_refuse
 pat_some fs (suc n) =
     keep_on (λ x. keep_bind (atpat_some (pat fs n) (ty n) x x.kind) (λ operand le.
-    keep_weak (behind_grows fs (suc n) (pat_level fs n) (ty n) (at x) operand (pat_some fs n)) (λ made less. omega arith)))
+    keep_weak (behind_grows fs (suc n) (pat_level fs n) (ty n) (at x) operand (pat_some fs n))
+    (λ made less. omega arith)))
     keep_refuse
 
 -- .. and so has each operand
@@ -271,7 +275,8 @@ module _ (n m : ℕ) (tys types : g (Tall FullTy)) (some : Keeps tys (λ made. 1
       (fits_lower left.height (max left.height ty.height + 1) (omega arith))))) left
 
   layer_passes : (place : At) (called : Option OpName) (ty : Tall (Option FullTy))
-      → Passes (given (λ called. layer below place called ty) called) (given (λ called. layer above place called ty) called)
+      → Passes (given (λ called. layer below place called ty) called) (given
+      (λ called. layer above place called ty) called)
       (Low (suc n) (suc m))
   unfolding layer
   layer_passes place None ty = pass_same
@@ -285,7 +290,8 @@ module _ (n m : ℕ) (tys types : g (Tall FullTy)) (some : Keeps tys (λ made. 1
   name_passes atoms others place id =
       pass_on (λ x. layer_passes place (layered id x) _)
       (pass_on (λ _. pass_within
-      (λ room. keep_then (λ ty. keep_weak (typed_id_grows (suc n) tys (record { pat = below; atpat = atoms }) place id high ty)
+      (λ room. keep_then (λ ty. keep_weak (typed_id_grows (suc n) tys
+      (record { pat = below; atpat = atoms }) place id high ty)
       (λ made both. fits_room 1 made.height (omega (arith, both.1)) room)))
       (pass_bind it
       (λ ty. pass_on (λ x. layer_passes place (layered id x) _) (typed_passes place (id_under place id ty)))
@@ -319,12 +325,14 @@ module _ (n m : ℕ) (tys types : g (Tall FullTy)) (some : Keeps tys (λ made. 1
     pub step_passes : (run : Run) (x : Lexeme)
         → Passes (run_step fs (suc n) parts run x) (run_step fs (suc m) wholes run x) (LowRun n m)
     step_passes run x =
-        pass_within (λ room. keep_weak (operator_grows fs (suc n) parts run x (joining (operator fs x) run.ops)) (λ all le fits.
+        pass_within (λ room. keep_weak (operator_grows fs (suc n) parts run x (joining (operator fs x) run.ops))
+        (λ all le fits.
         fits_room run.height (all.height + 1) (omega arith) room (fits_above all.height fits)))
         (operator_passes run x (joining (operator fs x) run.ops))
 
     pub rest_passes : (place : At) (run : Run)
-        → Passes (run_rest fs (suc n) tys parts place run) (run_rest fs (suc m) types wholes place run) (Low (suc n) (suc m))
+        → Passes (run_rest fs (suc n) tys parts place run) (run_rest fs (suc m) types wholes place run) (Low (suc n)
+        (suc m))
     unfolding run_rest run_on
     rest_passes place run =
         pass_bind (pass_many _ _ _ (LowRun n m) (λ run x. step_passes run x)
@@ -334,17 +342,20 @@ module _ (n m : ℕ) (tys types : g (Tall FullTy)) (some : Keeps tys (λ made. 1
         fits_below all.height made.height le))
 
     alone_passes : (place : At) (operand : Operand)
-        → Passes (alone (suc n) tys parts place operand) (alone (suc m) types wholes place operand) (Low (suc n) (suc m))
+        → Passes (alone (suc n) tys parts place operand) (alone (suc m) types wholes place operand) (Low (suc n)
+        (suc m))
     alone_passes place (o.Id id) = name_passes atoms others place id
     alone_passes place (o.Other pat) = typed_passes place pat
 
     pub behind_passes : (place : At) (operand : Operand)
-        → Passes (behind_operand fs (suc n) tys parts place operand) (behind_operand fs (suc m) types wholes place operand)
+        → Passes (behind_operand fs (suc n) tys parts place operand) (behind_operand fs
+        (suc m) types wholes place operand)
         (Low (suc n) (suc m))
     unfolding behind_operand
     behind_passes place operand =
         pass_on (λ x. pass_bind (step_passes (start place operand) x) (λ run. rest_passes place run)
-        (λ run. keep_weak (rest_grows fs (suc n) parts tys place run) (λ made le. fits_below run.height made.height le)))
+        (λ run. keep_weak (rest_grows fs (suc n) parts tys place run)
+        (λ made le. fits_below run.height made.height le)))
         (alone_passes place operand)
 
     after_passes : (x : Lexeme)

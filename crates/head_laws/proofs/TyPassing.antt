@@ -1,23 +1,24 @@
 -- A type that is read under one limit is read under each other that is no lower than the type.
-use Rattle.std.proofs.Common.{◌≡◌, ℕ, zero, suc, ◌+◌, ◌≤◌, max, List, [], ◌∷◌, Option, None, Some, Bool, true, false, nat_lt, arith}
+use Rattle.std.proofs.Common.{◌≡◌, ℕ, zero, suc, ◌+◌, ◌≤◌, max, List, Option, None, Some, true, nat_lt, arith}
 use Rattle.sml_lexer.specs.declared.lexeme.Lexeme.{Lexeme}
 use Rattle.sml_lexer.specs.declared.lexeme.LexemeKind.{LexemeKind}
 use Rattle.sml_lexer.specs.declared.lexeme.LexemeKind.TheVariants as k
 use Rattle.sml_trees.specs.declared.name.At.{At}
 use Rattle.sml_trees.specs.declared.full_ty.FullTy.{FullTy}
-use Rattle.core_types.specs.Types.{TyLevel, field, fields_of, record_of, applied_all, behind_first, in_parens, atom_word, atom_kind, atom_after, apply, constructor_after, applied, part_after, starred, tuple_of, tuple, arrow_of, arrow, ty_after, ty_level, ty}
+use Rattle.core_types.specs.Types.{TyLevel, field, fields_of, record_of, applied_all, behind_first, in_parens, atom_word, atom_kind, apply, constructor_after, applied, part_after, starred, tuple_of, tuple, arrow_of, arrow, ty_after, ty_level, ty}
 use Rattle.phrase_reading.specs.Sized.{more, one}
 use Rattle.sml_lexer.specs.Words.{word_of}
 use Rattle.phrase_reading.specs.Words.{g, is_star, tycon_of, made, at, long_named}
 use Rattle.phrase_reading.specs.declared.tall.Tall.{Tall}
 use Rattle.sml_lexer.specs.declared.words.Word.{Word}
 use Rattle.sml_lexer.specs.declared.words.Word.TheVariants as w
-use Rattle.head_laws.proofs.Passing.{Keeps, keep_pure, keep_refuse, keep_bind, keep_then, keep_on, keep_within, keep_many, keep_weak, keep_none, Passes, pass_same, pass_none, pass_bind, pass_then, pass_first, pass_on, pass_within, pass_many, Fits, Low, fits_lower, fits_below, fits_room, pass_high, pass_further, further_grows}
+use Rattle.head_laws.proofs.Passing.{Keeps, keep_pure, keep_refuse, keep_bind, keep_then, keep_on, keep_within, keep_many, keep_weak, keep_none, Passes, pass_same, pass_none, pass_bind, pass_then, pass_first, pass_on, pass_within, pass_many, Low, fits_lower, fits_below, fits_room, pass_high, pass_further, further_grows}
 
 -- ---- no part is higher than the whole
 
 module _ (below : g (Tall FullTy)) where
-  all_grows : (place : At) (first : Tall FullTy) → Keeps (applied_all below place first) (λ made. first.height + 1 ≤ made.height)
+  all_grows : (place : At) (first : Tall FullTy) → Keeps (applied_all below place first)
+      (λ made. first.height + 1 ≤ made.height)
   unfolding applied_all
   all_grows place first =
       keep_then (λ second. keep_bind (further_grows _ below (more (one first) second)) (λ args le. keep_then (λ _.
@@ -66,10 +67,12 @@ applied_grows levels place left =
     keep_many (λ found x le. keep_weak (constructor_grows levels place found x) (λ made less. omega arith)) left
     (omega arith)
 
-part_some : (levels : ℕ) (below : g (Tall FullTy)) (x : Lexeme) → Keeps (part_after levels below x) (λ made. 1 ≤ made.height)
+part_some : (levels : ℕ) (below : g (Tall FullTy)) (x : Lexeme) → Keeps (part_after levels below x)
+    (λ made. 1 ≤ made.height)
 unfolding part_after
 part_some levels below x =
-    keep_bind (atom_some below x x.kind) (λ atom le. keep_weak (applied_grows levels (at x) atom) (λ made less. omega arith))
+    keep_bind (atom_some below x x.kind) (λ atom le. keep_weak (applied_grows levels (at x) atom)
+    (λ made less. omega arith))
 
 tuple_of_grows : (part : g (Tall FullTy)) (place : At) (first : Tall FullTy)
     → Keeps (tuple_of part place first) (λ made. first.height + 1 ≤ made.height)
@@ -89,7 +92,8 @@ tuple_grows levels part place first =
 after_some : (levels : ℕ) (below : TyLevel) (x : Lexeme) → Keeps (ty_after levels below x) (λ made. 1 ≤ made.height)
 unfolding ty_after
 after_some levels below x =
-    keep_bind (part_some levels below.ty x) (λ first le. keep_bind (tuple_grows levels below.part (at x) first) (λ left more.
+    keep_bind (part_some levels below.ty x) (λ first le. keep_bind (tuple_grows levels below.part (at x) first)
+    (λ left more.
     keep_weak (arrow_grows below.ty levels (at x) left) (λ made less. omega arith)))
 
 -- each type has a level
@@ -126,8 +130,10 @@ module _ (n m : ℕ) (below other : g (Tall FullTy)) (each : Passes below other 
   all_passes place first =
       pass_bind each
       (λ second. pass_first (pass_further _ (more (one first) second) each)
-      (λ args. keep_then (λ _. keep_then (λ long. keep_pure _ (fits_below args.height (args.height + 1) (omega arith))))))
-      (λ second. keep_bind (further_grows _ below (more (one first) second)) (λ args le. keep_then (λ _. keep_then (λ long.
+      (λ args. keep_then (λ _. keep_then (λ long. keep_pure _ (fits_below args.height (args.height + 1)
+      (omega arith))))))
+      (λ second. keep_bind (further_grows _ below (more (one first) second)) (λ args le. keep_then (λ _. keep_then
+      (λ long.
       keep_pure _ (fits_below second.height (args.height + 1) (omega arith))))))
 
   parens_pass : (place : At) → Passes (in_parens below place) (in_parens other place) (Low (suc n) (suc m))
@@ -166,7 +172,8 @@ module _ (n m : ℕ) (below other : g (Tall FullTy)) (each : Passes below other 
   part_passes x =
       pass_bind (atom_passes x x.kind)
       (λ atom. pass_many _ _ _ _ (λ left y. constructor_passes (at x) left y)
-      (λ left y. keep_weak (constructor_grows (suc n) (at x) left y) (λ made le. fits_lower left.height made.height (omega arith)))
+      (λ left y. keep_weak (constructor_grows (suc n) (at x) left y) (λ made le. fits_lower left.height made.height
+      (omega arith)))
       atom)
       (λ atom. keep_weak (applied_grows (suc n) (at x) atom) (λ made le. fits_lower atom.height made.height le))
 
@@ -187,8 +194,10 @@ module _ (n m : ℕ) (below other : g (Tall FullTy)) (each : Passes below other 
       fits_room first.height made.height le room))
       (pass_bind parts
       (λ second. pass_first (pass_many (λ _ x. is_star x) _ _ (Low n m)
-      (λ found x. pass_first parts (λ next. keep_pure _ (fits_lower next.height (max found.height next.height) (omega arith))))
-      (λ found x. keep_then (λ next. keep_pure _ (fits_lower found.height (max found.height next.height) (omega arith))))
+      (λ found x. pass_first parts (λ next. keep_pure _ (fits_lower next.height (max found.height next.height)
+      (omega arith))))
+      (λ found x. keep_then (λ next. keep_pure _ (fits_lower found.height (max found.height next.height)
+      (omega arith))))
       (more (one first) second))
       (λ all. keep_pure _ (fits_below all.height (all.height + 1) (omega arith))))
       (λ second. keep_bind (keep_many {P = λ (all : Tall (List FullTy)). second.height ≤ all.height}
@@ -204,16 +213,26 @@ record LevelPasses (n m : ℕ) : Type 0 where
 levels_pass : (n m : ℕ) → LevelPasses n m
 unfolding ty_level ty_after
 levels_pass zero m =
-    record { ty = pass_none (keep_on (λ _. keep_none) keep_refuse); part = pass_none (keep_on (λ _. keep_none) keep_refuse) }
-levels_pass (suc n) zero = record { ty = pass_high (λ (made : Tall FullTy). made.height) (ty_some (suc n)); part = pass_high (λ (made : Tall FullTy). made.height) (tys_some (suc n)) }
+    record {
+      ty = pass_none (keep_on (λ _. keep_none) keep_refuse);
+      part = pass_none (keep_on
+          (λ _. keep_none) keep_refuse);
+    }
+levels_pass (suc n) zero = record {
+  ty = pass_high (λ (made : Tall FullTy). made.height) (ty_some
+      (suc n));
+  part = pass_high (λ (made : Tall FullTy). made.height) (tys_some (suc n));
+}
 levels_pass (suc n) (suc m) =
     let below = levels_pass n m in
     record {
       ty = pass_on (λ x. pass_bind (part_passes n m (ty_level n).ty (ty_level m).ty below.ty x)
           (λ first. pass_bind
-          (tuple_passes n m (ty_level n).ty (ty_level m).ty below.ty (ty_level n).part (ty_level m).part below.part (at x) first)
+          (tuple_passes n m (ty_level n).ty (ty_level m).ty below.ty (ty_level n).part (ty_level m).part below.part
+          (at x) first)
           (λ left. arrow_passes n m (ty_level n).ty (ty_level m).ty below.ty (at x) left)
-          (λ left. keep_weak (arrow_grows (ty_level n).ty (suc n) (at x) left) (λ made le. fits_lower left.height made.height le)))
+          (λ left. keep_weak (arrow_grows (ty_level n).ty (suc n) (at x) left)
+          (λ made le. fits_lower left.height made.height le)))
           (λ first. keep_bind (tuple_grows (suc n) (ty_level n).part (at x) first) (λ left le.
           keep_weak (arrow_grows (ty_level n).ty (suc n) (at x) left) (λ made less.
           fits_lower first.height made.height (omega arith))))) pass_same;

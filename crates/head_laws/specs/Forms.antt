@@ -8,7 +8,7 @@
 -- In the first form a vid that is infix has `op` before it; in the other two the vid is infix, and the parentheses may
 -- be dropped where a `:` or a `=` stands behind the second pattern. Each form is a relation between lexemes, the lexeme
 -- behind them if there is one, and the tree that they are. Nothing here says how a reader tells the forms apart.
-use Rattle.std.specs.Prelude.{◌≡◌, ◌⊎◌, ◌<◌, ℕ, Option, Some, None, List, [], ◌∷◌, ◌++◌, length, Bool, true, false, is_some}
+use Rattle.std.specs.Prelude.{◌≡◌, ◌⊎◌, ◌<◌, ℕ, Option, Some, List, [], ◌∷◌, ◌++◌, length, Bool, true, false, is_some}
 use Rattle.grammars.specs.Grammar.{Phrase, head_or, ◌>>=◌}
 use Rattle.sml_lexer.specs.declared.lexeme.Lexeme.{Lexeme}
 use Rattle.sml_trees.specs.declared.full_exp.FullHead.{FullHead}
@@ -40,7 +40,8 @@ IsAtpat most fs lexemes next pat = IsTree (atpat fs most) lexemes next pat
 abbrev pub AreAtpats : ℕ → Fixities → List Lexeme → Option Lexeme → List FullPat → Type 0
 AreAtpats most fs lexemes next [] = lexemes ≡ []
 AreAtpats most fs lexemes next (pat ∷ pats) =
-    (ys zs : List Lexeme) × (lexemes ≡ ys ++ zs) × IsAtpat most fs ys (head_or zs next) pat × AreAtpats most fs zs next pats
+    (ys zs : List Lexeme) × (lexemes ≡ ys ++ zs) × IsAtpat most fs ys (head_or zs next) pat
+    × AreAtpats most fs zs next pats
 
 -- vid: a name without structures before it
 abbrev pub IsVid : Lexeme → Name → Type 0
@@ -73,15 +74,17 @@ IsInfix most fs lexemes next left called right =
 -- "(" atpat vid atpat ")" { atpat }
 abbrev pub IsParenInfix : ℕ → Fixities → List Lexeme → Option Lexeme → FullPat → Name → FullPat → List FullPat → Type 0
 IsParenInfix most fs lexemes next left called right args =
-    (opening : Lexeme) × (ys : List Lexeme) × (closing : Lexeme) × (zs : List Lexeme) × (lexemes ≡ opening ∷ (ys ++ closing ∷ zs))
-    × (is w.Open opening ≡ true) × IsInfix most fs ys (Some closing) left called right × (is w.Close closing ≡ true)
+    (opening : Lexeme) × (ys : List Lexeme) × (closing : Lexeme) × (zs : List Lexeme)
+    × (lexemes ≡ opening ∷ (ys ++ closing ∷ zs)) × (is w.Open opening ≡ true)
+    × IsInfix most fs ys (Some closing) left called right × (is w.Close closing ≡ true)
     × AreAtpats most fs zs next args
 
 -- a head whose patterns nest at most so many levels each: a head is no level itself
 abbrev pub IsHead : ℕ → Fixities → List Lexeme → Option Lexeme → FullHead → Type 0
 IsHead most fs lexemes next (h.Prefix called args) = IsPrefix most fs lexemes next called args
 IsHead most fs lexemes next (h.Infix left called right) = IsInfix most fs lexemes next left called right
-IsHead most fs lexemes next (h.ParenInfix left called right args) = IsParenInfix most fs lexemes next left called right args
+IsHead most fs lexemes next (h.ParenInfix left called right args) =
+    IsParenInfix most fs lexemes next left called right args
 
 -- ---- what stands around a head
 

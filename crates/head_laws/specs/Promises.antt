@@ -6,8 +6,8 @@ use Rattle.infix_names.specs.Fixities.{Fixities}
 use Rattle.clause_heads.specs.declared.heads.Wanted.{Wanted}
 use Rattle.head_laws.specs.Forms.{IsTree, IsHead, IsAsked, AsksForSome, IsBehindHead, head}
 
--- Before a `:` or a `=` exactly those lexemes are read as a head which are of one of the three forms, with the tree that
--- the form says, and are what the clauses before ask for.
+-- Before a `:` or a `=` exactly those lexemes are read as a head which are of one of the three forms, with the tree
+-- that the form says, and are what the clauses before ask for.
 abbrev pub HeadsAreOfTheForms : Type 0
 HeadsAreOfTheForms =
     (most : ℕ) (infixes : Fixities) (wanted : Wanted) (lexemes : List Lexeme) (next : Lexeme) (made : FullHead)
