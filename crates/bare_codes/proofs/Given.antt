@@ -1,0 +1,37 @@
+-- What a unit becomes is low and plain.
+use Rattle.std.proofs.Common.{◌≡◌, ℕ, ◌≤◌, nat_lt, List, Option, Some, None, Ok, refl, subst, inl, inr}
+use Rattle.std.proofs.lemmas.Bool.{cases_Bool, ltb-false}
+use Rattle.cm_base.specs.Diags.{whole_file}
+use Rattle.cm_base.specs.declared.diag.Diag.{Diag}
+use Rattle.sml_trees.specs.declared.name.At.{At}
+use Rattle.sml_trees.specs.declared.unit.BareUnit.{BareUnit}
+use Rattle.bare_forms.specs.Units.{bare_of}
+use Rattle.repeated_names.specs.RepeatedUnits.{first_repeat}
+use Rattle.tree_heights.specs.Heights.{unit_height}
+use Rattle.derived_forms.specs.Bare.{refusal, or_refused}
+use Rattle.code_laws.specs.Plain.{IsPlain}
+use Rattle.code_laws.proofs.Units.{low_units}
+use Rattle.body_laws.proofs.Units.{sequences_of_bare}
+use Rattle.bare_codes.specs.Promises.{BareUnitsHaveCodes}
+
+-- what is given isn't refused
+given : (refused : Option Diag) (made bare : BareUnit) → or_refused refused made ≡ Ok bare
+    → (refused ≡ None) × (made ≡ bare)
+given None made bare is = (refl, cc)
+given (Some diag) made bare is = absurd (cc)
+
+-- what isn't refused has at most 1,024 levels
+low : (file : List ℕ) (height : ℕ) (twice : Option At) → refusal file height twice ≡ None → height ≤ 1024
+low file height twice none =
+    elim (cases_Bool (nat_lt 1024 height)) [
+      | inl e ↦ let refused : Some (whole_file 12 file) ≡ None = rw e at none in absurd (cc)
+      | inr e ↦ ltb-false 1024 height e
+    ]
+
+pub given_units : BareUnitsHaveCodes
+given_units unit bare is fits small =
+    let height = unit_height (bare_of unit) in
+    let both = given (refusal unit.file height (first_repeat unit)) (bare_of unit) bare is in
+    let under : height ≤ 1024 = low unit.file height (first_repeat unit) both.0 in
+    low_units bare (subst IsPlain both.1 (sequences_of_bare unit)) fits
+    (subst (λ (b : BareUnit). unit_height b ≤ 1024) both.1 under) small

@@ -1,0 +1,4 @@
+pub mod Signatures
+pub mod Nodes
+pub mod Phrases
+pub mod Units
