@@ -17,8 +17,6 @@ use Rattle.cm_base.specs.declared.fault.Fault.TheVariants as fault
 use Rattle.cm_base.specs.declared.diag.Diag.{Diag}
 use Rattle.cm_base.specs.declared.record.Skeleton.{Skeleton}
 use Rattle.cm_base.specs.declared.record.Spot.{Spot}
-use Rattle.cm_base.specs.declared.record.WantedName.{WantedName}
-use Rattle.cm_base.specs.declared.record.PlannedUnit.{PlannedUnit}
 
 -- a read: whether the file is there, and its first bytes; a failed read may leave anything in the buffer,
 -- and want of memory leaves it as it was
@@ -105,16 +103,3 @@ pub record IsSmallSkeleton (s : Skeleton) : Type 0 where
 abbrev pub GivesSmall : Result Skeleton CompileFault → Type 0
 GivesSmall (Ok s) = IsSmallSkeleton s
 GivesSmall (Err fault) = Unit {0}
-
--- the sizes of a unit that is to be built: what its skeleton holds is small, each name that it wants is one that its
--- skeleton uses, and its texts have fewer than 2^32 bytes
-pub record IsSmallWanted (w : WantedName) : Type 0 where
-  pub name : length w.name.name ≤ 255
-  pub provider : length w.provider < 2 ^ 32
-
-pub record IsSmallPlanned (p : PlannedUnit) : Type 0 where
-  pub unit : length p.unit < 2 ^ 32
-  pub source : length p.source < 2 ^ 32
-  pub skeleton : IsSmallSkeleton p.skeleton
-  pub count : length p.wanted ≤ 1048576
-  pub wanted : All IsSmallWanted p.wanted
