@@ -27,7 +27,7 @@ use Rattle.interface_restoring.specs.declared.tops.UnitTables.{UnitTables}
 use Rattle.interface_restoring.specs.Tops.{AreUnitTables, unit_of, unit_item}
 use Rattle.import_reading.specs.declared.read.ReadImports.{ReadImports}
 use Rattle.import_reading.specs.Placed.{with_place}
-use Rattle.import_reading.specs.Reading.{RestoresTop, FindsUsable, IsUsable, AreRead, IsReadToo, ReadsOne, AreAllRead, ReadsAll, IsTopRead, ReadsTop, ReadsImports}
+use Rattle.import_reading.specs.Reading.{RestoresTop, FindsUsable, IsUsable, AreRead, IsReadToo, ReadsOne, AreAllRead, ReadsAll, IsTopRead, ReadsTop}
 use Rattle.import_reading.proofs.Placing.{there_later, unit_later, set_there, set_is}
 
 -- ---- nothing is read yet
@@ -63,11 +63,9 @@ of_top unit given made top b e u =
     ∙ ap (λ c. imported_or unit given (usable_if c top) made) u
 
 -- the interface is none
-pub none_read : (unit : List ℕ) (given : Given) (made : Imports) (items : List Item) (read : ReadImports) (new : Graph)
-    (found : Option TopId) → RestoresTop given.import.provider given.interface new found
-    → ((id : TopId) → found ≡ Some id → ⊥) → ReadsOne unit given made items read false
-none_read unit given made items read new (Some id) h never = absurd (never id refl)
-none_read unit given made items read new None h never =
+pub none_read : (unit : List ℕ) (given : Given) (made : Imports) (items : List Item) (read : ReadImports)
+    → interface_top given.import.provider given.interface ≡ None → ReadsOne unit given made items read false
+none_read unit given made items read h =
     ap (λ (z : Option Top). imported_or unit given (usable_of unit made.names given.import.name z) made) h
 
 -- it can't be used
@@ -195,16 +193,3 @@ top_read unit imports old new read tables p h t a = record {
   there = subst IsTop (sym a.stands) tt;
   top = ap as_top a.stands ∙ ap (unit_of old.items) t ∙ sym h.are.top;
 }
-
-pub imports_read : (unit : List ℕ) (imports : List Given) (old new : Graph) (id : TopId)
-    → ReadsTop unit imports new (Ok id) → Extends old new → ReadsImports unit imports old new (Ok id)
-imports_read unit imports old new id h e = record {
-  made = h.made;
-  is = h.is;
-  gives = record { there = h.there; stands = h.top; keeps = keeps old new e; home = e.home; made = e.made };
-}
-
-pub imports_refused : (unit : List ℕ) (imports : List Given) (old mid new : Graph) (why : Fault)
-    → ReadsTop unit imports mid (Err why) → new ≡ old → ReadsImports unit imports old new (Err why)
-imports_refused unit imports old mid new (fault.Diag diag) h e = (e, h)
-imports_refused unit imports old mid new fault.NoMemory h e = e

@@ -1,3 +1,4 @@
 pub mod Placing
 pub mod Using
 pub mod Following
+pub mod Standing

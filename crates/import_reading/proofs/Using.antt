@@ -26,7 +26,7 @@ use Rattle.imported_interfaces.specs.Known.{fits, noted_all, Knows}
 use Rattle.imported_interfaces.proofs.Fits.{known_names_fit}
 use Rattle.interface_restoring.specs.Restored.{Restores}
 use Rattle.import_reading.specs.Placed.{FindsUnder, FindsWanted}
-use Rattle.import_reading.specs.Reading.{RestoresTop, Notes, FindsUsable, IsUsable}
+use Rattle.import_reading.specs.Reading.{RestoresTop, NotesNames, Notes, FindsUsable, IsUsable}
 
 -- ---- bytes that are an interface, or none
 
@@ -122,20 +122,29 @@ place_missing items unit wanted top read old new found e h never =
     subst (λ (z : Top). FindsUsable items unit wanted z old new None) (sym e)
     (not_found items unit wanted read old new found h never)
 
-pub names_missing : (items : List Item) (unit : List ℕ) (wanted : ModName) (top read : Top) (old new : List TyName)
-    (b : Bool) → top ≡ read → Notes unit read old new b → b ≡ false → FindsUsable items unit wanted top old new None
-names_missing items unit wanted top read old new b e h is =
-    subst (λ (z : Top). FindsUsable items unit wanted z old new None) (sym e)
-    (not_fitting items unit wanted read old new (noted_as unit read old new b false h is))
+pub names_missing : (items : List Item) (unit : List ℕ) (wanted : ModName) (top : Top) (names old new : List TyName)
+    (b : Bool) → names ≡ once (names_in_top top) → NotesNames unit names old new b → b ≡ false
+    → FindsUsable items unit wanted top old new None
+names_missing items unit wanted top names old new b e h is =
+    not_fitting items unit wanted top old new
+    (noted_as unit top old new b false (subst (λ (z : List TyName). NotesNames unit z old new b) e h) is)
 
-pub all_found : (items : List Item) (unit : List ℕ) (wanted : ModName) (top read : Top) (old new : List TyName)
+pub all_found : (items : List Item) (unit : List ℕ) (wanted : ModName) (top read : Top) (names old new : List TyName)
     (found : Option ℕ) (p : ℕ) (b : Bool) → top ≡ read → FindsWanted items wanted read found → found ≡ Some p
-    → Notes unit read old new b → b ≡ true → FindsUsable items unit wanted top old new (Some p)
-all_found items unit wanted top read old new found p b e f fp h is =
-    subst (λ (z : Top). FindsUsable items unit wanted z old new (Some p)) (sym e)
-    (fitting items unit wanted read old new p (wanted_at items wanted read found p f fp)
-    (noted_as unit read old new b true h is))
+    → names ≡ once (names_in_top top) → NotesNames unit names old new b → b ≡ true
+    → FindsUsable items unit wanted top old new (Some p)
+all_found items unit wanted top read names old new found p b e f fp n h is =
+    fitting items unit wanted top old new p
+    (subst (λ (z : Top). FindsWanted items wanted z (Some p)) (sym e) (wanted_at items wanted read found p f fp))
+    (noted_as unit top old new b true (subst (λ (z : List TyName). NotesNames unit z old new b) n h) is)
+
+-- ---- the top that the bytes are the interface of
 
 pub top_there : (home bytes : List ℕ) (new : Graph) (found : Option TopId) (id : TopId)
     → RestoresTop home bytes new found → found ≡ Some id → HasTop new id
 top_there home bytes new found id h e = (subst (RestoresTop home bytes new) e h).0
+
+pub no_top_there : (home bytes : List ℕ) (new : Graph) (found : Option TopId) → RestoresTop home bytes new found
+    → ((id : TopId) → found ≡ Some id → ⊥) → interface_top home bytes ≡ None
+no_top_there home bytes new None h never = h
+no_top_there home bytes new (Some id) h never = absurd (never id refl)

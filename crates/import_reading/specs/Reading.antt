@@ -9,7 +9,7 @@ use Rattle.semantic_objects.specs.declared.name.TyName.{TyName}
 use Rattle.semantic_objects.specs.Environments.{Top}
 use Rattle.sml_modules.specs.declared.id.TopId.{TopId}
 use Rattle.sml_modules.specs.Items.{Item}
-use Rattle.sml_modules.specs.Graphs.{Graph, top_at, HasTop, GivesTop}
+use Rattle.sml_modules.specs.Graphs.{Graph, top_at, HasTop}
 use Rattle.realisation.specs.Names.{names_in_top, once}
 use Rattle.interface_format.specs.Rules.{Agree}
 use Rattle.interface_tops.specs.Tops.{interface_top}
@@ -20,33 +20,21 @@ use Rattle.interface_restoring.specs.Tops.{AreUnitTables, unit_of}
 use Rattle.import_reading.specs.declared.read.ReadImports.{ReadImports}
 use Rattle.import_reading.specs.Placed.{FindsWanted}
 
--- ---- the call
-
--- this is what the unit sees of its imports, and it stands in the graph
-pub record AreImported (unit : List ℕ) (imports : List Given) (old new : Graph) (id : TopId) : Type 0 where
-  pub made : Imports
-  pub is : imported unit imports ≡ Ok made
-  pub gives : GivesTop old new made.top id
-
--- what the unit sees of its imports, or 50 for the first that can't be used. A refusal leaves the graph as it was, and
--- want of memory is free
-abbrev pub ReadsImports : List ℕ → List Given → Graph → Graph → Result TopId Fault → Type 0
-ReadsImports unit imports old new (Ok id) = AreImported unit imports old new id
-ReadsImports unit imports old new (Err (fault.Diag diag)) = (new ≡ old) × (imported unit imports ≡ Err diag)
-ReadsImports unit imports old new (Err fault.NoMemory) = new ≡ old
-
--- ---- its steps
+-- ---- the steps
 
 -- the bytes are the interface of a top of the graph, or of none
 abbrev pub RestoresTop : List ℕ → List ℕ → Graph → Option TopId → Type 0
 RestoresTop home bytes new None = interface_top home bytes ≡ None
 RestoresTop home bytes new (Some id) = HasTop new id × (interface_top home bytes ≡ Some (top_at new id))
 
--- the names of a top fit to those that are known, and are known then; or they don't fit
+-- names fit to those that are known, and are known then; or they don't fit
+abbrev pub NotesNames : List ℕ → List TyName → List TyName → List TyName → Bool → Type 0
+NotesNames unit names old new true = (list_all (fits old unit) names ≡ true) × (new ≡ noted_all old names)
+NotesNames unit names old new false = list_all (fits old unit) names ≡ false
+
+-- so it is with the names of a top
 abbrev pub Notes : List ℕ → Top → List TyName → List TyName → Bool → Type 0
-Notes unit top old new true =
-    (list_all (fits old unit) (once (names_in_top top)) ≡ true) × (new ≡ noted_all old (once (names_in_top top)))
-Notes unit top old new false = list_all (fits old unit) (once (names_in_top top)) ≡ false
+Notes unit top old new fit = NotesNames unit (once (names_in_top top)) old new fit
 
 -- an interface can be used after those whose names are known, and has the wanted name at a place
 pub record IsUsable (items : List Item) (unit : List ℕ) (wanted : ModName) (top : Top) (old new : List TyName) (p : ℕ)
@@ -89,7 +77,8 @@ ReadsAll unit imports items (Ok read) = AreAllRead unit imports items read
 ReadsAll unit imports items (Err (fault.Diag diag)) = imported unit imports ≡ Err diag
 ReadsAll unit imports items (Err fault.NoMemory) = Unit {0}
 
--- .. as a top of the graph
+-- ---- the call: what the unit sees of its imports stands in the graph as a top; or it is 50 for the first import that
+-- can't be used. Nothing is said for want of memory
 pub record IsTopRead (unit : List ℕ) (imports : List Given) (new : Graph) (id : TopId) : Type 0 where
   pub made : Imports
   pub is : imported unit imports ≡ Ok made

@@ -13,7 +13,7 @@ use interface_restoring::restore;
 use sml_modules::{EnvGraph, EnvId, TopId};
 
 /// The top that an import's interface is one of, if it is an interface of its provider.
-pub(crate) fn restored(graph: &mut EnvGraph, given: &Given) -> Result<Option<TopId>, NoMemory>
+pub(crate) fn restored_top(graph: &mut EnvGraph, given: &Given) -> Result<Option<TopId>, NoMemory>
     ensures extends { Extends graph.old graph.new }
     ensures is { IfOk result (RestoresTop given.now.import.provider given.now.interface graph.new) }
 {

@@ -4,7 +4,7 @@ use crate::hex_words::{bytes_of, digits_line};
 use case_texts::{Scene, line, refusal};
 use cm_base::{Fault, Given, Import, List, ModName, Namespace, NoMemory, Pid, Text};
 use env_pickle::pickle;
-use import_reading::read_imports;
+use import_reading::{RestoredInterfaces, read_imports};
 use sml_modules::EnvGraph;
 use std::alloc::Global;
 
@@ -36,7 +36,8 @@ fn space_of(word: &[u8]) -> Option<Namespace> {
 /// What a unit sees of its imports, as the interface of that.
 fn seen(alloc: Global, unit: &Text, imports: &List<Given>) -> Result<Text, Fault> {
     let mut graph = EnvGraph::new(alloc)?;
-    let top = read_imports(&mut graph, unit, imports)?;
+    let mut restored = RestoredInterfaces::new(alloc);
+    let top = read_imports(&mut graph, &mut restored, unit, imports)?;
     pickle(&graph, top, unit)
 }
 

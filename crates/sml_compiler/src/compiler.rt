@@ -6,13 +6,15 @@ use crate::fault::told;
 use crate::front;
 use cm_base::{CompileFault, CompileInput, Compiled, Compiler, List, NoMemory, Skeleton, Text};
 use std::alloc::Global;
-use unit_compiling::compile_unit;
+use unit_compiling::UnitCompiler;
 
-/// A compiler of the whole language. It keeps the units of its calls, in order, and nothing else.
-#[derive(Debug, Drop)]
+/// A compiler of the whole language. It keeps the units of its calls, in order, and what it read of interfaces and of
+/// sources, on which no answer hangs.
+#[derive(Drop)]
 pub struct SmlCompiler {
     pub asked_units: List<Text>,
     pub asked_sources: List<Text>,
+    units: UnitCompiler,
 }
 
 /// Adds a unit at the end of what was asked.
@@ -30,11 +32,14 @@ fn ask(asked: &mut List<Text>, unit: &Text) -> Result<(), NoMemory>
 impl SmlCompiler {
     /// A compiler that was asked nothing yet.
     pub fn new(alloc: Global) -> Result<SmlCompiler, NoMemory>
-        ensures { IfOk result (λ compiler. compiler ≡ record { asked_units = []; asked_sources = [] }) }
+        ensures units { IfOk result (λ compiler. compiler.asked_units ≡ []) }
+        ensures sources { IfOk result (λ compiler. compiler.asked_sources ≡ []) }
     {
+        let units = UnitCompiler::new(alloc)?;
         Ok(SmlCompiler {
             asked_units: List::new(alloc),
             asked_sources: List::new(alloc),
+            units,
         })
     }
 
@@ -71,12 +76,12 @@ impl Compiler for SmlCompiler {
         source: &Text,
     ) -> Result<Skeleton, CompileFault> {
         ask(&mut self.asked_sources, unit)?;
-        front::skeleton(alloc, unit, source)
+        front::skeleton(alloc, &mut self.units, unit, source)
     }
 
-    fn compile(&mut self, alloc: Global, input: &CompileInput) -> Result<Compiled, CompileFault> {
+    fn compile(&mut self, _alloc: Global, input: &CompileInput) -> Result<Compiled, CompileFault> {
         ask(&mut self.asked_units, &input.unit)?;
-        match compile_unit(alloc, input) {
+        match self.units.compile(input) {
             Ok(made) => Ok(made),
             Err(fault) => Err(told(fault)),
         }

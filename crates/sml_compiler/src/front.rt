@@ -1,15 +1,16 @@
 //! From a source to its skeleton, or to its first diagnostic.
 
-ghost use Rattle.std.specs.Prelude.{◌≡◌, ◌<◌, ◌≤◌, ◌^◌, length, IfOk, IsTrue, All};
+ghost use Rattle.std.specs.Prelude.{◌≡◌, ◌<◌, ◌≤◌, ◌^◌, length, IfOk, IsTrue, All, Ok};
 ghost use Rattle.cm_base.specs.Calls.{Answers, IsSmallSpot, IsSmallSkeleton, GivesSmall};
 ghost use Rattle.skeletons.specs.Skeletons.{skeleton_of};
+ghost use Rattle.unit_compiling.specs.Compiled.{bare_of_source};
 ghost use Rattle.sml_compiler.specs.Front.{skeleton_definition};
 
 use crate::fault::told;
 use cm_base::{CompileFault, List, Need, NoMemory, Skeleton, Spot, Text};
 use sml_trees::BareUnit;
 use std::alloc::Global;
-use unit_compiling::bare_of_source;
+use unit_compiling::{UnitCompiler, bare_of_source};
 
 /// The greatest number of names in a list of a skeleton.
 const MAX_NAMES: usize = 1_048_576;
@@ -77,15 +78,37 @@ fn small_skeleton(alloc: Global, unit: &BareUnit) -> Result<Skeleton, NoMemory>
     }
 }
 
+/// The skeleton of the bare unit of a source, which is kept until the unit is compiled.
+fn skeleton_of_bare(
+    alloc: Global,
+    units: &mut UnitCompiler,
+    unit: &Text,
+    source: &Text,
+    bare: BareUnit,
+) -> Result<Skeleton, CompileFault>
+    requires { bare_of_source unit.now source.now ≡ Ok bare }
+    ensures answer { Answers result (skeleton_definition unit.now source.now) }
+    ensures small { GivesSmall result }
+{
+    let skeleton = small_skeleton(alloc, &bare)?;
+    units.keep(unit, source, bare)?;
+    Ok(skeleton)
+}
+
 /// The skeleton of a source of the whole language. It refuses with the first of these that there is: 12 for a source
 /// of more than 1,048,576 bytes; the lexer's diagnostic, which is 20, 39, or 12 for a name of more than 255 bytes; the
 /// parser's, which is 20, 21, or 12 for too many levels; and 40 or 12 for the bare tree.
-pub fn skeleton(alloc: Global, unit: &Text, source: &Text) -> Result<Skeleton, CompileFault>
+pub fn skeleton(
+    alloc: Global,
+    units: &mut UnitCompiler,
+    unit: &Text,
+    source: &Text,
+) -> Result<Skeleton, CompileFault>
     ensures answer { Answers result (skeleton_definition unit.now source.now) }
     ensures small { GivesSmall result }
 {
     match bare_of_source(alloc, unit, source) {
-        Ok(bare) => Ok(small_skeleton(alloc, &bare)?),
+        Ok(bare) => skeleton_of_bare(alloc, units, unit, source, bare),
         Err(fault) => Err(told(fault)),
     }
 }

@@ -1,3 +1,4 @@
 pub mod Compiled
 pub mod Promises
 pub mod Steps
+pub mod Kept

@@ -2,20 +2,19 @@
 
 ghost use Rattle.std.specs.Prelude.{◌≡◌, []};
 ghost use Rattle.cm_base.specs.Calls.{Gives};
-ghost use Rattle.sml_modules.specs.Graphs.{top_at, HasTop};
-ghost use Rattle.unit_compiling.specs.Compiled.{defined_by, compiled_top, compiled_bare, compiled_of};
+ghost use Rattle.sml_modules.specs.Graphs.{top_at, HasTop, Keeps};
+ghost use Rattle.import_reading.specs.Restored.{AreRestored};
+ghost use Rattle.unit_compiling.specs.Compiled.{defined_by, compiled_top, compiled_bare};
 ghost use Rattle.unit_compiling.specs.Steps.{Defines};
 
-use crate::source::bare_of_source;
 use cm_base::{CompileInput, Compiled, Diag, Fault, Options, Text};
 use env_pickle::pickle;
-use import_reading::read_imports;
+use import_reading::{RestoredInterfaces, read_imports};
 use module_elab::elab_unit;
 use sml_modules::{EnvGraph, TopId};
 use sml_syntax::write_code;
 use sml_trees::BareUnit;
 use sml_types::TypeTable;
-use std::alloc::Global;
 
 /// The greatest length of a code, in bytes.
 const CODE_LIMIT: usize = 8_388_608;
@@ -30,7 +29,8 @@ fn define(
 ) -> Result<TopId, Fault>
     requires given { HasTop graph.old given }
     requires fresh { graph.old.made ≡ [] }
-    ensures { Defines graph.new (defined_by graph.old.home options (top_at graph.old given) bare.now) result }
+    ensures defines { Defines graph.new (defined_by graph.old.home options (top_at graph.old given) bare.now) result }
+    ensures keeps { Keeps graph.old graph.new }
 {
     let mut table = TypeTable::new(graph.alloc())?;
     elab_unit(graph, &mut table, bare, given, options)
@@ -56,40 +56,38 @@ fn write_compiled(
     Ok(Compiled { interface, code })
 }
 
-/// The interface and the code of a bare unit, in a graph that the unit has entered.
+/// The interface and the code of a bare unit, in a graph that the unit has entered and in which these interfaces stand.
 fn compile_in(
     graph: &mut EnvGraph,
+    restored: &mut RestoredInterfaces,
     input: &CompileInput,
     bare: &BareUnit,
 ) -> Result<Compiled, Fault>
     requires home { graph.old.home ≡ input.now.unit }
     requires fresh { graph.old.made ≡ [] }
-    ensures { Gives result (compiled_bare input.now bare.now) }
+    requires restored { AreRestored graph.old.items restored.old }
+    ensures restored { AreRestored graph.new.items restored.new }
+    ensures gives { Gives result (compiled_bare input.now bare.now) }
 {
-    let given = read_imports(graph, &input.unit, &input.imports)?;
+    let given = read_imports(graph, restored, &input.unit, &input.imports)?;
     let top = define(graph, bare, given, input.options)?;
     write_compiled(graph, top, &input.unit, bare)
 }
 
-/// The interface and the code of a bare unit. Nothing of an earlier unit is there: the graph and the table are new, and
-/// the interfaces of the imports are read again.
-fn compile_bare(alloc: Global, input: &CompileInput, bare: &BareUnit) -> Result<Compiled, Fault>
-    ensures { Gives result (compiled_bare input.now bare.now) }
+/// The interface and the code of a bare unit. The interfaces of its imports stand in the graph afterwards, and nothing of
+/// the unit itself does; the table of its types is new.
+pub(crate) fn compile_bare(
+    graph: &mut EnvGraph,
+    restored: &mut RestoredInterfaces,
+    input: &CompileInput,
+    bare: &BareUnit,
+) -> Result<Compiled, Fault>
+    requires { AreRestored graph.old.items restored.old }
+    ensures restored { AreRestored graph.new.items restored.new }
+    ensures gives { Gives result (compiled_bare input.now bare.now) }
 {
-    let mut graph = EnvGraph::new(alloc)?;
     graph.enter(&input.unit)?;
-    compile_in(&mut graph, input, bare)
-}
-
-/// The interface and the code of a unit, or the first of these that there is: the first diagnostic of its source; 50 at
-/// the unit as a whole, with the provider's name, for the first import whose interface can't be used; the first
-/// diagnostic of its elaboration, which is 30 to 38 or 40 to 42; and 12 at the unit as a whole, where the interface has
-/// more than 1,048,576 bytes or the code more than 8,388,608. The answer hangs on the input alone.
-pub fn compile_unit(alloc: Global, input: &CompileInput) -> Result<Compiled, Fault>
-    ensures { Gives result (compiled_of input.now) }
-{
-    match bare_of_source(alloc, &input.unit, &input.source) {
-        Ok(bare) => compile_bare(alloc, input, &bare),
-        Err(fault) => Err(fault),
-    }
+    let result = compile_in(graph, restored, input, bare);
+    graph.cut(restored.nodes);
+    result
 }

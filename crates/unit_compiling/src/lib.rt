@@ -1,10 +1,12 @@
 //! Units are compiled: a source becomes its interface and its code, or its first diagnostic.
 #![tactic(auto)]
 
+mod compiler;
 mod compiling;
 mod laws;
 mod source;
+mod sources;
 
-pub use compiling::compile_unit;
+pub use compiler::UnitCompiler;
 pub use laws::compiled_units_are_small;
 pub use source::bare_of_source;

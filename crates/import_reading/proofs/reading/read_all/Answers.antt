@@ -10,16 +10,18 @@ use Rattle.import_reading.proofs.reading.read_all.Goals as goal
 pub loop-given-init : goal.loop-given-init
 loop-given-init c = record {
   extends = extends_self c.args.graph.now;
+  restored = c.requires;
   reads = record { made = no_imports; is = refl; are = c.in_ok-read.ensures c.args.graph.now.items };
 }
 
-pub read_one-requires : goal.read_one-requires
-read_one-requires c = c.loop-given.invariant.reads.are.kept
+pub read_one-requires-clause-read : goal.read_one-requires-clause-read
+read_one-requires-clause-read c = c.loop-given.invariant.reads.are.kept
 
 pub loop-given-preserved : goal.loop-given-preserved
 loop-given-preserved c = record {
   extends = extends_then c.args.graph.now c.loop-given.graph c.read_one.new.graph c.loop-given.invariant.extends
       c.read_one.ensures.extends;
+  restored = c.read_one.ensures.restored;
   reads = all_more c.args.unit.now c.args.imports.now c.loop-given.given-index c.given-item.result c.given-item.result
       c.loop-given.graph.items c.read_one.new.graph.items c.loop-given.read c.read_one.new.read
       c.in_ok-read_one.field-0 c.given-item.is c.loop-given-test.true c.loop-given.invariant.reads

@@ -1,22 +1,36 @@
-use Rattle.std.proofs.Common.{◌∙◌, subst, List}
+use Rattle.std.proofs.Common.{refl, subst, List, sym}
 use Rattle.std.specs.Prelude.{Ok, Err}
 use Rattle.cm_base.specs.declared.record.Given.{Given}
-use Rattle.sml_modules.proofs.Keeping.{cut_back}
-use Rattle.import_reading.specs.Reading.{ReadsTop}
-use Rattle.import_reading.proofs.Following.{imports_read, imports_refused}
+use Rattle.sml_modules.proofs.Keeping.{extends_then}
+use Rattle.import_reading.specs.Reading.{ReadsAll}
+use Rattle.import_reading.proofs.Following.{top_read}
+use Rattle.import_reading.proofs.Standing.{are_still}
 use Rattle.import_reading.proofs.reading.read_imports.Goals as goal
 
-pub returns-in-Ok : goal.returns-in-Ok
-returns-in-Ok c =
-    imports_read c.args.unit.now c.args.imports.now c.args.graph.now c.make_imports.new.graph c.in-Ok.top
-    (subst (λ (z : List Given). ReadsTop c.args.unit.now z c.make_imports.new.graph (Ok c.in-Ok.top)) c.as_slice.ensures
-    c.in-Ok.ensures.reads) c.make_imports.ensures.extends
+pub add_unit-requires : goal.add_unit-requires
+add_unit-requires c = c.in_ok-read.ensures.reads.are.there
 
-pub returns-in-Err : goal.returns-in-Err
-returns-in-Err c =
-    imports_refused c.args.unit.now c.args.imports.now c.args.graph.now c.make_imports.new.graph c.cut.new.self
-    c.in-Err.fault
-    (subst (λ (z : List Given). ReadsTop c.args.unit.now z c.make_imports.new.graph (Err c.in-Err.fault))
-    c.as_slice.ensures c.in-Err.ensures.reads)
-    (c.cut.ensures ∙ cut_back c.args.graph.now c.make_imports.new.graph c.len-before.result
-    c.make_imports.ensures.extends c.len-before.ensures)
+pub returns-clause-extends : goal.returns-clause-extends
+returns-clause-extends c =
+    extends_then c.args.graph.now c.read_all.new.graph c.add_unit.new.graph c.read_all.ensures.extends
+    c.add_unit.ensures.extends
+
+pub returns-clause-restored : goal.returns-clause-restored
+returns-clause-restored c =
+    are_still c.read_all.new.graph c.add_unit.new.graph c.read_all.new.restored c.add_unit.ensures.extends
+    c.read_all.ensures.restored
+
+pub returns-clause-reads : goal.returns-clause-reads
+returns-clause-reads c =
+    top_read c.args.unit.now c.args.imports.now c.read_all.new.graph c.add_unit.new.graph c.in_ok-read.read
+    c.in_ok-read.read.tables c.in_ok-place.place c.in_ok-read.ensures.reads refl c.in_ok-place.ensures.adds
+
+pub returns-in_err-place-clause-extends : goal.returns-in_err-place-clause-extends
+returns-in_err-place-clause-extends c =
+    extends_then c.args.graph.now c.read_all.new.graph c.add_unit.new.graph c.read_all.ensures.extends
+    c.add_unit.ensures.extends
+
+pub returns-in_err-place-clause-restored : goal.returns-in_err-place-clause-restored
+returns-in_err-place-clause-restored c =
+    are_still c.read_all.new.graph c.add_unit.new.graph c.read_all.new.restored c.add_unit.ensures.extends
+    c.read_all.ensures.restored

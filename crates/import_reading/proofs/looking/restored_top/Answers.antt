@@ -1,5 +1,5 @@
 use Rattle.import_reading.proofs.Using.{top_restored, none_restored}
-use Rattle.import_reading.proofs.looking.restored.Goals as goal
+use Rattle.import_reading.proofs.looking.restored_top.Goals as goal
 
 pub returns-in-Ok-clause-is : goal.returns-in-Ok-clause-is
 returns-in-Ok-clause-is c =
