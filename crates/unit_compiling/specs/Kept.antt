@@ -16,11 +16,11 @@ AreRead sources = (unit : List ℕ) (read : ReadSource) → get (pointwise nat_e
     → bare_of_source unit read.source ≡ Ok read.bare
 
 -- the bare unit is that of a source that was read, and the source is this one
-pub record IsBareOf (read : ReadSource) (source : List ℕ) (bare : BareUnit) : Type 0 where
-  pub source : read.source ≡ source
-  pub bare : read.bare ≡ bare
+pub record IsBareOf (read : ReadSource) (text : List ℕ) (made : BareUnit) : Type 0 where
+  pub source : read.source ≡ text
+  pub bare : read.bare ≡ made
 
 -- what is kept: the interfaces that stand in the graph, and the sources that were read
-pub record IsKept (items : List Item) (restored : RestoredInterfaces) (sources : ReadSources) : Type 0 where
-  pub restored : AreRestored items restored
-  pub sources : AreRead sources
+pub record IsKept (items : List Item) (interfaces : RestoredInterfaces) (waiting : ReadSources) : Type 0 where
+  pub restored : AreRestored items interfaces
+  pub sources : AreRead waiting

@@ -29,11 +29,11 @@ pub struct UnitCompiler {
 }
 
 impl Model for UnitCompiler {
+    ghost use Rattle.unit_compiling.specs.Kept.{IsKept};
+
     ghost Value = { Unit {0} };
 
     ghost view = { λ c. tt };
-
-    ghost use Rattle.unit_compiling.specs.Kept.{IsKept};
 
     ghost invariant = { λ c. IsKept c.graph.items c.restored c.sources };
 }
