@@ -1,24 +1,20 @@
 -- Imports are read one after the other.
-use Rattle.std.proofs.Common.{◌≡◌, ℕ, ◌+◌, ◌<◌, ◌≤◌, refl, sym, ap, subst, ◌∙◌, List, [], ◌∷◌, ◌++◌, length, take, drop, get_or, Some, None, Bool, true, false}
-use Rattle.std.specs.Prelude.{Option, Result, Ok, Err, IsErrAnd}
+use Rattle.std.proofs.Common.{◌≡◌, ℕ, ◌+◌, ◌<◌, refl, sym, ap, subst, ◌∙◌, List, [], ◌∷◌, ◌++◌, length, take, drop, get_or, Some, None, Bool, true, false}
+use Rattle.std.specs.Prelude.{Option, Result, Ok, Err}
 use Rattle.std.proofs.lemmas.List.{take_more, take-append-drop}
 use Rattle.cm_base.specs.declared.diag.Diag.{Diag}
-use Rattle.cm_base.specs.declared.record.ModName.{ModName}
 use Rattle.cm_base.specs.declared.record.Given.{Given}
-use Rattle.cm_base.specs.declared.fault.Fault.{Fault}
-use Rattle.cm_base.specs.declared.fault.Fault.TheVariants as fault
 use Rattle.semantic_objects.specs.declared.name.TyName.{TyName}
 use Rattle.semantic_objects.specs.Environments.{Top}
 use Rattle.sml_modules.specs.declared.id.TopId.{TopId}
 use Rattle.sml_modules.specs.Items.{Item, as_top, IsTop}
-use Rattle.sml_modules.specs.Graphs.{Graph, top_at, HasTop}
+use Rattle.sml_modules.specs.Graphs.{Graph, top_at}
 use Rattle.sml_modules.specs.Adding.{Extends, Adds}
-use Rattle.sml_modules.proofs.Keeping.{keeps, extends_then}
 use Rattle.interface_format.specs.Rules.{Agree}
 use Rattle.interface_tops.specs.Tops.{interface_top}
 use Rattle.interface_tops.proofs.Tops.{have_tops}
 use Rattle.imported_interfaces.specs.declared.known.KnownNames.{KnownNames}
-use Rattle.imported_interfaces.specs.Usable.{written, is_usable, usable_if, usable_of, usable_top}
+use Rattle.imported_interfaces.specs.Usable.{written, is_usable, usable_if, usable_of}
 use Rattle.imported_interfaces.specs.Imported.{Imports, with_import, with_imported, damaged, imported_or, imported_one, then, imported_after, no_imports, imported}
 use Rattle.imported_interfaces.specs.Known.{AreKept, Knows}
 use Rattle.imported_interfaces.proofs.Fits.{known_names_fit}
@@ -27,7 +23,7 @@ use Rattle.interface_restoring.specs.declared.tops.UnitTables.{UnitTables}
 use Rattle.interface_restoring.specs.Tops.{AreUnitTables, unit_of, unit_item}
 use Rattle.import_reading.specs.declared.read.ReadImports.{ReadImports}
 use Rattle.import_reading.specs.Placed.{with_place}
-use Rattle.import_reading.specs.Reading.{RestoresTop, FindsUsable, IsUsable, AreRead, IsReadToo, ReadsOne, AreAllRead, ReadsAll, IsTopRead, ReadsTop}
+use Rattle.import_reading.specs.Reading.{RestoresTop, FindsUsable, IsUsable, AreRead, IsReadToo, ReadsOne, AreAllRead, ReadsTop}
 use Rattle.import_reading.proofs.Placing.{there_later, unit_later, set_there, set_is}
 
 -- ---- nothing is read yet

@@ -1,5 +1,5 @@
 -- Places under names: they are found and set as what stands at them.
-use Rattle.std.proofs.Common.{◌≡◌, ℕ, refl, sym, ap, subst, ◌∙◌, List, [], ◌∷◌, ◌++◌, Some, None}
+use Rattle.std.proofs.Common.{◌≡◌, ℕ, refl, sym, ap, subst, ◌∙◌, List, [], ◌++◌, Some, None}
 use Rattle.std.specs.Prelude.{Option, Result, Ok, Err, OnOk}
 use Rattle.cm_base.specs.declared.fault.NoMemory.{NoMemory}
 use Rattle.cm_base.specs.declared.record.Namespace.{Namespace}
@@ -12,7 +12,7 @@ use Rattle.env_parts.specs.declared.tables.EnvTables.{EnvTables}
 use Rattle.env_parts.specs.declared.tables.TopTables.{TopTables}
 use Rattle.sml_modules.specs.Items.{Item, at, as_env, as_signature, as_functor, IsEnv, IsSignature, IsFunctor, map_rows}
 use Rattle.sml_modules.specs.Graphs.{Graph}
-use Rattle.sml_modules.specs.Nodes.{AreAll, AreTopTables, env_of_tables, top_of_tables}
+use Rattle.sml_modules.specs.Nodes.{AreAll, AreTopTables, top_of_tables}
 use Rattle.sml_modules.specs.Adding.{ReadsEnv, Extends}
 use Rattle.sml_modules.proofs.Unfolding.{all_more, rows_more}
 use Rattle.sml_modules.proofs.Setting.{entry_at, with_map, all_set, all_found}

@@ -1,11 +1,12 @@
 -- Interfaces that stand in a graph stand there when it has more nodes, and when others are taken away.
 use Rattle.std.proofs.Common.{◌≡◌, ℕ, ◌<◌, refl, sym, ap, subst, ◌∙◌, List, take, length, Some, None, Bool, true, false, cond, nat_eq}
 use Rattle.std.specs.Prelude.{Option}
+use Rattle.std.specs.Option.{option_copied}
+use Rattle.std.specs.Borrow.{Bor}
 use Rattle.std.specs.Cmp.Lexicographic.{same_text, bytes_decides}
 use Rattle.std.proofs.lemmas.List.{get_or-take}
-use Rattle.std_collections.specs.Map.{lookup}
-use Rattle.indexmap.specs.IndexMap.{IndexMap, get}
-use Rattle.cm_base.specs.declared.record.Given.{Given}
+use Rattle.std.specs.Map.{lookup}
+use Rattle.indexmap.specs.IndexMap.{IndexMap}
 use Rattle.semantic_objects.specs.Environments.{Top}
 use Rattle.sml_modules.specs.declared.id.TopId.{TopId}
 use Rattle.sml_modules.specs.Items.{Item, at, as_top, IsTop}
@@ -18,7 +19,7 @@ use Rattle.interface_tops.specs.Tops.{interface_top}
 use Rattle.import_reading.specs.declared.restored.RestoredInterface.{RestoredInterface}
 use Rattle.import_reading.specs.declared.restored.RestoredInterfaces.{RestoredInterfaces}
 use Rattle.import_reading.specs.Reading.{RestoresTop}
-use Rattle.import_reading.specs.Restored.{restored_of, IsRestored, AreRestored, HasBytes, HasRestored, HasIfOne, ReadsInterface}
+use Rattle.import_reading.specs.Restored.{restored_of, IsRestored, AreRestored, HasRestored, HasIfOne, ReadsInterface}
 use lib.Pointwise.{pointwise}
 
 -- ---- more nodes, and fewer
@@ -76,7 +77,7 @@ at_either P before provider name made is true e p h k =
     subst (P name) (some_same made is k) (subst (λ z. P z made) (same_text provider name (sym e)) p)
 at_either P before provider name made is false e p h k = h k
 
-pub are_noted : {S : Type 0} (items : List Item) (provider : List ℕ) (made : RestoredInterface)
+pub are_noted : (items : List Item) (provider : List ℕ) (made : RestoredInterface)
     (old new : RestoredInterfaces) → AreRestored items old → IsRestored items provider made
     → ((name : List ℕ) → restored_of new.by_provider name
     ≡ cond (pointwise nat_eq provider name) (Some made) (restored_of old.by_provider name))
@@ -184,3 +185,9 @@ has_noted table before provider name bytes made e b h = record {
   is = h ∙ ap (λ c. cond c (Some made) before) (same_is_true provider name e);
   same = b;
 }
+
+-- what is lent is nothing, so nothing is there
+pub none_there : (found : Option (Bor RestoredInterface)) → ((lent : Bor RestoredInterface) → found ≡ Some lent → ⊥)
+    → (is : RestoredInterface) → option_copied found ≡ Some is → ⊥
+none_there None never is e = absurd (cc)
+none_there (Some lent) never is e = never lent refl

@@ -1,32 +1,28 @@
 -- When an interface can be used: from the place of the wanted name, and from names that fit.
-use Rattle.std.proofs.Common.{◌≡◌, ℕ, refl, sym, ap, subst, ◌∙◌, List, [], ◌∷◌, ◌++◌, Some, None, Bool, true, false, ◌&&◌}
-use Rattle.std.specs.Prelude.{Option, Result, Ok, Err}
+use Rattle.std.proofs.Common.{◌≡◌, ℕ, refl, sym, ap, subst, ◌∙◌, List, ◌++◌, Some, None, Bool, true, false, ◌&&◌}
+use Rattle.std.specs.Prelude.{Option, Ok, Err}
 use Rattle.std.specs.Option.{is_some}
-use Rattle.std.specs.List.{list_all}
 use Rattle.std.proofs.lemmas.Bool.{and_from}
 use Rattle.cm_base.specs.declared.record.Namespace.{Namespace}
 use Rattle.cm_base.specs.declared.record.Namespace.TheVariants as space
 use Rattle.cm_base.specs.declared.record.ModName.{ModName}
-use Rattle.cm_base.specs.declared.fault.NoMemory.{NoMemory}
 use Rattle.semantic_objects.specs.declared.name.TyName.{TyName}
-use Rattle.semantic_objects.specs.Tables.{entry}
-use Rattle.semantic_objects.specs.Environments.{Env, Signature, Functor, Top, structures}
+use Rattle.semantic_objects.specs.Environments.{Env, Signature, Functor, Top}
 use Rattle.sml_modules.specs.declared.id.TopId.{TopId}
 use Rattle.sml_modules.specs.Items.{Item}
 use Rattle.sml_modules.specs.Graphs.{Graph, top_at, HasTop}
 use Rattle.realisation.specs.Names.{names_in_top, once}
-use Rattle.interface_format.specs.Rules.{Agree}
 use Rattle.interface_format.specs.Interfaces.{IsInterface}
 use Rattle.interface_reading.specs.declared.fault.RestoreFault.{RestoreFault}
 use Rattle.interface_reading.specs.declared.fault.RestoreFault.TheVariants as fault
 use Rattle.interface_tops.specs.Tops.{interface_top}
 use Rattle.interface_tops.proofs.Tops.{have_tops}
-use Rattle.imported_interfaces.specs.Usable.{written, has_under, has_module, names_fit, is_usable}
-use Rattle.imported_interfaces.specs.Known.{fits, noted_all, Knows}
+use Rattle.imported_interfaces.specs.Usable.{written, has_under, has_module, names_fit}
+use Rattle.imported_interfaces.specs.Known.{Knows}
 use Rattle.imported_interfaces.proofs.Fits.{known_names_fit}
 use Rattle.interface_restoring.specs.Restored.{Restores}
 use Rattle.import_reading.specs.Placed.{FindsUnder, FindsWanted}
-use Rattle.import_reading.specs.Reading.{RestoresTop, NotesNames, Notes, FindsUsable, IsUsable}
+use Rattle.import_reading.specs.Reading.{RestoresTop, NotesNames, Notes, FindsUsable}
 
 -- ---- bytes that are an interface, or none
 

@@ -1,4 +1,4 @@
-use Rattle.std.proofs.Common.{refl, take, subst, List}
+use Rattle.std.proofs.Common.{refl, subst, List}
 use Rattle.std.proofs.lemmas.List.{take_all}
 use Rattle.cm_base.specs.declared.record.Given.{Given}
 use Rattle.sml_modules.proofs.Keeping.{extends_self, extends_then}

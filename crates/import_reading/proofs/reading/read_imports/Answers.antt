@@ -1,8 +1,7 @@
-use Rattle.std.proofs.Common.{refl, subst, List, sym}
-use Rattle.std.specs.Prelude.{Ok, Err}
+use Rattle.std.proofs.Common.{refl, subst, List}
 use Rattle.cm_base.specs.declared.record.Given.{Given}
 use Rattle.sml_modules.proofs.Keeping.{extends_then}
-use Rattle.import_reading.specs.Reading.{ReadsAll}
+use Rattle.import_reading.specs.Reading.{AreAllRead}
 use Rattle.import_reading.proofs.Following.{top_read}
 use Rattle.import_reading.proofs.Standing.{are_still}
 use Rattle.import_reading.proofs.reading.read_imports.Goals as goal
@@ -23,7 +22,10 @@ returns-clause-restored c =
 pub returns-clause-reads : goal.returns-clause-reads
 returns-clause-reads c =
     top_read c.args.unit.now c.args.imports.now c.read_all.new.graph c.add_unit.new.graph c.in_ok-read.read
-    c.in_ok-read.read.tables c.in_ok-place.place c.in_ok-read.ensures.reads refl c.in_ok-place.ensures.adds
+    c.in_ok-read.read.tables c.in_ok-place.place
+    (subst (λ (z : List Given). AreAllRead c.args.unit.now z c.read_all.new.graph.items c.in_ok-read.read)
+    c.as_slice.ensures c.in_ok-read.ensures.reads)
+    refl c.in_ok-place.ensures.adds
 
 pub returns-in_err-place-clause-extends : goal.returns-in_err-place-clause-extends
 returns-in_err-place-clause-extends c =

@@ -1,6 +1,6 @@
 use Rattle.std.proofs.Common.{refl, ◌∙◌, sym, ap, Some}
 use Rattle.std.specs.Option.{option_copied}
-use Rattle.import_reading.proofs.Standing.{found_restored, top_of_restored, not_one, never_missing}
+use Rattle.import_reading.proofs.Standing.{found_restored, top_of_restored, not_one, never_missing, none_there}
 use Rattle.import_reading.proofs.Following.{none_read, unusable_read, usable_read}
 use Rattle.import_reading.proofs.reading.read_one.Goals as goal
 
@@ -20,7 +20,7 @@ pub returns-in_default-clause-reads : goal.returns-in_default-clause-reads
 returns-in_default-clause-reads c made a =
     absurd (never_missing c.have_restored.new.restored.by_provider c.args.given.now.import.provider
     c.args.given.now.interface c.in_ok-have_restored.field-0 c.in_ok-have_restored.ensures.has c.if-not-branch.false
-    (λ is e. c.in_default.not-Some is e))
+    (λ is e. none_there c.find.result (λ found f. c.in_default.not-Some found f) is (c.find.ensures ∙ e)))
 
 pub returns-in_default-2-clause-reads : goal.returns-in_default-2-clause-reads
 returns-in_default-2-clause-reads c made a =
