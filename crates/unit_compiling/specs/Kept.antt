@@ -5,8 +5,8 @@ use Rattle.sml_trees.specs.declared.unit.BareUnit.{BareUnit}
 use Rattle.sml_modules.specs.Items.{Item}
 use Rattle.import_reading.specs.declared.restored.RestoredInterfaces.{RestoredInterfaces}
 use Rattle.import_reading.specs.Restored.{AreRestored}
-use Rattle.unit_compiling.specs.declared.sources.ReadSource.{ReadSource}
-use Rattle.unit_compiling.specs.declared.sources.ReadSources.{ReadSources}
+use Rattle.unit_compiling.specs.declared.waiting.ReadSource.{ReadSource}
+use Rattle.unit_compiling.specs.declared.waiting.ReadSources.{ReadSources}
 use Rattle.unit_compiling.specs.Compiled.{bare_of_source}
 use lib.Pointwise.{pointwise}
 

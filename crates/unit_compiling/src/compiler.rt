@@ -7,7 +7,7 @@ ghost use Rattle.unit_compiling.specs.Compiled.{bare_of_source, compiled_of};
 ghost use Rattle.unit_compiling.specs.Kept.{IsKept};
 
 use crate::compiling::compile_bare;
-use crate::sources::ReadSources;
+use crate::waiting::ReadSources;
 use cm_base::{CompileInput, Compiled, Fault, NoMemory, Text};
 use import_reading::RestoredInterfaces;
 use sml_modules::EnvGraph;

@@ -5,7 +5,7 @@ mod compiler;
 mod compiling;
 mod laws;
 mod source;
-mod sources;
+mod waiting;
 
 pub use compiler::UnitCompiler;
 pub use laws::compiled_units_are_small;
