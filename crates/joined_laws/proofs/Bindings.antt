@@ -5,15 +5,14 @@ use Rattle.grammars.specs.Grammar.{Grammar, End, Ends, Phrase, Rounds, head_or, 
 use Rattle.sml_lexer.specs.declared.lexeme.Lexeme.{Lexeme}
 use Rattle.sml_trees.specs.declared.name.Name.{Name}
 use Rattle.phrase_reading.specs.Sized.{one, more}
-use Rattle.sml_lexer.specs.Words.{same_word}
-use Rattle.phrase_reading.specs.Words.{g, is, is_that, word, name_of, named, made}
+use Rattle.phrase_reading.specs.Words.{g, is, name_of, named, made}
 use Rattle.phrase_reading.specs.declared.tall.Tall.{Tall}
 use Rattle.sml_lexer.specs.declared.words.Word.{Word}
 use Rattle.sml_lexer.specs.declared.words.Word.TheVariants as w
-use Rattle.signature_parser.specs.Joined.{module_name_text, module_name_of, is_module_name, module_name, apart, joined_one, joined_more, alone_of, goes_on, next_name_after, next_binding, bindings_from, bindings}
+use Rattle.signature_parser.specs.Joined.{module_name_text, module_name_of, apart, joined_one, joined_more, alone_of, goes_on, next_name_after, next_binding, bindings_from, bindings}
 use Rattle.signature_parser.specs.declared.joined.Joined.{Joined}
-use Rattle.head_laws.proofs.Algebra.{Took, Same, same_itself, same_trans, same_bind, same_pure, same_three, same_many, taken_in, taken_of, either_in, never_refused, head_both}
-use Rattle.head_laws.proofs.Lexemes.{word_is, no_name, then_some, some_of}
+use Rattle.head_laws.proofs.Algebra.{Took, Same, same_itself, same_trans, same_bind, same_pure, same_three, same_many, taken_in, taken_of, either_in, never_refused}
+use Rattle.head_laws.proofs.Lexemes.{word_is, no_name, then_some}
 use Rattle.joined_laws.specs.Forms.{Form, AreFurther, AreJoined}
 use Rattle.joined_laws.proofs.Parts.{mores, Ended, IsReader}
 

@@ -1,5 +1,5 @@
 -- `include` with names of signatures, or with a signature expression.
-use Rattle.std.proofs.Common.{◌≡◌, ◌⊎◌, ◌↔◌, ℕ, zero, suc, ◌+◌, ◌-◌, List, [], ◌∷◌, ◌++◌, Option, Some, None, is_some, Bool, true, false, ◌||◌, nat_lt, inl, inr, refl, sym, ap, ap₂, subst, ◌∙◌, arith}
+use Rattle.std.proofs.Common.{◌≡◌, ◌⊎◌, ℕ, zero, suc, ◌+◌, ◌-◌, List, [], ◌∷◌, ◌++◌, Option, Some, None, is_some, Bool, true, false, nat_lt, inl, inr, refl, sym, ap, ap₂, subst, ◌∙◌, arith}
 use Rattle.std.proofs.lemmas.List.{append_assoc, append-nil}
 use Rattle.grammars.specs.Grammar.{Grammar, End, Ends, Phrase, Rounds, head_or, begins}
 use Rattle.sml_lexer.specs.declared.lexeme.Lexeme.{Lexeme}
@@ -17,13 +17,13 @@ use Rattle.phrase_reading.specs.declared.tall.Tall.{Tall}
 use Rattle.sml_lexer.specs.declared.words.Word.TheVariants as w
 use Rattle.signature_parser.specs.Joined.{module_name_text, module_name_of, is_module_name, apart, alone}
 use Rattle.signature_parser.specs.SigLevels.{sig_level, sig_below}
-use Rattle.signature_parser.specs.Signatures.{starts_sig, sig_body, sig_name, sig_atom, sig_within, sig_behind, where_behind, wheres, goes_on_with}
+use Rattle.signature_parser.specs.Signatures.{starts_sig, sig_body, sig_name, sig_within, sig_behind, where_behind, wheres, goes_on_with}
 use Rattle.signature_parser.specs.Specifications.{include_sig, include_names, named_sig, include_where, include_one, include_from, include_spec}
 use Rattle.signature_parser.specs.declared.joined.Joined.{Joined}
 use Rattle.head_laws.specs.Forms.{IsTree}
 use Rattle.head_laws.proofs.Algebra.{Took, Began, began, same_many, same_pure, either_in, never_refused, within_in, if_taken_in, if_taken_of, if_taken_or, if_mark_in, if_mark_of, if_mark_or}
 use Rattle.head_laws.proofs.Lexemes.{word_is, no_name}
-use Rattle.joined_laws.specs.Forms.{AreSigids, IsInclude, IsModuleName, IsSigexp, IsSigid, IsNoWhere, IsNoAnd, IsNoSigid}
+use Rattle.joined_laws.specs.Forms.{AreSigids, IsInclude, IsSigid, IsNoWhere, IsNoAnd, IsNoSigid}
 use Rattle.joined_laws.specs.Promises.{IncludesAreOfTheForms}
 use Rattle.joined_laws.proofs.Bindings.{name_no_word}
 use Rattle.joined_laws.proofs.Signatures.{room_for, whole, behind, behind_is}

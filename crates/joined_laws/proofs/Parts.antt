@@ -1,9 +1,9 @@
 -- Lists of parts with their heights, and phrases behind which an `and` of the phrase around may have been taken.
-use Rattle.std.proofs.Common.{◌≡◌, ◌⊎◌, List, [], ◌∷◌, ◌++◌, Option, Some, Bool, true, false, refl, sym, ap, subst, ◌∙◌}
+use Rattle.std.proofs.Common.{◌≡◌, ◌⊎◌, List, [], ◌∷◌, ◌++◌, Option, Some, Bool, true, false, refl, sym, ap, ◌∙◌}
 use Rattle.std.proofs.lemmas.List.{append_assoc}
 use Rattle.grammars.specs.Grammar.{Phrase, head_or, begins}
 use Rattle.sml_lexer.specs.declared.lexeme.Lexeme.{Lexeme}
-use Rattle.phrase_reading.specs.Sized.{one, more}
+use Rattle.phrase_reading.specs.Sized.{more}
 use Rattle.phrase_reading.specs.Words.{g, is}
 use Rattle.phrase_reading.specs.declared.tall.Tall.{Tall}
 use Rattle.sml_lexer.specs.declared.words.Word.TheVariants as w

@@ -1,5 +1,5 @@
 -- A signature or a specification that is read under one limit is read under each other that is no lower than it.
-use Rattle.std.proofs.Common.{◌≡◌, ℕ, zero, suc, ◌+◌, ◌-◌, ◌≤◌, max, List, [], ◌∷◌, Option, None, Some, Bool, true, false, nat_lt, inl, inr, refl, arith}
+use Rattle.std.proofs.Common.{◌≡◌, ℕ, zero, suc, ◌+◌, ◌-◌, ◌≤◌, max, List, Option, None, Some, Bool, true, false, inl, inr, arith}
 use Rattle.grammars.specs.Grammar.{Grammar}
 use Rattle.sml_lexer.specs.declared.lexeme.Lexeme.{Lexeme}
 use Rattle.sml_trees.specs.declared.full_sig.FullSigExp.{FullSigExp}
@@ -16,7 +16,7 @@ use Rattle.sml_trees.specs.declared.name.Name.{Name}
 use Rattle.core_types.specs.Types.{ty}
 use Rattle.core_bindings.specs.Bindings.{has_none}
 use Rattle.phrase_reading.specs.Names.{either, if_mark, if_marked, if_taken}
-use Rattle.phrase_reading.specs.Sized.{over, one, more, further, maybe}
+use Rattle.phrase_reading.specs.Sized.{over, one, further}
 use Rattle.phrase_reading.specs.Words.{g, is, word, at, made}
 use Rattle.phrase_reading.specs.declared.tall.Tall.{Tall}
 use Rattle.sml_lexer.specs.declared.words.Word.{Word}
@@ -24,7 +24,7 @@ use Rattle.sml_lexer.specs.declared.words.Word.TheVariants as w
 use Rattle.signature_parser.specs.Joined.{module_name_of, apart, joined_one, alone_of, alone, next_binding, bindings_from, bindings}
 use Rattle.signature_parser.specs.Signatures.{SigLevel, sig_body, sig_name, sig_atom, where_bind, where_type, one_type, and_type, where_types_from, where_types, where_of, where_behind, wheres, sig_within, sig_of, sig_bind}
 use Rattle.signature_parser.specs.SigLevels.{sig_level, sig_below, no_sig_level}
-use Rattle.signature_parser.specs.Specifications.{val_desc, val_spec, typ_desc, type_spec, eq_desc, eqtype_spec, con_desc, dat_desc_of, dat_desc, datatype_descs, replication_spec, datatype_from, datatype_spec, exception_spec, structure_spec, include_sig, include_names, named_sig, include_where, include_one, include_from, include_spec, spec_word, spec_of, next_spec, spec_round, specs_from, no_specs}
+use Rattle.signature_parser.specs.Specifications.{val_desc, val_spec, typ_desc, type_spec, eqtype_spec, con_desc, dat_desc_of, dat_desc, datatype_descs, replication_spec, datatype_from, datatype_spec, exception_spec, structure_spec, include_sig, include_names, named_sig, include_where, include_one, include_from, include_spec, spec_word, spec_of, next_spec, spec_round, specs_from, no_specs}
 use Rattle.signature_parser.specs.declared.joined.Joined.{Joined}
 use Rattle.head_laws.proofs.Passing.{Keeps, keep_pure, keep_refuse, keep_bind, keep_then, keep_on, keep_within, keep_many, keep_weak, keep_none, Passes, pass_same, pass_none, pass_bind, pass_then, pass_first, pass_on, pass_within, pass_many, Fits, Low, fits_lower, fits_below, fits_room, pass_high, pass_further, further_grows, pass_maybe}
 use Rattle.head_laws.proofs.TyPassing.{ty_passes}

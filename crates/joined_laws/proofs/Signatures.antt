@@ -15,9 +15,9 @@ use Rattle.phrase_reading.specs.Sized.{over_two}
 use Rattle.phrase_reading.specs.Words.{g, is, at}
 use Rattle.phrase_reading.specs.declared.tall.Tall.{Tall}
 use Rattle.sml_lexer.specs.declared.words.Word.TheVariants as w
-use Rattle.signature_parser.specs.Joined.{apart, joined_over}
+use Rattle.signature_parser.specs.Joined.{apart}
 use Rattle.signature_parser.specs.SigLevels.{sig_level}
-use Rattle.signature_parser.specs.Signatures.{SigLevel, starts_sig, sig_atom, where_types, where_of, where_behind, wheres, sig_within, sig_behind, sig_of, goes_on_with}
+use Rattle.signature_parser.specs.Signatures.{starts_sig, sig_atom, where_types, where_of, where_behind, wheres, sig_within, sig_behind, sig_of, goes_on_with}
 use Rattle.signature_parser.specs.declared.joined.Joined.{Joined}
 use Rattle.head_laws.proofs.Algebra.{Began, same_many, began, within_in}
 use Rattle.head_laws.proofs.Lexemes.{word_is, is_by}

@@ -1,6 +1,6 @@
 -- What is read with heights under a limit is of the forms, and the other way round.
-use Rattle.std.proofs.Common.{◌≡◌, ◌⊎◌, ℕ, zero, suc, ◌+◌, ◌≤◌, max, List, [], ◌∷◌, ◌++◌, map, Option, Some, None, is_some, Bool, true, false, ◌||◌, nat_lt, inl, inr, refl, sym, ap, ap₂, subst, ◌∙◌, arith}
-use Rattle.std.proofs.lemmas.Bool.{lt-ltb, ltb-true}
+use Rattle.std.proofs.Common.{◌≡◌, ◌⊎◌, ℕ, zero, suc, ◌≤◌, List, [], ◌∷◌, ◌++◌, map, Option, Some, None, is_some, Bool, true, false, ◌||◌, inl, inr, refl, sym, ap, ap₂, subst, ◌∙◌, arith}
+use Rattle.std.proofs.lemmas.Bool.{lt-ltb}
 use Rattle.std.proofs.lemmas.List.{append_assoc, append-nil}
 use Rattle.grammars.specs.Grammar.{Grammar, End, Phrase, head_or}
 use Rattle.sml_lexer.specs.declared.lexeme.Lexeme.{Lexeme}
@@ -15,19 +15,18 @@ use Rattle.sml_trees.specs.declared.name.Name.{Name}
 use Rattle.core_types.specs.Types.{ty}
 use Rattle.phrase_reading.specs.Names.{either, begins_with_letter, tyvars, if_marked}
 use Rattle.phrase_reading.specs.Sized.{one, more, part, over}
-use Rattle.phrase_reading.specs.Words.{g, is, at, name_of, named, tycon_of, long_named, tycon, token, made, and_then}
+use Rattle.phrase_reading.specs.Words.{g, is, at, name_of, named, tycon_of, long_named, token, made, and_then}
 use Rattle.phrase_reading.specs.declared.tall.Tall.{Tall}
 use Rattle.sml_lexer.specs.declared.words.Word.TheVariants as w
 use Rattle.signature_parser.specs.Joined.{if_letter, module_name_text, module_name_of, is_module_name}
 use Rattle.signature_parser.specs.declared.joined.Joined.{Joined}
 use Rattle.signature_parser.specs.SigLevels.{sig_level, sig_below}
-use Rattle.signature_parser.specs.Signatures.{where_bind, where_type, sig_body, sig_name, sig_atom, sig_of, starts_sig}
-use Rattle.head_laws.proofs.Passing.{Low}
+use Rattle.signature_parser.specs.Signatures.{where_bind, where_type, sig_body, sig_name, sig_atom, sig_of}
 use Rattle.head_laws.proofs.Limits.{ty_low}
 use Rattle.head_laws.proofs.Algebra.{Took, Began, began, same_token, taken_in, taken_of, either_in, either_of, never_refused}
 use Rattle.head_laws.proofs.Lexemes.{then_some}
 use Rattle.level_laws.proofs.SigLevels.{sig_level_keeps}
-use Rattle.joined_laws.specs.Forms.{AreFurther, AreJoined, IsModuleName, IsTycon, IsWheretype, IsSig, IsSigid, IsWhere, IsSigexp, BeginAt}
+use Rattle.joined_laws.specs.Forms.{AreFurther, AreJoined, IsModuleName, IsWheretype, IsSig, IsSigid, IsSigexp}
 use Rattle.joined_laws.proofs.Parts.{mores}
 use Rattle.joined_laws.proofs.Bindings.{name_no_word}
 use Rattle.joined_laws.proofs.Types.{One, All}

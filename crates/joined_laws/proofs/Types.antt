@@ -1,7 +1,7 @@
 -- The types behind `where`, of which an `and` may be taken that joins something to the phrase around.
 use Rattle.std.proofs.Common.{◌≡◌, ◌⊎◌, ℕ, zero, suc, List, [], ◌∷◌, ◌++◌, Option, Some, None, Bool, true, false, inl, inr, refl, sym, ap, subst, ◌∙◌}
 use Rattle.std.proofs.lemmas.List.{append_assoc, append-nil}
-use Rattle.grammars.specs.Grammar.{Grammar, End, Ends, Phrase, Rounds, head_or, begins}
+use Rattle.grammars.specs.Grammar.{End, Ends, Phrase, Rounds, head_or, begins}
 use Rattle.sml_lexer.specs.declared.lexeme.Lexeme.{Lexeme}
 use Rattle.sml_trees.specs.declared.full_ty.FullTy.{FullTy}
 use Rattle.sml_trees.specs.declared.full_sig.FullWhere.{FullWhere}
@@ -13,7 +13,7 @@ use Rattle.sml_lexer.specs.declared.words.Word.TheVariants as w
 use Rattle.signature_parser.specs.Joined.{apart}
 use Rattle.signature_parser.specs.Signatures.{where_bind, where_type, one_type, and_type, where_types_from, where_types, goes_on_with}
 use Rattle.signature_parser.specs.declared.joined.Joined.{Joined}
-use Rattle.head_laws.proofs.Algebra.{same_many, on_or, never_refused, head_both}
+use Rattle.head_laws.proofs.Algebra.{same_many, never_refused, head_both}
 use Rattle.joined_laws.specs.Forms.{Form, AreFurther, AreJoined}
 use Rattle.joined_laws.proofs.Parts.{mores, Further, Ended, ended_behind}
 

@@ -1,29 +1,29 @@
 -- The laws.
-use Rattle.std.proofs.Common.{◌≡◌, ◌⊎◌, ◌↔◌, ℕ, zero, suc, ◌≤◌, List, [], ◌∷◌, ◌++◌, map, Option, Some, None, Bool, true, false, inl, inr, refl, sym, ap, ap₂, subst, ◌∙◌, arith}
-use Rattle.std.proofs.lemmas.List.{append_assoc, append-nil}
+use Rattle.std.proofs.Common.{◌≡◌, ◌⊎◌, ℕ, zero, suc, ◌≤◌, List, [], ◌∷◌, ◌++◌, map, Option, Some, Bool, true, false, inl, inr, refl, sym, ap, ap₂, subst, ◌∙◌, arith}
+use Rattle.std.proofs.lemmas.List.{append-nil}
 use Rattle.grammars.specs.Grammar.{Grammar, End, Phrase, head_or, begins}
 use Rattle.sml_lexer.specs.declared.lexeme.Lexeme.{Lexeme}
 use Rattle.sml_trees.specs.declared.full_sig.FullSigBind.{FullSigBind, roll-FullSigBind}
 use Rattle.sml_trees.specs.declared.full_sig.FullSigExp.{FullSigExp}
 use Rattle.sml_trees.specs.declared.name.Name.{Name}
-use Rattle.phrase_reading.specs.Sized.{part, one, more}
-use Rattle.phrase_reading.specs.Words.{g, is, named, token}
+use Rattle.phrase_reading.specs.Sized.{part, one}
+use Rattle.phrase_reading.specs.Words.{g, is, named}
 use Rattle.phrase_reading.specs.declared.tall.Tall.{Tall}
 use Rattle.sml_lexer.specs.declared.words.Word.{Word}
 use Rattle.sml_lexer.specs.declared.words.Word.TheVariants as w
-use Rattle.signature_parser.specs.Joined.{module_name_of, apart, joined_part, alone_of, alone, bindings}
-use Rattle.signature_parser.specs.SigLevels.{sig_level, sig_below, no_sig_level}
+use Rattle.signature_parser.specs.Joined.{apart, joined_part, alone, bindings}
+use Rattle.signature_parser.specs.SigLevels.{sig_level, sig_below}
 use Rattle.signature_parser.specs.Signatures.{sig_of, sig_bind}
 use Rattle.signature_parser.specs.declared.joined.Joined.{Joined}
 use Rattle.head_laws.specs.Forms.{IsTree}
 use Rattle.head_laws.proofs.Passing.{Keeps, keep_refuse, keep_bind, keep_then, keep_on, keep_none}
-use Rattle.head_laws.proofs.Algebra.{Began, began, same_token, either_in, never_refused}
-use Rattle.joined_laws.specs.Forms.{Form, AreFurther, AreJoined, IsModuleName, IsSigexp, IsSigBind, IsNoWhere, IsNoAnd}
+use Rattle.head_laws.proofs.Algebra.{began, same_token, either_in, never_refused}
+use Rattle.joined_laws.specs.Forms.{Form, AreFurther, AreJoined, IsSigexp, IsSigBind, IsNoWhere, IsNoAnd}
 use Rattle.joined_laws.specs.Promises.{SignaturesAreOfTheForms, BindingsAreJoined}
 use Rattle.joined_laws.proofs.Parts.{mores, Ended, ended_behind, IsReader}
 use Rattle.joined_laws.proofs.Bindings.{Bind, AllBinds, whole_in, whole_of}
 use Rattle.joined_laws.proofs.Signatures.{Sig, sig_reader}
-use Rattle.joined_laws.proofs.Trees.{tree_of, more_trees, more_heights, module_name_is, module_name_has, sig_down, sigexp_up, sig_low}
+use Rattle.joined_laws.proofs.Trees.{tree_of, more_trees, module_name_is, module_name_has, sig_down, sigexp_up, sig_low}
 
 -- ---- where no level is left
 

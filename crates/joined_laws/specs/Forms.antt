@@ -11,8 +11,9 @@
 --
 -- So behind the type of a `wheretype` an `and` may join another one, or another binding to the phrase around. Each form
 -- is a relation between lexemes, the lexeme behind them if there is one, and the tree that they are. Nothing here says
--- how a reader tells the two apart.
-use Rattle.std.specs.Prelude.{◌≡◌, ◌⊎◌, ℕ, zero, suc, Option, Some, List, [], ◌∷◌, ◌++◌, Bool, true, false}
+-- how a reader tells the two apart. Types and specifications are phrases of their grammars, one level down: what
+-- `structure` binds there are bindings of this form again.
+use Rattle.std.specs.Prelude.{◌≡◌, ◌⊎◌, ℕ, zero, suc, Option, Some, List, [], ◌∷◌, ◌++◌, true, false}
 use Rattle.grammars.specs.Grammar.{Phrase, head_or, begins}
 use Rattle.sml_lexer.specs.declared.lexeme.Lexeme.{Lexeme}
 use Rattle.sml_trees.specs.declared.full_sig.FullSigBind.{FullSigBind, roll-FullSigBind}
@@ -26,8 +27,7 @@ use Rattle.sml_trees.specs.declared.name.LongName.{LongName}
 use Rattle.sml_trees.specs.declared.name.Name.{Name}
 use Rattle.core_types.specs.Types.{ty}
 use Rattle.phrase_reading.specs.Names.{begins_with_letter, tyvars}
-use Rattle.phrase_reading.specs.Words.{g, is, at, name_of, named, tycon_of, long_named}
-use Rattle.phrase_reading.specs.declared.tall.Tall.{Tall}
+use Rattle.phrase_reading.specs.Words.{is, at, name_of, named, tycon_of, long_named}
 use Rattle.sml_lexer.specs.declared.words.Word.{Word}
 use Rattle.sml_lexer.specs.declared.words.Word.TheVariants as w
 use Rattle.signature_parser.specs.Joined.{is_module_name}
@@ -132,14 +132,14 @@ IsInclude most place lexemes next spec =
 
 -- ---- what stands behind
 
--- a signature expression goes on with no `where`
+-- no `where`, with which a signature expression would go on
 abbrev pub IsNoWhere : Option Lexeme → Type 0
 IsNoWhere next = begins (is w.Where) next ≡ false
 
--- .. and what is joined with no `and`
+-- .. no `and`, with which types and bindings would
 abbrev pub IsNoAnd : Option Lexeme → Type 0
 IsNoAnd next = begins (is w.And) next ≡ false
 
--- .. and names of signatures with no other
+-- .. and no name, with which names of signatures would
 abbrev pub IsNoSigid : Option Lexeme → Type 0
 IsNoSigid next = begins is_module_name next ≡ false
