@@ -3,7 +3,7 @@
 use crate::counted::project_of;
 use crate::plain::plain_names;
 use crate::showing::answered;
-use case_files::{Case, CaseFault, Part, Report, Section, number_of, push_all, push_parts};
+use case_files::{Case, CaseFault, Part, Report, Section, Wrong, number_of, push_all, push_parts};
 use cm_base::{Fault, List, NoMemory};
 use std::alloc::Global;
 use visibility::{Names, all_names};
@@ -65,6 +65,9 @@ fn compare(
     number: u32,
 ) -> Result<(), CaseFault> {
     let built = project_of(alloc, line, number)?;
+    if built.skeletons.len() != built.project.units.len() {
+        return Err(CaseFault::Wrong(line, Wrong::Words));
+    }
     let names = all_names(alloc, &built.project, &built.skeletons, &List::new(alloc));
     counts.count(&names);
     let given = answered(alloc, &built.project, &names)?;

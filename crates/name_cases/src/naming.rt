@@ -1,6 +1,6 @@
 //! Cases `names`: a project, section by section, and what its groups show and its units import.
 
-ghost use Rattle.std.specs.Prelude.{◌≡◌, true, None, IfOk};
+ghost use Rattle.std.specs.Prelude.{◌≡◌, true, length, None, IfOk};
 ghost use Rattle.visibility.specs.Exports.{clash_in};
 ghost use Rattle.visibility.specs.Projects.{group_of};
 
@@ -15,7 +15,9 @@ use std::alloc::Global;
 use visibility::{all_names, exports, imports};
 
 /// What each group shows up to one, and with it or without.
-fn below(alloc: Global, built: &Built, upto: u32, with: bool) -> Result<List<List<Export>>, Fault> {
+fn below(alloc: Global, built: &Built, upto: u32, with: bool) -> Result<List<List<Export>>, Fault>
+    requires counted { length built.now.skeletons ≡ length built.now.project.units }
+{
     let defs = List::new(alloc);
     let mut below = List::new(alloc);
     for group in built.project.finished.as_slice() {
@@ -38,12 +40,9 @@ fn below(alloc: Global, built: &Built, upto: u32, with: bool) -> Result<List<Lis
 }
 
 /// What a group shows, as a line.
-fn exports_line(
-    alloc: Global,
-    built: &Built,
-    file: &[u8],
-    group: u32,
-) -> Result<Vec<u8>, NoMemory> {
+fn exports_line(alloc: Global, built: &Built, file: &[u8], group: u32) -> Result<Vec<u8>, NoMemory>
+    requires counted { length built.now.skeletons ≡ length built.now.project.units }
+{
     match below(alloc, built, group, true) {
         Ok(below) => {
             let mut out = Vec::new(alloc);
@@ -64,6 +63,7 @@ fn is_clear(
     below: &List<List<Export>>,
     unit: u32,
 ) -> Result<bool, Fault>
+    requires counted { length built.now.skeletons ≡ length built.now.project.units }
     ensures { IfOk result (λ clear. clear ≡ true →
         clash_in built.now.project built.now.skeletons (group_of built.now.project unit) ≡ None) }
 {
@@ -87,7 +87,9 @@ fn is_clear(
 }
 
 /// What a unit imports. A unit of a frozen library imports nothing here.
-fn imports_of(alloc: Global, built: &Built, unit: u32, group: u32) -> Result<List<Wanted>, Fault> {
+fn imports_of(alloc: Global, built: &Built, unit: u32, group: u32) -> Result<List<Wanted>, Fault>
+    requires counted { length built.now.skeletons ≡ length built.now.project.units }
+{
     let below = below(alloc, built, group, false)?;
     if is_clear(alloc, built, &below, unit)? {
         imports(alloc, &built.project, &built.skeletons, &below, unit)
@@ -97,7 +99,9 @@ fn imports_of(alloc: Global, built: &Built, unit: u32, group: u32) -> Result<Lis
 }
 
 /// What a unit imports, as a line.
-fn imports_line(alloc: Global, built: &Built, file: &[u8], unit: u32) -> Result<Vec<u8>, NoMemory> {
+fn imports_line(alloc: Global, built: &Built, file: &[u8], unit: u32) -> Result<Vec<u8>, NoMemory>
+    requires counted { length built.now.skeletons ≡ length built.now.project.units }
+{
     let group = match built.project.units.get(unit as usize) {
         Some(unit) => unit.group,
         None => 0,
@@ -112,32 +116,42 @@ fn imports_line(alloc: Global, built: &Built, file: &[u8], unit: u32) -> Result<
     }
 }
 
+/// What a section asks for, as lines, where each unit has a skeleton.
+fn asked(alloc: Global, built: &Built, section: &Section) -> Result<Vec<u8>, CaseFault> {
+    if built.skeletons.len() != built.project.units.len() {
+        return Err(section.means_nothing());
+    }
+    let words = section.words.as_bytes();
+    match section.name.as_bytes() {
+        b"names" => {
+            let defs = defs_of(alloc, section)?;
+            let names = all_names(alloc, &built.project, &built.skeletons, &defs);
+            Ok(answered(alloc, &built.project, &names)?)
+        }
+        b"exports" => match built.group_of(words) {
+            Some(group) => Ok(exports_line(alloc, built, words, group)?),
+            None => Err(section.means_nothing()),
+        },
+        b"imports" => match built.unit_of(words) {
+            Some(unit) => Ok(imports_line(alloc, built, words, unit)?),
+            None => Err(section.means_nothing()),
+        },
+        _ => Err(CaseFault::Wrong(section.line, Wrong::UnknownSection)),
+    }
+}
+
 /// What a section asks for, as lines. A section that asks for nothing adds to the project.
 fn taken(
     alloc: Global,
     built: &mut Built,
     section: &Section,
 ) -> Result<Option<Vec<u8>>, CaseFault> {
-    let words = section.words.as_bytes();
     match section.name.as_bytes() {
         b"source" => built.add_source(alloc, section)?,
         b"frozen" => built.add_frozen(alloc, section)?,
         b"description" => built.add_description(alloc, section)?,
         b"recorded" => built.add_recorded(alloc, section)?,
-        b"names" => {
-            let defs = defs_of(alloc, section)?;
-            let names = all_names(alloc, &built.project, &built.skeletons, &defs);
-            return Ok(Some(answered(alloc, &built.project, &names)?));
-        }
-        b"exports" => match built.group_of(words) {
-            Some(group) => return Ok(Some(exports_line(alloc, built, words, group)?)),
-            None => return Err(section.means_nothing()),
-        },
-        b"imports" => match built.unit_of(words) {
-            Some(unit) => return Ok(Some(imports_line(alloc, built, words, unit)?)),
-            None => return Err(section.means_nothing()),
-        },
-        _ => return Err(CaseFault::Wrong(section.line, Wrong::UnknownSection)),
+        _ => return Ok(Some(asked(alloc, built, section)?)),
     }
     Ok(None)
 }

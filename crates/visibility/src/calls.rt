@@ -1,6 +1,6 @@
 //! The names of one group, and those of one unit.
 
-ghost use Rattle.std.specs.Prelude.{◌≡◌, None, nat_eq};
+ghost use Rattle.std.specs.Prelude.{◌≡◌, None, length, nat_eq};
 ghost use Rattle.indexmap.specs.IndexMap.{get};
 ghost use Rattle.cm_base.specs.Calls.{Gives};
 ghost use Rattle.visibility.specs.Exports.{clash_in, exports_of};
@@ -44,11 +44,11 @@ fn group_exports(
     }
 }
 
-/// The names that a group exports, each with the unit that it comes from, where `below` has the exports of the groups
-/// that ended before, in that order. A frozen library exports what it records. Of any other group the first of these
-/// refusals is the answer: 22 at a name that an earlier source defines too; 3 or 4 of its export list; then,
-/// entry by entry as they are written, 25 where nothing provides the name and 23 where several units do; or, where no
-/// entry is written, 23 on the group's file for the least name that its subgroups export from several units.
+/// The names that a group exports, each with the unit that it comes from, where each unit has a skeleton and `below` has
+/// the exports of the groups that ended before, in that order. A frozen library exports what it records. Of any other
+/// group the first of these refusals is the answer: 22 at a name that an earlier source defines too; 3 or 4 of its export
+/// list; then, entry by entry as they are written, 25 where nothing provides the name and 23 where several units do; or,
+/// where no entry is written, 23 on the group's file for the least name that its subgroups export from several units.
 pub fn exports(
     alloc: Global,
     project: &Project,
@@ -57,6 +57,7 @@ pub fn exports(
     group: u32,
     below: &List<List<Export>>,
 ) -> Result<List<Export>, Fault>
+    requires counted { length skeletons.now ≡ length project.now.units }
     ensures { Gives result (exports_of project.now skeletons.now defs.now group below.now) }
 {
     let places = places_of(alloc, project.finished.as_slice())?;
@@ -68,10 +69,10 @@ pub fn exports(
     }
 }
 
-/// The names that a unit imports, each with its provider, in the order of its skeleton. `below` has the exports of
-/// the groups that ended before the unit's group, and no two sources of that group define one name. At a name that is
-/// sure 23 is the answer where several units are exported under it, and 24 where nothing provides it and it is no
-/// built-in structure that the unit sees, at its spot in the unit's file.
+/// The names that a unit imports, each with its provider, in the order of its skeleton. Each unit has a skeleton, `below`
+/// has the exports of the groups that ended before the unit's group, and no two sources of that group define one name. At
+/// a name that is sure 23 is the answer where several units are exported under it, and 24 where nothing provides it and
+/// it is no built-in structure that the unit sees, at its spot in the unit's file.
 ///
 /// Each call makes the tables of the unit's group anew: for all units of a project call `all_names`.
 pub fn imports(
@@ -81,7 +82,8 @@ pub fn imports(
     below: &List<List<Export>>,
     unit: u32,
 ) -> Result<List<Wanted>, Fault>
-    requires { clash_in project.now skeletons.now (group_of project.now unit) ≡ None }
+    requires counted { length skeletons.now ≡ length project.now.units }
+    requires clear { clash_in project.now skeletons.now (group_of project.now unit) ≡ None }
     ensures { Gives result (imports_of project.now skeletons.now below.now unit) }
 {
     let places = places_of(alloc, project.finished.as_slice())?;

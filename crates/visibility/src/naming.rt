@@ -1,6 +1,6 @@
 //! All names of a project.
 
-ghost use Rattle.std.specs.Prelude.{◌≡◌, [], map, nat_eq, slice_set, IfOk};
+ghost use Rattle.std.specs.Prelude.{◌≡◌, [], length, map, nat_eq, slice_set, IfOk};
 ghost use Rattle.indexmap.specs.IndexMap.{get};
 ghost use Rattle.cm_base.specs.Calls.{Gives};
 ghost use Rattle.visibility.specs.Naming.{names_of};
@@ -113,14 +113,16 @@ fn add_group(
 
 /// All names of a project: the exports of each group in the order in which the groups ended, and the imports of each
 /// unit. The groups are gone through in that order, each first for its exports and then for the imports of its units,
-/// and the first refusal is the answer. The tables of a group are made once, so the time is linear in the skeletons and
-/// in the exports of each group's members, but for the sorting of names that groups without an entry export.
+/// and the first refusal is the answer. Each unit has a skeleton. The tables of a group are made once, so the time is
+/// linear in the skeletons and in the exports of each group's members, but for the sorting of names that groups without
+/// an entry export.
 pub fn all_names(
     alloc: Global,
     project: &Project,
     skeletons: &List<Skeleton>,
     defs: &List<Def>,
 ) -> Result<Names, Fault>
+    requires counted { length skeletons.now ≡ length project.now.units }
     ensures { Gives result (names_of project.now skeletons.now defs.now) }
 {
     let places = places_of(alloc, project.finished.as_slice())?;
