@@ -97,11 +97,15 @@ impl<T> List<T> {
 }
 
 impl<T: Drop> List<T> {
-    /// Adds an item at the end. Want of memory leaves the list as it was, and lets the item go.
+    /// Adds an item at the end. Want of memory leaves the list as it was, and lets the item go. The first item gets
+    /// room for itself alone, since most lists of a tree have one.
     pub fn add(&mut self, item: T) -> Result<(), NoMemory>
         ensures ok { OnOk result (self.new ≡ self.old ++ item ∷ []) }
         ensures err { OnErr result (self.new ≡ self.old) }
     {
+        if self.items.is_empty() {
+            self.items.reserve_exact(1)?;
+        }
         self.items.push(item)?;
         Ok(())
     }

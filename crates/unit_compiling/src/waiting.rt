@@ -14,7 +14,7 @@ use sml_trees::BareUnit;
 use std::alloc::Global;
 
 /// The most bytes of sources whose bare units are kept, so that a large project doesn't hold all of its trees at once.
-const KEPT_LIMIT: usize = 1_048_576;
+const KEPT_LIMIT: usize = 262_144;
 
 /// A source and its bare unit.
 #[derive(Drop)]
@@ -23,8 +23,8 @@ pub struct ReadSource {
     pub bare: BareUnit,
 }
 
-/// The sources that were read and not compiled yet, by their units, and how many bytes they have. Where these are too
-/// many, none is kept from there on.
+/// The sources that were read and not compiled yet, by their units, and how many bytes they have. Those that come first
+/// are kept: they are compiled first.
 #[derive(Drop)]
 pub struct ReadSources {
     pub by_unit: IndexMap<Text, ReadSource>,
@@ -62,14 +62,15 @@ impl ReadSources {
         requires is { bare_of_source unit.now source.now ≡ Ok bare }
         ensures { AreRead self.new }
     {
-        self.bytes = self.bytes.saturating_add(source.as_bytes().len());
-        if self.bytes > KEPT_LIMIT {
-            self.by_unit.clear();
+        let bytes = self.bytes.saturating_add(source.as_bytes().len());
+        if bytes > KEPT_LIMIT {
             return Ok(());
         }
         let unit = unit.copy()?;
         let source = source.copy()?;
-        note(&mut self.by_unit, unit, ReadSource { source, bare })
+        note(&mut self.by_unit, unit, ReadSource { source, bare })?;
+        self.bytes = bytes;
+        Ok(())
     }
 
     /// Takes the bare unit of a source, if it is kept. What is kept of another source of the unit is let go.
