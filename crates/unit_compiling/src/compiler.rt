@@ -16,7 +16,7 @@ use std::alloc::Global;
 use std::marker::Model;
 
 /// The most bytes of interfaces that stand in the graph; all are let go where there are more.
-const RESTORED_LIMIT: usize = 524_288;
+const RESTORED_LIMIT: usize = 262_144;
 
 /// A compiler of units. It keeps the interfaces of imports as they were read, so that an interface is read once for all
 /// units that import it, and the bare units of sources between their skeleton and their compiling, so that a source is

@@ -37,7 +37,7 @@ fn define(
 }
 
 /// The interface and the code of a unit that defines what stands at the top, or 12 where one of them has more bytes than
-/// it may.
+/// it may. They are copied, since a copy has no room to grow, and a build holds those of all its units.
 fn write_compiled(
     graph: &EnvGraph,
     top: TopId,
@@ -53,7 +53,10 @@ fn write_compiled(
     if code.as_bytes().len() > CODE_LIMIT {
         return Err(Fault::Diag(Diag::on_file(alloc, 12, unit)?));
     }
-    Ok(Compiled { interface, code })
+    Ok(Compiled {
+        interface: interface.copy()?,
+        code: code.copy()?,
+    })
 }
 
 /// The interface and the code of a bare unit, in a graph that the unit has entered and in which these interfaces stand.
