@@ -5,10 +5,10 @@ ghost use Rattle.std.specs.Cmp.Lexicographic.{slice_cmp};
 ghost use Rattle.std.specs.Ordering.{is_lt, nat_cmp};
 ghost use Rattle.dependency_graph.specs.Order.{AllAreUnits, AllDiffer, name_of};
 ghost use Rattle.skeleton_asking.specs.Short.{IsShortSkeleton};
-ghost use Rattle.cutoff_builder.specs.Small.{AreShortNames};
+ghost use Rattle.cutoff_builder.specs.Small.{AreShortNames, HasShortSource};
 
 use cm_base::{List, NoMemory, Skeleton, Text};
-use cm_description::Wanted;
+use cm_description::{Unit, UnitBody, Wanted};
 use dependency_graph::{OrderFault, UnitOrder, order};
 use std::alloc::Global;
 
@@ -142,6 +142,28 @@ pub fn are_short(wanted: &[List<Wanted>]) -> bool
 {
     for list in wanted {
         if !is_short_list(list.as_slice()) {
+            return false;
+        }
+    }
+    true
+}
+
+/// A source is shorter than 2^32 bytes.
+fn has_short_source(unit: &Unit) -> bool
+    ensures { result ≡ true → HasShortSource unit.now }
+{
+    match &unit.body {
+        UnitBody::Source { options: _, source } => source.as_bytes().len() < 1 << 32,
+        UnitBody::Frozen { .. } => true,
+    }
+}
+
+/// All sources are short.
+pub fn have_short_sources(units: &[Unit]) -> bool
+    ensures { result ≡ true → All HasShortSource units.now }
+{
+    for unit in units {
+        if !has_short_source(unit) {
             return false;
         }
     }

@@ -2,6 +2,7 @@ pub mod Agreeing
 pub mod Showing
 pub mod Steps
 pub mod LinkLeaves
+pub mod LoadedSizes
 pub mod Doing
 pub mod Ending
 pub mod ShortLemmas

@@ -1,0 +1,18 @@
+-- The numbers and texts of a loaded project are such as the store's formats can hold.
+use Rattle.std.proofs.Common.{◌<◌, ◌^◌, length, get_or, arith}
+use Rattle.std.specs.Prelude.{All}
+use Rattle.cm_description.specs.declared.loaded.Project.{Project}
+use Rattle.cm_description.specs.declared.loaded.UnitBody.{UnitBody}
+use Rattle.cm_description.specs.declared.loaded.UnitBody.TheVariants as body
+use Rattle.cutoff_builder.specs.Small.{HasShortSource, IsShortBody}
+use Rattle.loader_parts.specs.LoadedProjects.{HasSources, IsSourceBody, IsWithinLimits}
+
+pub few_units : (p : Project) → IsWithinLimits p → length p.units < 2 ^ 32
+few_units p within = let units = within.units in omega (arith, units)
+
+short_body : (b : UnitBody) → IsSourceBody b → IsShortBody b
+short_body (body.Source options source) small = omega (arith, small)
+short_body (body.Frozen imports interface code) none = tt
+
+pub short_sources : (p : Project) → HasSources p → All HasShortSource p.units
+short_sources p sources = λ k d within. short_body (get_or p.units k d).body (sources k d within)
