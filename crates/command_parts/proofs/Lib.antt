@@ -5,7 +5,7 @@ pub mod LinkLeaves
 pub mod LoadedSizes
 pub mod Doing
 pub mod Ending
-pub mod ShortLemmas
+pub mod LinkedSizes
 pub mod Framing
 pub mod Shadows
 pub mod TargetLeaves

@@ -5,6 +5,7 @@ ghost use Rattle.cm_base.specs.Causes.{HasCause};
 ghost use Rattle.cm_base.specs.Files.{Told};
 ghost use Rattle.skeleton_asking.specs.Short.{IsShortSkeleton};
 ghost use Rattle.build_laws.specs.Planned.{NamesDiffer};
+ghost use Rattle.cutoff_builder.specs.Doing.{HasShortBin};
 ghost use Rattle.cutoff_builder.specs.Small.{AreShortNames, HasShortSource};
 ghost use Rattle.cm_description.specs.WellFormed.{IsWellFormed};
 ghost use Rattle.loader_parts.specs.LoadedProjects.{HasSources, IsWithinLimits};
@@ -99,6 +100,8 @@ fn finish<F: Folder>(
     built: &Built,
     ended: Option<Diag>,
 ) -> Result<Report, WorkFault>
+    requires few { length built.now.units < 2 ^ 32 }
+    requires bins { All HasShortBin built.now.units }
     ensures cause { HasCause (F.faults folder.old) (F.faults folder.new) (result ≡ Err WorkFault.Folder) }
     ensures plain { IfOk result (λ report. IsReported report.status) }
     ensures ends { Told (F.holds folder.old) (λ files. EndsSo target.now result (ending built.now.units ended files)

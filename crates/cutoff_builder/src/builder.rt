@@ -9,7 +9,7 @@ ghost use Rattle.build_laws.specs.CutBuild.{cut_after, cut_build};
 ghost use Rattle.build_laws.specs.Left.{KeepsProject};
 ghost use Rattle.build_laws.specs.Storing.{IsSmallPlanned};
 ghost use Rattle.cutoff_builder.specs.Answers.{Cuts, Steps};
-ghost use Rattle.cutoff_builder.specs.Doing.{IsDone};
+ghost use Rattle.cutoff_builder.specs.Doing.{HasShortBin, IsDone, StepAdds, done_units};
 ghost use Rattle.cutoff_builder.specs.Planning.{as_list, planned_of};
 ghost use Rattle.cutoff_builder.specs.Small.{AreShortNames, HasShortSource};
 ghost use Rattle.cutoff_builder.specs.Theorem.{Builds};
@@ -51,6 +51,7 @@ fn build_number<F: Folder, C: Compiler>(
     ensures same { C.asked_skeletons compiler.new ≡ C.asked_skeletons compiler.old }
     ensures done { OnOk result (IsDone done.new) }
     ensures few { OnOk result (done.new.interface_bytes ≤ ALL_INTERFACES) }
+    ensures adds { StepAdds result done.old.units done.new.units }
 {
     let Some(planned) = found else {
         return Ok(());
@@ -80,6 +81,8 @@ fn build_each<F: Folder, C: Compiler>(
         (cut_build C.defines.compiled files (planned_of project.now skeletons.now wanted.now order.now))
         (F.holds folder.new) (C.asked compiler.old) (C.asked compiler.new)) }
     ensures same { C.asked_skeletons compiler.new ≡ C.asked_skeletons compiler.old }
+    ensures count { length (done_units result) ≤ length project.now.units }
+    ensures bins { All HasShortBin (done_units result) }
 {
     let mut done = Done::none(alloc);
     let count = project.units.len() as u32;
@@ -107,7 +110,8 @@ fn build_each<F: Folder, C: Compiler>(
 ///
 /// From a good store it is the plain build of the project: the same units, the same diagnostic, the same files; and the
 /// compiler is asked for what is stale in the store and for nothing else. Over any other store it does what `cut_build`
-/// says, and leaves the project as it was.
+/// says, and leaves the project as it was. In any folder it has done no more units than there are, and the format can
+/// hold the binfile of each.
 pub fn build<F: Folder, C: Compiler>(
     alloc: Global,
     folder: &mut F,
@@ -135,6 +139,8 @@ pub fn build<F: Folder, C: Compiler>(
         (C.asked compiler.old) (C.asked compiler.new)) }
     ensures project { Told (F.holds folder.old) (λ files. KeepsProject files (F.holds folder.new)) }
     ensures same { C.asked_skeletons compiler.new ≡ C.asked_skeletons compiler.old }
+    ensures count { length (done_units result) ≤ length project.now.units }
+    ensures bins { All HasShortBin (done_units result) }
 {
     if !have_short_names(project) {
         return Err(BuildFault::NoMemory);
