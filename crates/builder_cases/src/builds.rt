@@ -2,7 +2,7 @@
 
 ghost use Rattle.std.specs.Prelude.{◌≡◌, ◌<◌, ◌^◌, length};
 
-use crate::ordering::{are_below, are_empty, are_short, have_short_sources, order_of};
+use crate::ordering::{are_below, are_empty, are_short, are_short_units, order_of};
 use crate::units::{
     CaseUnit, all_wanted, edges_of, names_of, numbered_unit, project_of, skeletons_of,
 };
@@ -177,7 +177,7 @@ fn build_in_order(
     }
     if !are_empty(skeletons.as_slice())
         || !are_short(wanted.as_slice())
-        || !have_short_sources(project.units.as_slice())
+        || !are_short_units(project.units.as_slice())
     {
         return None;
     }

@@ -5,7 +5,7 @@ ghost use Rattle.std.specs.Cmp.Lexicographic.{slice_cmp};
 ghost use Rattle.std.specs.Ordering.{is_lt, nat_cmp};
 ghost use Rattle.dependency_graph.specs.Order.{AllAreUnits, AllDiffer, name_of};
 ghost use Rattle.skeleton_asking.specs.Short.{IsShortSkeleton};
-ghost use Rattle.cutoff_builder.specs.Small.{AreShortNames, HasShortSource};
+ghost use Rattle.cutoff_builder.specs.Small.{AreShortNames, IsShortBody, IsShortUnit};
 
 use cm_base::{List, NoMemory, Skeleton, Text};
 use cm_description::{Unit, UnitBody, Wanted};
@@ -149,21 +149,31 @@ pub fn are_short(wanted: &[List<Wanted>]) -> bool
 }
 
 /// A source is shorter than 2^32 bytes.
-fn has_short_source(unit: &Unit) -> bool
-    ensures { result ≡ true → HasShortSource unit.now }
+fn is_short_body(body: &UnitBody) -> bool
+    ensures { result ≡ true → IsShortBody body.now }
 {
-    match &unit.body {
+    match body {
         UnitBody::Source { options: _, source } => source.as_bytes().len() < 1 << 32,
         UnitBody::Frozen { .. } => true,
     }
 }
 
-/// All sources are short.
-pub fn have_short_sources(units: &[Unit]) -> bool
-    ensures { result ≡ true → All HasShortSource units.now }
+/// A unit's name and its source are shorter than 2^32 bytes.
+fn is_short_unit(unit: &Unit) -> bool
+    ensures { result ≡ true → IsShortUnit unit.now }
+{
+    if unit.name.as_bytes().len() >= 1 << 32 {
+        return false;
+    }
+    is_short_body(&unit.body)
+}
+
+/// All names and sources are short.
+pub fn are_short_units(units: &[Unit]) -> bool
+    ensures { result ≡ true → All IsShortUnit units.now }
 {
     for unit in units {
-        if !has_short_source(unit) {
+        if !is_short_unit(unit) {
             return false;
         }
     }

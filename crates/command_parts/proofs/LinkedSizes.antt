@@ -1,5 +1,5 @@
 -- The linked program can hold each unit whose binfile the store's format can hold.
-use Rattle.std.proofs.Common.{◌≡◌, ◌<◌, ◌^◌, List, length, get_or, subst}
+use Rattle.std.proofs.Common.{◌<◌, ◌^◌, List, length, get_or, subst}
 use Rattle.std.specs.Prelude.{All}
 use Rattle.cm_base.specs.declared.record.BuiltUnit.{BuiltUnit}
 use Rattle.cm_base.specs.declared.record.Import.{Import}

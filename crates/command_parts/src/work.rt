@@ -6,7 +6,7 @@ ghost use Rattle.cm_base.specs.Files.{Told};
 ghost use Rattle.skeleton_asking.specs.Short.{IsShortSkeleton};
 ghost use Rattle.build_laws.specs.Planned.{NamesDiffer};
 ghost use Rattle.cutoff_builder.specs.Doing.{HasShortBin};
-ghost use Rattle.cutoff_builder.specs.Small.{AreShortNames, HasShortSource};
+ghost use Rattle.cutoff_builder.specs.Small.{AreShortNames, IsShortUnit};
 ghost use Rattle.cm_description.specs.WellFormed.{IsWellFormed};
 ghost use Rattle.loader_parts.specs.LoadedProjects.{HasSources, IsWithinLimits};
 ghost use Rattle.project_planning.specs.Buildable.{AreProvided, planned_units};
@@ -136,7 +136,7 @@ fn build_plan<F: Folder, C: Compiler>(
     requires short { All IsShortSkeleton plan.now.skeletons }
     requires names { All AreShortNames plan.now.wanted }
     requires few { length project.now.units < 2 ^ 32 }
-    requires sources { All HasShortSource project.now.units }
+    requires units { All IsShortUnit project.now.units }
     ensures cause { HasCause (F.faults folder.old) (F.faults folder.new) (result ≡ Err WorkFault.Folder) }
     ensures plain { IfOk result (λ report. IsReported report.status) }
     ensures does { IsOutside target.now → Told (F.holds folder.old) (λ files.
@@ -162,7 +162,7 @@ fn build_plan<F: Folder, C: Compiler>(
 }
 
 /// Plans a project that was loaded and builds it, with a target or none, up to the report.
-#[tactic(auto, using(crate::proofs::LoadedSizes::few_units, crate::proofs::LoadedSizes::short_sources))]
+#[tactic(auto, using(crate::proofs::LoadedSizes::few_units, crate::proofs::LoadedSizes::short_units))]
 pub fn build_project<F: Folder, C: Compiler>(
     alloc: Global,
     defs: &List<Def>,

@@ -1,6 +1,6 @@
 -- Each unit that is done has a binfile that the format can hold.
-use Rattle.std.proofs.Common.{◌≡◌, sym, subst, ap, refl, ℕ, ◌+◌, ◌≤◌, List, [], ◌∷◌, ◌++◌, length, length-append, inl, inr, arith}
-use Rattle.std.specs.Prelude.{◌⊎◌, All, Ok}
+use Rattle.std.proofs.Common.{◌≡◌, sym, subst, ap, refl, ℕ, ◌+◌, ◌≤◌, List, [], ◌∷◌, length, length-append, inl, inr, arith}
+use Rattle.std.specs.Prelude.{All, Ok}
 use Rattle.std.proofs.lemmas.List.Elements.{All-nil, All-push}
 use Rattle.cm_base.specs.declared.record.BuiltUnit.{BuiltUnit}
 use Rattle.cm_base.specs.declared.record.PlannedUnit.{PlannedUnit}

@@ -1,8 +1,7 @@
 -- The store's formats can hold the units that a build takes of short ones.
-use Rattle.std.proofs.Common.{◌≡◌, sym, subst, refl, ℕ, zero, suc, ◌<◌, ◌^◌, Bool, true, false, ◌&&◌, List, [], ◌∷◌, ◌++◌, length, map, Option, Some, None, arith}
+use Rattle.std.proofs.Common.{◌≡◌, sym, subst, refl, ℕ, ◌<◌, ◌^◌, List, [], ◌∷◌, ◌++◌, length, map, Option, Some, None, arith}
 use Rattle.std.specs.Prelude.{All, slice_get}
-use Rattle.std.specs.List.{AllByRecursion, list_all}
-use Rattle.std.proofs.lemmas.Bool.{ltb-true}
+use Rattle.std.specs.List.{AllByRecursion}
 use Rattle.std.proofs.lemmas.List.{length-map}
 use Rattle.std.proofs.lemmas.List.Elements.{All-head, All-tail}
 use Rattle.std.proofs.lemmas.Option.{get_or_from_slice_get, slice_get_within}
@@ -16,35 +15,21 @@ use Rattle.dependency_graph.specs.Order.{Placed}
 use Rattle.skeleton_asking.specs.Short.{IsShortSkeleton}
 use Rattle.build_laws.specs.Storing.{IsShortWanted, IsSmallPlanned}
 use Rattle.cutoff_builder.specs.Planning.{name_in, of_body, of_parts, planned_at, planned_in, planned_of, wanted_name}
-use Rattle.cutoff_builder.specs.Small.{AreShortNames, HasShortSource, IsShortBody, has_short_name}
-
-both : (a b : Bool) → (a && b) ≡ true → (a ≡ true) × (b ≡ true)
-both true b h = (refl, h)
-both false b h = cc
+use Rattle.cutoff_builder.specs.Small.{AreShortNames, IsShortBody, IsShortUnit}
 
 -- ---- what stands at a place
-
-name_short : (units : List ProjectUnit) (i : ℕ) (unit : ProjectUnit) → list_all has_short_name units ≡ true
-    → slice_get units i ≡ Some unit → length unit.name < 2 ^ 32
-name_short [] i unit all is = cc
-name_short (u ∷ us) zero unit all is =
-    let same : u ≡ unit = cc in
-    subst (λ (v : ProjectUnit). length v.name < 2 ^ 32) same
-    (ltb-true (length u.name) (2 ^ 32) (both (has_short_name u) (list_all has_short_name us) all).0)
-name_short (u ∷ us) (suc i) unit all is =
-    name_short us i unit (both (has_short_name u) (list_all has_short_name us) all).1 is
 
 item_of : {A : Type 0} (P : A → Type 0) (xs : List A) (i : ℕ) (x : A) → All P xs → slice_get xs i ≡ Some x → P x
 item_of P xs i x all is = subst P (get_or_from_slice_get xs i x x is) (all i x (slice_get_within xs i x is))
 
-name_is : (units : List ProjectUnit) (i : ℕ) (o : Option ProjectUnit) → list_all has_short_name units ≡ true
+name_is : (units : List ProjectUnit) (i : ℕ) (o : Option ProjectUnit) → All IsShortUnit units
     → slice_get units i ≡ o → length (name_in o) < 2 ^ 32
 name_is units i None all is = omega arith
-name_is units i (Some unit) all is = name_short units i unit all is
+name_is units i (Some unit) all is = (item_of IsShortUnit units i unit all is).name
 
 -- ---- a unit that a build takes
 
-wanted_are : (units : List ProjectUnit) (ws : List Wanted) → list_all has_short_name units ≡ true
+wanted_are : (units : List ProjectUnit) (ws : List Wanted) → All IsShortUnit units
     → All (λ (w : Wanted). length w.name.name < 2 ^ 32) ws → AllByRecursion IsShortWanted (map (wanted_name units) ws)
 wanted_are units [] all each = tt
 wanted_are units (w ∷ ws) all each = (
@@ -56,7 +41,7 @@ wanted_are units (w ∷ ws) all each = (
 )
 
 body_small : (units : List ProjectUnit) (name : List ℕ) (b : UnitBody) (skeleton : Skeleton) (wanted : List Wanted)
-    → list_all has_short_name units ≡ true → length name < 2 ^ 32 → IsShortBody b → IsShortSkeleton skeleton
+    → All IsShortUnit units → length name < 2 ^ 32 → IsShortBody b → IsShortSkeleton skeleton
     → AreShortNames wanted → AllByRecursion IsSmallPlanned (of_body units name b skeleton wanted)
 body_small units name (body.Source options source) skeleton wanted all named short small names = (
   record {
@@ -74,18 +59,18 @@ body_small units name (body.Source options source) skeleton wanted all named sho
 body_small units name (body.Frozen imports interface code) skeleton wanted all named short small names = tt
 
 parts_small : (units : List ProjectUnit) (skeletons : List Skeleton) (wanted : List (List Wanted)) (number : ℕ)
-    (o : Option ProjectUnit) (s : Option Skeleton) (w : Option (List Wanted)) → list_all has_short_name units ≡ true
-    → All HasShortSource units → All IsShortSkeleton skeletons → All AreShortNames wanted → slice_get units number ≡ o
+    (o : Option ProjectUnit) (s : Option Skeleton) (w : Option (List Wanted)) → All IsShortUnit units
+    → All IsShortSkeleton skeletons → All AreShortNames wanted → slice_get units number ≡ o
     → slice_get skeletons number ≡ s → slice_get wanted number ≡ w
     → AllByRecursion IsSmallPlanned (of_parts units o s w)
-parts_small units skeletons wanted number (Some unit) (Some skeleton) (Some names) all sources short each here with these =
-    body_small units unit.name unit.body skeleton names all (name_short units number unit all here)
-    (item_of HasShortSource units number unit sources here)
+parts_small units skeletons wanted number (Some unit) (Some skeleton) (Some names) all short each here with these =
+    let is = item_of IsShortUnit units number unit all here in
+    body_small units unit.name unit.body skeleton names all is.name is.body
     (item_of IsShortSkeleton skeletons number skeleton short with)
     (item_of AreShortNames wanted number names each these)
-parts_small units skeletons wanted number (Some unit) (Some skeleton) None all sources short each here with these = tt
-parts_small units skeletons wanted number (Some unit) None w all sources short each here with these = tt
-parts_small units skeletons wanted number None s w all sources short each here with these = tt
+parts_small units skeletons wanted number (Some unit) (Some skeleton) None all short each here with these = tt
+parts_small units skeletons wanted number (Some unit) None w all short each here with these = tt
+parts_small units skeletons wanted number None s w all short each here with these = tt
 
 -- ---- all of them
 
@@ -95,17 +80,17 @@ all_append P [] ys all more = more
 all_append P (x ∷ xs) ys all more = (all.0, all_append P xs ys all.1 more)
 
 each_small : (p : Project) (skeletons : List Skeleton) (wanted : List (List Wanted)) (numbers : List ℕ)
-    → list_all has_short_name p.units ≡ true → All HasShortSource p.units → All IsShortSkeleton skeletons
-    → All AreShortNames wanted → AllByRecursion IsSmallPlanned (planned_in p skeletons wanted numbers)
-each_small p skeletons wanted [] all sources short each = tt
-each_small p skeletons wanted (number ∷ more) all sources short each =
+    → All IsShortUnit p.units → All IsShortSkeleton skeletons → All AreShortNames wanted
+    → AllByRecursion IsSmallPlanned (planned_in p skeletons wanted numbers)
+each_small p skeletons wanted [] all short each = tt
+each_small p skeletons wanted (number ∷ more) all short each =
     all_append IsSmallPlanned (planned_at p skeletons wanted number) (planned_in p skeletons wanted more)
     (parts_small p.units skeletons wanted number (slice_get p.units number) (slice_get skeletons number)
-    (slice_get wanted number) all sources short each refl refl refl)
-    (each_small p skeletons wanted more all sources short each)
+    (slice_get wanted number) all short each refl refl refl)
+    (each_small p skeletons wanted more all short each)
 
 pub all_small : (p : Project) (skeletons : List Skeleton) (wanted : List (List Wanted)) (order : List Placed)
-    → list_all has_short_name p.units ≡ true → All HasShortSource p.units → All IsShortSkeleton skeletons
-    → All AreShortNames wanted → AllByRecursion IsSmallPlanned (planned_of p skeletons wanted order)
-all_small p skeletons wanted order all sources short each =
-    each_small p skeletons wanted (map (λ (placed : Placed). placed.unit) order) all sources short each
+    → All IsShortUnit p.units → All IsShortSkeleton skeletons → All AreShortNames wanted
+    → AllByRecursion IsSmallPlanned (planned_of p skeletons wanted order)
+all_small p skeletons wanted order all short each =
+    each_small p skeletons wanted (map (λ (placed : Placed). placed.unit) order) all short each

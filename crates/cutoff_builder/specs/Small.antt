@@ -1,6 +1,5 @@
--- What a build looks at and what it asks for, so that the store's formats can hold its units.
-use Rattle.std.specs.Prelude.{◌<◌, ◌^◌, Bool, List, length, All}
-use Rattle.bin_formats.specs.Fitting.{is_u32}
+-- What a build asks for, so that the store's formats can hold its units.
+use Rattle.std.specs.Prelude.{◌<◌, ◌^◌, List, length, All}
 use Rattle.cm_description.specs.declared.loaded.Unit.{Unit as ProjectUnit}
 use Rattle.cm_description.specs.declared.loaded.UnitBody.{UnitBody}
 use Rattle.cm_description.specs.declared.loaded.UnitBody.TheVariants as body
@@ -16,9 +15,7 @@ abbrev pub IsShortBody : UnitBody → Type 0
 IsShortBody (body.Source options source) = length source < 2 ^ 32
 IsShortBody (body.Frozen imports interface code) = Unit {0}
 
-abbrev pub HasShortSource : ProjectUnit → Type 0
-HasShortSource unit = IsShortBody unit.body
-
--- whether a unit's name has fewer than 2^32 bytes
-abbrev pub has_short_name : ProjectUnit → Bool
-has_short_name unit = is_u32 (length unit.name)
+-- .. and a name of fewer
+pub record IsShortUnit (unit : ProjectUnit) : Type 0 where
+  pub name : length unit.name < 2 ^ 32
+  pub body : IsShortBody unit.body

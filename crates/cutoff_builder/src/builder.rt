@@ -11,12 +11,11 @@ ghost use Rattle.build_laws.specs.Storing.{IsSmallPlanned};
 ghost use Rattle.cutoff_builder.specs.Answers.{Cuts, Steps};
 ghost use Rattle.cutoff_builder.specs.Doing.{HasShortBin, IsDone, StepAdds, done_units};
 ghost use Rattle.cutoff_builder.specs.Planning.{as_list, planned_of};
-ghost use Rattle.cutoff_builder.specs.Small.{AreShortNames, HasShortSource};
+ghost use Rattle.cutoff_builder.specs.Small.{AreShortNames, IsShortUnit};
 ghost use Rattle.cutoff_builder.specs.Theorem.{Builds};
 
 use crate::done::Done;
 use crate::planned::source_unit;
-use crate::small::have_short_names;
 use crate::turn::{UnitFault, take_turn};
 use crate::unit::SourceUnit;
 use build_laws::ALL_INTERFACES;
@@ -104,9 +103,8 @@ fn build_each<F: Folder, C: Compiler>(
 }
 
 /// Builds the units of a project in their order over its store. `skeletons` and `wanted` have a skeleton and the wanted
-/// names of each unit, by its number; the store's formats can hold them, and the sources. It stops at the first
-/// diagnostic, where the folder fails, or for want of memory, for which a unit's name of 2^32 bytes, which no format can
-/// hold, counts too.
+/// names of each unit, by its number; the store's formats can hold them, and the units' names and sources. It stops at
+/// the first diagnostic, where the folder fails, or for want of memory.
 ///
 /// From a good store it is the plain build of the project: the same units, the same diagnostic, the same files; and the
 /// compiler is asked for what is stale in the store and for nothing else. Over any other store it does what `cut_build`
@@ -128,7 +126,7 @@ pub fn build<F: Folder, C: Compiler>(
     requires short { All IsShortSkeleton skeletons.now }
     requires names { All AreShortNames wanted.now }
     requires few { length project.now.units < 2 ^ 32 }
-    requires sources { All HasShortSource project.now.units }
+    requires units { All IsShortUnit project.now.units }
     ensures cause { HasCause (F.faults folder.old) (F.faults folder.new) (result ≡ Err BuildFault.Folder) }
     ensures cuts { Told (F.holds folder.old) (λ files. Cuts result C.defines.compiled files
         (planned_of project.now skeletons.now wanted.now order.now)
@@ -142,8 +140,5 @@ pub fn build<F: Folder, C: Compiler>(
     ensures count { length (done_units result) ≤ length project.now.units }
     ensures bins { All HasShortBin (done_units result) }
 {
-    if !have_short_names(project) {
-        return Err(BuildFault::NoMemory);
-    }
     build_each(alloc, folder, compiler, project, skeletons, wanted, order)
 }

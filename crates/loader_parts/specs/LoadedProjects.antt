@@ -1,5 +1,5 @@
 -- What more is known of each project that is loaded.
-use Rattle.std.specs.Prelude.{◌≤◌, length, All}
+use Rattle.std.specs.Prelude.{◌<◌, ◌≤◌, ◌^◌, length, All}
 use Rattle.cm_description.specs.declared.loaded.Project.{Project}
 use Rattle.cm_description.specs.declared.loaded.UnitBody.{UnitBody}
 use Rattle.cm_description.specs.declared.loaded.UnitBody.TheVariants as body
@@ -16,8 +16,10 @@ abbrev pub IsSourceBody : UnitBody → Type 0
 IsSourceBody (body.Source options source) = length source ≤ ALL_SOURCES
 IsSourceBody (body.Frozen imports interface code) = ⊥
 
-abbrev pub IsSource : LoadedUnit → Type 0
-IsSource unit = IsSourceBody unit.body
+-- .. and a name of fewer than 2^32 bytes
+pub record IsSource (unit : LoadedUnit) : Type 0 where
+  pub name : length unit.name < 2 ^ 32
+  pub body : IsSourceBody unit.body
 
 abbrev pub HasSources : Project → Type 0
 HasSources p = All IsSource p.units
