@@ -1,6 +1,6 @@
 -- The binfile that is stored for a unit is the one that stands whole at its place, and what changes it.
 use Rattle.std.proofs.Common.{◌≡◌, ◌≢◌, ◌∙◌, ap, sym, subst, refl, inl, inr, ℕ, ◌<◌, ◌≤◌, Bool, true, false, cond, List, [], length, take, take_all, Option, Some, None, arith}
-use Rattle.std.specs.Prelude.{nat_eq, nat_le, Contains}
+use Rattle.std.specs.Prelude.{nat_eq, nat_le, Contains, IfSome}
 use Rattle.std.specs.Cmp.Lexicographic.{slice_cmp, pointwise, nat_list_eq_equiv, same_text}
 use Rattle.std.specs.Ordering.{nat_cmp, eq_by_cmp}
 use Rattle.std.specs.FinMap.{get}
@@ -127,6 +127,17 @@ pub read_of_unit : (unit bytes : List ℕ) (found made : Option Bin) → length 
 read_of_unit unit bytes found made small reads is =
     let one : nat_le (length bytes) 16777216 ≡ true = le-leb (length bytes) 16777216 small in
     is ∙ ap (if_unit unit) (reads_bin_in bytes found reads) ∙ rw one refl
+
+-- .. and it has a spelling
+pub spelled_of_unit : (unit bytes : List ℕ) (found made : Option Bin) → ReadsBin found bytes → made ≡ if_unit unit found
+    → IfSome made IsBin
+spelled_of_unit unit bytes None made reads is = subst (λ (o : Option Bin). IfSome o IsBin) (sym is) tt
+spelled_of_unit unit bytes (Some bin) made reads is =
+    subst (λ (o : Option Bin). IfSome o IsBin) (sym is) (by_name (pointwise nat_eq bin.unit unit))
+  where
+    by_name : (b : Bool) → IfSome (cond b (Some bin) None) IsBin
+    by_name true = reads.0
+    by_name false = tt
 
 -- a front of one byte more than a binfile may have is as good as all of it
 bin_found-front : (unit : List ℕ) (there : Option (List ℕ)) → bin_found unit (front_read 16777216 there) ≡ bin_found unit there

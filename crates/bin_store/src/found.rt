@@ -1,6 +1,7 @@
 //! The binfile of a unit is found in the bytes of a file.
 
-ghost use Rattle.std.specs.Prelude.{◌≡◌, IfOk};
+ghost use Rattle.std.specs.Prelude.{◌≡◌, IfOk, IfSome};
+ghost use Rattle.bin_formats.specs.Format.{IsBin};
 ghost use Rattle.bin_store.specs.Stored.{if_unit, bin_of_bytes, bin_found};
 
 use bin_formats::{Bin, read_bin};
@@ -17,9 +18,10 @@ fn of_unit(found: Option<Bin>, unit: &Text) -> Option<Bin>
     }
 }
 
-// The binfile of a unit that some bytes are, where they aren't too many.
+// The binfile of a unit that some bytes are, where they aren't too many. It has a spelling.
 fn bin_of_bytes(alloc: Global, unit: &Text, bytes: &[u8]) -> Result<Option<Bin>, NoMemory>
-    ensures { IfOk result (λ found. found ≡ bin_of_bytes unit.now bytes.now) }
+    ensures is { IfOk result (λ found. found ≡ bin_of_bytes unit.now bytes.now) }
+    ensures fits { IfOk result (λ found. IfSome found IsBin) }
 {
     if bytes.len() > 16_777_216 {
         return Ok(None);
@@ -28,9 +30,10 @@ fn bin_of_bytes(alloc: Global, unit: &Text, bytes: &[u8]) -> Result<Option<Bin>,
     Ok(of_unit(found, unit))
 }
 
-/// The binfile of a unit that a file is, if it is there and is one.
+/// The binfile of a unit that a file is, if it is there and is one. It has a spelling.
 pub fn bin_of_file(alloc: Global, unit: &Text, file: &Option<Text>) -> Result<Option<Bin>, NoMemory>
-    ensures { IfOk result (λ found. found ≡ bin_found unit.now file.now) }
+    ensures is { IfOk result (λ found. found ≡ bin_found unit.now file.now) }
+    ensures fits { IfOk result (λ found. IfSome found IsBin) }
 {
     match file {
         Some(file) => bin_of_bytes(alloc, unit, file.as_bytes()),

@@ -1,6 +1,6 @@
 //! The store in a folder: whole files are read, and files are put.
 
-ghost use Rattle.std.specs.Prelude.{◌≡◌, ◌<◌, ◌^◌, ◌∷◌, Err, IfOk, OnOk, length, is_some};
+ghost use Rattle.std.specs.Prelude.{◌≡◌, ◌<◌, ◌^◌, ◌∷◌, Err, IfOk, IfSome, OnOk, length, is_some};
 ghost use Rattle.std.specs.Option.{option_copied};
 ghost use Rattle.std.specs.FinMap.{get, insert};
 ghost use Rattle.cm_base.specs.Files.{Told, told};
@@ -153,7 +153,8 @@ pub fn put_bin<F: Folder>(alloc: Global, folder: &mut F, bin: &Bin) -> Result<()
 }
 
 /// The binfile of a unit. `None` exactly where none stands whole at its place: where no file is there, where it is longer
-/// than a binfile may be, where its bytes are no binfile, or where they are another unit's.
+/// than a binfile may be, where its bytes are no binfile, or where they are another unit's. One that is found has a
+/// spelling, also in a folder that doesn't tell its files.
 pub fn get_bin<F: Folder>(
     alloc: Global,
     folder: &mut F,
@@ -162,6 +163,7 @@ pub fn get_bin<F: Folder>(
     ensures cause { HasCause (F.faults folder.old) (F.faults folder.new) (result ≡ Err StoreFault.Folder) }
     ensures same { F.holds folder.new ≡ F.holds folder.old }
     ensures found { Told (F.holds folder.old) (λ files. IfOk result (λ found. found ≡ stored_bin files unit.now)) }
+    ensures fits { IfOk result (λ found. IfSome found IsBin) }
 {
     let path = bin_path(alloc, unit)?;
     let file = read_front(alloc, folder, &path, 16_777_216)?;

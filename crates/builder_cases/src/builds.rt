@@ -2,7 +2,7 @@
 
 ghost use Rattle.std.specs.Prelude.{◌≡◌, ◌<◌, ◌^◌, length};
 
-use crate::ordering::{are_below, are_empty, are_short, order_of};
+use crate::ordering::{are_below, are_empty, are_short, are_short_units, order_of};
 use crate::units::{
     CaseUnit, all_wanted, edges_of, names_of, numbered_unit, project_of, skeletons_of,
 };
@@ -175,7 +175,10 @@ fn build_in_order(
     if skeletons.len() != count || wanted.len() != count || !are_below(wanted.as_slice(), count) {
         return None;
     }
-    if !are_empty(skeletons.as_slice()) || !are_short(wanted.as_slice()) {
+    if !are_empty(skeletons.as_slice())
+        || !are_short(wanted.as_slice())
+        || !are_short_units(project.units.as_slice())
+    {
         return None;
     }
     Some(build(alloc, folder, compiler, project, skeletons, wanted, order))

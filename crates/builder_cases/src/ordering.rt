@@ -5,10 +5,10 @@ ghost use Rattle.std.specs.Cmp.Lexicographic.{slice_cmp};
 ghost use Rattle.std.specs.Ordering.{is_lt, nat_cmp};
 ghost use Rattle.dependency_graph.specs.Order.{AllAreUnits, AllDiffer, name_of};
 ghost use Rattle.skeleton_asking.specs.Short.{IsShortSkeleton};
-ghost use Rattle.cutoff_builder.specs.Small.{AreShortNames};
+ghost use Rattle.cutoff_builder.specs.Small.{AreShortNames, IsShortBody, IsShortUnit};
 
 use cm_base::{List, NoMemory, Skeleton, Text};
-use cm_description::Wanted;
+use cm_description::{Unit, UnitBody, Wanted};
 use dependency_graph::{OrderFault, UnitOrder, order};
 use std::alloc::Global;
 
@@ -142,6 +142,38 @@ pub fn are_short(wanted: &[List<Wanted>]) -> bool
 {
     for list in wanted {
         if !is_short_list(list.as_slice()) {
+            return false;
+        }
+    }
+    true
+}
+
+/// A source is shorter than 2^32 bytes.
+fn is_short_body(body: &UnitBody) -> bool
+    ensures { result ≡ true → IsShortBody body.now }
+{
+    match body {
+        UnitBody::Source { options: _, source } => source.as_bytes().len() < 1 << 32,
+        UnitBody::Frozen { .. } => true,
+    }
+}
+
+/// A unit's name and its source are shorter than 2^32 bytes.
+fn is_short_unit(unit: &Unit) -> bool
+    ensures { result ≡ true → IsShortUnit unit.now }
+{
+    if unit.name.as_bytes().len() >= 1 << 32 {
+        return false;
+    }
+    is_short_body(&unit.body)
+}
+
+/// All names and sources are short.
+pub fn are_short_units(units: &[Unit]) -> bool
+    ensures { result ≡ true → All IsShortUnit units.now }
+{
+    for unit in units {
+        if !is_short_unit(unit) {
             return false;
         }
     }

@@ -4,6 +4,7 @@ ghost use Rattle.std.specs.Prelude.{◌≡◌, ◌≢◌, Ok, None, Some};
 ghost use Rattle.cm_base.specs.Causes.{HasCause};
 ghost use Rattle.cm_base.specs.Files.{Told};
 ghost use Rattle.cm_description.specs.WellFormed.{IsWellFormed};
+ghost use Rattle.loader_parts.specs.LoadedProjects.{HasSources, IsWithinLimits};
 ghost use Rattle.group_loader.specs.Loading.{Tends, states_by};
 ghost use Rattle.command_parts.specs.Answers.{IsOutside};
 ghost use Rattle.command_parts.specs.Headline.{KeepsOthers};
@@ -35,7 +36,9 @@ fn run_project<F: Folder, S: Sink, C: Compiler>(
     compiler: &mut C,
     project: &Project,
 ) -> Status
-    requires { IsWellFormed project.now }
+    requires formed { IsWellFormed project.now }
+    requires few { IsWithinLimits project.now }
+    requires sources { HasSources project.now }
     ensures folder { HasCause (F.faults folder.old) (F.faults folder.new) (result ≡ Status.FolderFault) }
     ensures sink { HasCause (S.faults out.old) (S.faults out.new) (result ≡ Status.SinkFault) }
     ensures end { IsSessionEnd result }

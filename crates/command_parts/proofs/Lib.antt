@@ -2,9 +2,10 @@ pub mod Agreeing
 pub mod Showing
 pub mod Steps
 pub mod LinkLeaves
+pub mod LoadedSizes
 pub mod Doing
 pub mod Ending
-pub mod ShortLemmas
+pub mod LinkedSizes
 pub mod Framing
 pub mod Shadows
 pub mod TargetLeaves

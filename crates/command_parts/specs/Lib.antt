@@ -8,5 +8,4 @@ pub mod Meaning
 pub mod Performing
 pub mod ProjectBuild
 pub mod Sessions
-pub mod Short
 pub mod Targets

@@ -1,64 +1,27 @@
 //! The linked program is written where its size allows it.
 
 ghost use Rattle.std.specs.Prelude.{◌≡◌, ◌<◌, ◌^◌, Some, Err, IfOk, OnOk, All, length, nat_lt};
-ghost use Rattle.std.specs.List.{list_all};
 ghost use Rattle.cm_base.specs.Causes.{HasCause};
 ghost use Rattle.cm_base.specs.Files.{Told};
 ghost use Rattle.bin_store.specs.Paths.{linked_path};
-ghost use Rattle.linker.specs.Linked.{linked_program, IsShortBuilt};
+ghost use Rattle.cutoff_builder.specs.Doing.{HasShortBin};
+ghost use Rattle.linker.specs.Linked.{linked_program};
 ghost use Rattle.command_parts.specs.Answers.{LinksTo, TouchesLinked, TouchesTarget};
 ghost use Rattle.command_parts.specs.Meaning.{link_fault, ended_with, then_write, with_linked};
-ghost use Rattle.command_parts.specs.Short.{is_short_count, is_short_import, is_short_built};
 
 use crate::limits::LINKED;
 use crate::work::WorkFault;
-use cm_base::{Built, BuiltUnit, Diag, Folder, FolderFault, Import, NoMemory, Text, put_file};
+use cm_base::{Built, Diag, Folder, FolderFault, NoMemory, Text, put_file};
 use linker::laws::links_can_be_spelled;
 use linker::{link, write_linked};
 use std::alloc::Global;
 
-/// Whether a count fits four bytes.
-fn is_short_count(count: usize) -> bool
-    ensures { result ≡ is_short_count count }
-{
-    count < 1 << 32
-}
-
-/// Whether each imported name is short.
-fn are_short_imports(imports: &[Import]) -> bool
-    ensures { result ≡ list_all is_short_import imports.now }
-{
-    imports
-        .iter()
-        .all(|import| is_short_count(import.name.name.as_bytes().len()))
-}
-
-/// Whether a unit's texts and list of imports are short.
-#[tactic(auto, unfolding(crate::specs::Short::is_short_built))]
-fn is_short_built(unit: &BuiltUnit) -> bool
-    ensures { result ≡ is_short_built unit.now }
-{
-    is_short_count(unit.unit.as_bytes().len())
-        && is_short_count(unit.imports.len())
-        && is_short_count(unit.code.as_bytes().len())
-        && are_short_imports(unit.imports.as_slice())
-}
-
-/// Whether each unit is short.
-fn are_short(units: &[BuiltUnit]) -> bool
-    ensures { result ≡ list_all is_short_built units.now }
-{
-    units.iter().all(|unit| is_short_built(unit))
-}
-
-/// The bytes of the linked program. A text or a list of 2^32 bytes or items, which the format can't hold, counts as
-/// want of memory.
+/// The bytes of the linked program.
 fn linked_file(alloc: Global, built: &Built) -> Result<Text, NoMemory>
+    requires few { length built.now.units < 2 ^ 32 }
+    requires bins { All HasShortBin built.now.units }
     ensures { IfOk result (λ text. text ≡ linked_program built.now.units) }
 {
-    if !is_short_count(built.units.len()) || !are_short(built.units.as_slice()) {
-        return Err(NoMemory);
-    }
     let linked = link(alloc, built)?;
     links_can_be_spelled();
     write_linked(alloc, &linked)
@@ -105,6 +68,8 @@ fn linked<F: Folder>(
     target: &Option<Text>,
     built: &Built,
 ) -> Result<Option<Diag>, WorkFault>
+    requires few { length built.now.units < 2 ^ 32 }
+    requires bins { All HasShortBin built.now.units }
     ensures cause { HasCause (F.faults folder.old) (F.faults folder.new) (result ≡ Err WorkFault.Folder) }
     ensures links { Told (F.holds folder.old) (λ files. LinksTo result (link_fault built.now.units)
         (with_linked target.now (link_fault built.now.units) built.now.units files) (F.holds folder.new)) }
@@ -129,6 +94,8 @@ pub fn end<F: Folder>(
     built: &Built,
     ended: Option<Diag>,
 ) -> Result<Option<Diag>, WorkFault>
+    requires few { length built.now.units < 2 ^ 32 }
+    requires bins { All HasShortBin built.now.units }
     ensures cause { HasCause (F.faults folder.old) (F.faults folder.new) (result ≡ Err WorkFault.Folder) }
     ensures links { Told (F.holds folder.old) (λ files. LinksTo result (ended_with ended built.now.units)
         (with_linked target.now (ended_with ended built.now.units) built.now.units files) (F.holds folder.new)) }

@@ -1,12 +1,14 @@
 //! The work of a command, up to its report.
 
-ghost use Rattle.std.specs.Prelude.{◌≡◌, All, Err, IfOk, None, length};
+ghost use Rattle.std.specs.Prelude.{◌≡◌, ◌<◌, ◌^◌, All, Err, IfOk, None, length};
 ghost use Rattle.cm_base.specs.Causes.{HasCause};
 ghost use Rattle.cm_base.specs.Files.{Told};
 ghost use Rattle.skeleton_asking.specs.Short.{IsShortSkeleton};
 ghost use Rattle.build_laws.specs.Planned.{NamesDiffer};
-ghost use Rattle.cutoff_builder.specs.Small.{AreShortNames};
+ghost use Rattle.cutoff_builder.specs.Doing.{HasShortBin};
+ghost use Rattle.cutoff_builder.specs.Small.{AreShortNames, IsShortUnit};
 ghost use Rattle.cm_description.specs.WellFormed.{IsWellFormed};
+ghost use Rattle.loader_parts.specs.LoadedProjects.{HasSources, IsWithinLimits};
 ghost use Rattle.project_planning.specs.Buildable.{AreProvided, planned_units};
 ghost use Rattle.project_planning.specs.Planning.{plain_plan, plan_over};
 ghost use Rattle.command_parts.specs.Answers.{IsReported, Does, EndsSo, AsksFor, AsksFromGood, IsOutside, LawfulFromGood, TouchesLinked};
@@ -98,6 +100,8 @@ fn finish<F: Folder>(
     built: &Built,
     ended: Option<Diag>,
 ) -> Result<Report, WorkFault>
+    requires few { length built.now.units < 2 ^ 32 }
+    requires bins { All HasShortBin built.now.units }
     ensures cause { HasCause (F.faults folder.old) (F.faults folder.new) (result ≡ Err WorkFault.Folder) }
     ensures plain { IfOk result (λ report. IsReported report.status) }
     ensures ends { Told (F.holds folder.old) (λ files. EndsSo target.now result (ending built.now.units ended files)
@@ -131,6 +135,8 @@ fn build_plan<F: Folder, C: Compiler>(
     requires apart { NamesDiffer (planned_units project.now plan.now) }
     requires short { All IsShortSkeleton plan.now.skeletons }
     requires names { All AreShortNames plan.now.wanted }
+    requires few { length project.now.units < 2 ^ 32 }
+    requires units { All IsShortUnit project.now.units }
     ensures cause { HasCause (F.faults folder.old) (F.faults folder.new) (result ≡ Err WorkFault.Folder) }
     ensures plain { IfOk result (λ report. IsReported report.status) }
     ensures does { IsOutside target.now → Told (F.holds folder.old) (λ files.
@@ -156,6 +162,7 @@ fn build_plan<F: Folder, C: Compiler>(
 }
 
 /// Plans a project that was loaded and builds it, with a target or none, up to the report.
+#[tactic(auto, using(crate::proofs::LoadedSizes::few_units, crate::proofs::LoadedSizes::short_units))]
 pub fn build_project<F: Folder, C: Compiler>(
     alloc: Global,
     defs: &List<Def>,
@@ -164,7 +171,9 @@ pub fn build_project<F: Folder, C: Compiler>(
     compiler: &mut C,
     project: &Project,
 ) -> Result<Report, WorkFault>
-    requires { IsWellFormed project.now }
+    requires formed { IsWellFormed project.now }
+    requires few { IsWithinLimits project.now }
+    requires sources { HasSources project.now }
     ensures cause { HasCause (F.faults folder.old) (F.faults folder.new) (result ≡ Err WorkFault.Folder) }
     ensures plain { IfOk result (λ report. IsReported report.status) }
     ensures does { IsOutside target.now → Told (F.holds folder.old) (λ files. Does C.defines files target.now

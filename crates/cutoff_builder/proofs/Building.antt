@@ -1,5 +1,5 @@
 -- From what a build does over a store to the theorem.
-use Rattle.std.proofs.Common.{◌≡◌, ◌∙◌, sym, ap, subst, refl, inl, ℕ, List, [], ◌++◌, Option, Some}
+use Rattle.std.proofs.Common.{◌∙◌, sym, ap, subst, ℕ, List, ◌++◌, Option, Some}
 use Rattle.std.specs.Prelude.{Result, Ok, Err, Contains}
 use Rattle.std.specs.List.{AllByRecursion}
 use Rattle.std.proofs.lemmas.List.Elements.{Contains-append_left, Contains-append_right}
@@ -11,8 +11,6 @@ use Rattle.cm_base.specs.declared.record.Built.{Built}
 use Rattle.cm_base.specs.declared.record.CompileInput.{CompileInput}
 use Rattle.cm_base.specs.declared.record.Compiled.{Compiled}
 use Rattle.cm_base.specs.declared.record.PlannedUnit.{PlannedUnit}
-use Rattle.cm_base.proofs.FrontLemmas.{grows_none}
-use Rattle.cm_base.proofs.KeepingLemmas.{keeps_same}
 use Rattle.cm_bytes.specs.Hashes.{HashesApart}
 use Rattle.bin_store.specs.GoodStore.{IsGoodStore, StoreIsGood}
 use Rattle.bin_store.proofs.GoodAfter.{store_is_good}
@@ -21,9 +19,7 @@ use Rattle.build_laws.specs.CutBuild.{cut_build}
 use Rattle.build_laws.specs.Left.{KeepsProject}
 use Rattle.build_laws.specs.PlainBuild.{Build, plain_build}
 use Rattle.build_laws.specs.Planned.{interfaces_of, paths_of, ArePlanned}
-use Rattle.build_laws.specs.Stale.{asked_in}
 use Rattle.build_laws.specs.Storing.{IsSmallPlanned}
-use Rattle.build_laws.proofs.Fronts.{cut_start}
 use Rattle.build_laws.proofs.Building.{IsPlain}
 use Rattle.build_laws.proofs.Leaving.{build_is_plain, frame_ended, good_left, frame_left}
 use Rattle.build_laws.proofs.Outside.{project_kept, project_left}
@@ -108,31 +104,3 @@ keeps_project compiled files planned result new asked now cuts = by_result resul
     by_result (Err (stop.Stop diag done)) l = project_kept compiled files planned new l.2
     by_result (Err stop.Folder) l = project_left compiled files planned new l
     by_result (Err stop.NoMemory) l = project_left compiled files planned new l
-
--- a build that wants memory before it begins
-pub cuts_nothing : (compiled : CompileInput → Result Compiled Diag) (files : Files) (planned : List PlannedUnit)
-    (new : Option Files) (asked : List (List ℕ)) → new ≡ Some files
-    → Cuts (Err stop.NoMemory) compiled files planned (cut_build compiled files planned) new asked asked
-cuts_nothing compiled files planned new asked is = record {
-  leaves = record {
-    front = [];
-    rest = planned;
-    split = refl;
-    done = [];
-    asked = [];
-    here = files;
-    so_far = cut_start compiled files;
-    next = inl is;
-  };
-  asks = grows_none asked asked (cut_build compiled files planned).asked refl;
-}
-
-pub builds_nothing : (by : Definitions) (files : Files) (planned : List PlannedUnit) (new : Option Files)
-    (asked : List (List ℕ)) → new ≡ Some files → Builds by files planned (Err stop.NoMemory) new asked asked
-builds_nothing by files planned new asked is = λ known names skeletons apart good. record {
-  gives = tt;
-  leaves = tt;
-  asks = grows_none asked asked (asked_in files (plain_build by.compiled planned)) refl;
-  frame = keeps_same (Some files) new (paths_of (plain_build by.compiled planned).units) is;
-  good = store_is_good is (good_more (λ t h. Contains-append_left known (interfaces_of (plain_build by.compiled planned).units) t h) good);
-}

@@ -5,5 +5,6 @@ pub mod StoreLemmas
 pub mod Turning
 pub mod Stepping
 pub mod Going
+pub mod Bins
 pub mod Building
 pub mod Smallness

@@ -1,8 +1,7 @@
 -- The store's formats can hold the units that a build takes of short ones.
-use Rattle.std.proofs.Common.{◌≡◌, sym, subst, refl, ℕ, zero, suc, ◌<◌, ◌^◌, Bool, true, false, ◌&&◌, List, [], ◌∷◌, ◌++◌, length, map, Option, Some, None, arith}
-use Rattle.std.specs.Prelude.{All, IsTrue, slice_get}
-use Rattle.std.specs.List.{AllByRecursion, list_all}
-use Rattle.std.proofs.lemmas.Bool.{ltb-true}
+use Rattle.std.proofs.Common.{◌≡◌, sym, subst, refl, ℕ, ◌<◌, ◌^◌, List, [], ◌∷◌, ◌++◌, length, map, Option, Some, None, arith}
+use Rattle.std.specs.Prelude.{All, slice_get}
+use Rattle.std.specs.List.{AllByRecursion}
 use Rattle.std.proofs.lemmas.List.{length-map}
 use Rattle.std.proofs.lemmas.List.Elements.{All-head, All-tail}
 use Rattle.std.proofs.lemmas.Option.{get_or_from_slice_get, slice_get_within}
@@ -13,43 +12,24 @@ use Rattle.cm_description.specs.declared.loaded.UnitBody.{UnitBody}
 use Rattle.cm_description.specs.declared.loaded.UnitBody.TheVariants as body
 use Rattle.cm_description.specs.declared.loaded.Wanted.{Wanted}
 use Rattle.dependency_graph.specs.Order.{Placed}
-use Rattle.bin_formats.specs.Fitting.{is_u32}
 use Rattle.skeleton_asking.specs.Short.{IsShortSkeleton}
 use Rattle.build_laws.specs.Storing.{IsShortWanted, IsSmallPlanned}
 use Rattle.cutoff_builder.specs.Planning.{name_in, of_body, of_parts, planned_at, planned_in, planned_of, wanted_name}
-use Rattle.cutoff_builder.specs.Small.{AreShortNames, is_short_body, is_short_unit}
-
-both : (a b : Bool) → (a && b) ≡ true → (a ≡ true) × (b ≡ true)
-both true b h = (refl, h)
-both false b h = cc
-
-below : (n : ℕ) → is_u32 n ≡ true → n < 2 ^ 32
-below n h = ltb-true n (2 ^ 32) h
+use Rattle.cutoff_builder.specs.Small.{AreShortNames, IsShortBody, IsShortUnit}
 
 -- ---- what stands at a place
-
-unit_passes : (units : List ProjectUnit) (i : ℕ) (unit : ProjectUnit) → list_all is_short_unit units ≡ true
-    → slice_get units i ≡ Some unit → is_short_unit unit ≡ true
-unit_passes [] i unit all is = cc
-unit_passes (u ∷ us) zero unit all is =
-    let same : u ≡ unit = cc in
-    subst (λ (v : ProjectUnit). is_short_unit v ≡ true) same (both (is_short_unit u) (list_all is_short_unit us) all).0
-unit_passes (u ∷ us) (suc i) unit all is =
-    unit_passes us i unit (both (is_short_unit u) (list_all is_short_unit us) all).1 is
 
 item_of : {A : Type 0} (P : A → Type 0) (xs : List A) (i : ℕ) (x : A) → All P xs → slice_get xs i ≡ Some x → P x
 item_of P xs i x all is = subst P (get_or_from_slice_get xs i x x is) (all i x (slice_get_within xs i x is))
 
-name_is : (units : List ProjectUnit) (i : ℕ) (o : Option ProjectUnit) → list_all is_short_unit units ≡ true
+name_is : (units : List ProjectUnit) (i : ℕ) (o : Option ProjectUnit) → All IsShortUnit units
     → slice_get units i ≡ o → length (name_in o) < 2 ^ 32
 name_is units i None all is = omega arith
-name_is units i (Some unit) all is =
-    below (length unit.name)
-    (both (is_u32 (length unit.name)) (is_short_body unit.body) (unit_passes units i unit all is)).0
+name_is units i (Some unit) all is = (item_of IsShortUnit units i unit all is).name
 
 -- ---- a unit that a build takes
 
-wanted_are : (units : List ProjectUnit) (ws : List Wanted) → list_all is_short_unit units ≡ true
+wanted_are : (units : List ProjectUnit) (ws : List Wanted) → All IsShortUnit units
     → All (λ (w : Wanted). length w.name.name < 2 ^ 32) ws → AllByRecursion IsShortWanted (map (wanted_name units) ws)
 wanted_are units [] all each = tt
 wanted_are units (w ∷ ws) all each = (
@@ -61,12 +41,12 @@ wanted_are units (w ∷ ws) all each = (
 )
 
 body_small : (units : List ProjectUnit) (name : List ℕ) (b : UnitBody) (skeleton : Skeleton) (wanted : List Wanted)
-    → list_all is_short_unit units ≡ true → length name < 2 ^ 32 → is_short_body b ≡ true → IsShortSkeleton skeleton
+    → All IsShortUnit units → length name < 2 ^ 32 → IsShortBody b → IsShortSkeleton skeleton
     → AreShortNames wanted → AllByRecursion IsSmallPlanned (of_body units name b skeleton wanted)
 body_small units name (body.Source options source) skeleton wanted all named short small names = (
   record {
     unit = named;
-    source = below (length source) short;
+    source = short;
     defined = small.defined;
     each_defined = small.each_defined;
     free = small.free;
@@ -79,13 +59,13 @@ body_small units name (body.Source options source) skeleton wanted all named sho
 body_small units name (body.Frozen imports interface code) skeleton wanted all named short small names = tt
 
 parts_small : (units : List ProjectUnit) (skeletons : List Skeleton) (wanted : List (List Wanted)) (number : ℕ)
-    (o : Option ProjectUnit) (s : Option Skeleton) (w : Option (List Wanted)) → list_all is_short_unit units ≡ true
+    (o : Option ProjectUnit) (s : Option Skeleton) (w : Option (List Wanted)) → All IsShortUnit units
     → All IsShortSkeleton skeletons → All AreShortNames wanted → slice_get units number ≡ o
     → slice_get skeletons number ≡ s → slice_get wanted number ≡ w
     → AllByRecursion IsSmallPlanned (of_parts units o s w)
 parts_small units skeletons wanted number (Some unit) (Some skeleton) (Some names) all short each here with these =
-    let two = both (is_u32 (length unit.name)) (is_short_body unit.body) (unit_passes units number unit all here) in
-    body_small units unit.name unit.body skeleton names all (below (length unit.name) two.0) two.1
+    let is = item_of IsShortUnit units number unit all here in
+    body_small units unit.name unit.body skeleton names all is.name is.body
     (item_of IsShortSkeleton skeletons number skeleton short with)
     (item_of AreShortNames wanted number names each these)
 parts_small units skeletons wanted number (Some unit) (Some skeleton) None all short each here with these = tt
@@ -100,7 +80,7 @@ all_append P [] ys all more = more
 all_append P (x ∷ xs) ys all more = (all.0, all_append P xs ys all.1 more)
 
 each_small : (p : Project) (skeletons : List Skeleton) (wanted : List (List Wanted)) (numbers : List ℕ)
-    → list_all is_short_unit p.units ≡ true → All IsShortSkeleton skeletons → All AreShortNames wanted
+    → All IsShortUnit p.units → All IsShortSkeleton skeletons → All AreShortNames wanted
     → AllByRecursion IsSmallPlanned (planned_in p skeletons wanted numbers)
 each_small p skeletons wanted [] all short each = tt
 each_small p skeletons wanted (number ∷ more) all short each =
@@ -110,7 +90,7 @@ each_small p skeletons wanted (number ∷ more) all short each =
     (each_small p skeletons wanted more all short each)
 
 pub all_small : (p : Project) (skeletons : List Skeleton) (wanted : List (List Wanted)) (order : List Placed)
-    → IsTrue (list_all is_short_unit p.units) → All IsShortSkeleton skeletons → All AreShortNames wanted
+    → All IsShortUnit p.units → All IsShortSkeleton skeletons → All AreShortNames wanted
     → AllByRecursion IsSmallPlanned (planned_of p skeletons wanted order)
 all_small p skeletons wanted order all short each =
     each_small p skeletons wanted (map (λ (placed : Placed). placed.unit) order) all short each

@@ -34,6 +34,17 @@ module _ (compiled : CompileInput → Result Compiled Diag) (bs : List BuiltUnit
           subst (IsStorable p) (sym (ap (λ (i : CompileInput). built_unit i v.made) one.input_is) ∙ same)
           (storable (interface_bytes bs) p (givens_of bs p.wanted) v.made small (short_givens bs p.wanted small.each_wanted) one.fits)
 
+  -- .. and has its unit's name
+  pub has_name : (u : BuiltUnit) → as_compiled (unit_after compiled bs p) ≡ Ok u → p.unit ≡ u.unit
+  has_name u is = by_answer (unit_after compiled bs p) refl is
+    where
+      by_answer : (r : Result PlainUnit Diag) → unit_after compiled bs p ≡ r → as_compiled r ≡ Ok u → p.unit ≡ u.unit
+      by_answer (Err d) gives is = cc
+      by_answer (Ok v) gives is =
+          let one = unit_answers (interface_bytes bs) (input_after bs p) (compiled (input_after bs p)) v gives in
+          let same : compiled_unit v ≡ u = cc in
+          sym (ap (λ (i : CompileInput). i.unit) one.input_is) ∙ ap (λ (b : BuiltUnit). b.unit) same
+
   module _ (files : Files) (old new : Option Files) (asked now : List (List ℕ)) (tells : old ≡ Some files) where
     -- nothing was begun
     pub turns_folder : new ≡ old → now ≡ asked → Turns (Err unit_stop.Folder) (turn compiled files bs p) files new p asked now

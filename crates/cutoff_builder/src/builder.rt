@@ -9,14 +9,13 @@ ghost use Rattle.build_laws.specs.CutBuild.{cut_after, cut_build};
 ghost use Rattle.build_laws.specs.Left.{KeepsProject};
 ghost use Rattle.build_laws.specs.Storing.{IsSmallPlanned};
 ghost use Rattle.cutoff_builder.specs.Answers.{Cuts, Steps};
-ghost use Rattle.cutoff_builder.specs.Doing.{IsDone};
+ghost use Rattle.cutoff_builder.specs.Doing.{HasShortBin, IsDone, StepAdds, done_units};
 ghost use Rattle.cutoff_builder.specs.Planning.{as_list, planned_of};
-ghost use Rattle.cutoff_builder.specs.Small.{AreShortNames};
+ghost use Rattle.cutoff_builder.specs.Small.{AreShortNames, IsShortUnit};
 ghost use Rattle.cutoff_builder.specs.Theorem.{Builds};
 
 use crate::done::Done;
 use crate::planned::source_unit;
-use crate::small::all_short;
 use crate::turn::{UnitFault, take_turn};
 use crate::unit::SourceUnit;
 use build_laws::ALL_INTERFACES;
@@ -51,6 +50,7 @@ fn build_number<F: Folder, C: Compiler>(
     ensures same { C.asked_skeletons compiler.new ≡ C.asked_skeletons compiler.old }
     ensures done { OnOk result (IsDone done.new) }
     ensures few { OnOk result (done.new.interface_bytes ≤ ALL_INTERFACES) }
+    ensures adds { StepAdds result done.old.units done.new.units }
 {
     let Some(planned) = found else {
         return Ok(());
@@ -80,6 +80,8 @@ fn build_each<F: Folder, C: Compiler>(
         (cut_build C.defines.compiled files (planned_of project.now skeletons.now wanted.now order.now))
         (F.holds folder.new) (C.asked compiler.old) (C.asked compiler.new)) }
     ensures same { C.asked_skeletons compiler.new ≡ C.asked_skeletons compiler.old }
+    ensures count { length (done_units result) ≤ length project.now.units }
+    ensures bins { All HasShortBin (done_units result) }
 {
     let mut done = Done::none(alloc);
     let count = project.units.len() as u32;
@@ -101,13 +103,13 @@ fn build_each<F: Folder, C: Compiler>(
 }
 
 /// Builds the units of a project in their order over its store. `skeletons` and `wanted` have a skeleton and the wanted
-/// names of each unit, by its number; the store's formats can hold them. It stops at the first diagnostic, where the
-/// folder fails, or for want of memory, for which a name or a source of 2^32 bytes, which no format can hold, and 2^32
-/// units count too.
+/// names of each unit, by its number; the store's formats can hold them, and the units' names and sources. It stops at
+/// the first diagnostic, where the folder fails, or for want of memory.
 ///
 /// From a good store it is the plain build of the project: the same units, the same diagnostic, the same files; and the
 /// compiler is asked for what is stale in the store and for nothing else. Over any other store it does what `cut_build`
-/// says, and leaves the project as it was.
+/// says, and leaves the project as it was. In any folder it has done no more units than there are, and the format can
+/// hold the binfile of each.
 pub fn build<F: Folder, C: Compiler>(
     alloc: Global,
     folder: &mut F,
@@ -123,6 +125,8 @@ pub fn build<F: Folder, C: Compiler>(
     requires providers { All (λ list. All (λ w. w.provider < length project.now.units) list) wanted.now }
     requires short { All IsShortSkeleton skeletons.now }
     requires names { All AreShortNames wanted.now }
+    requires few { length project.now.units < 2 ^ 32 }
+    requires units { All IsShortUnit project.now.units }
     ensures cause { HasCause (F.faults folder.old) (F.faults folder.new) (result ≡ Err BuildFault.Folder) }
     ensures cuts { Told (F.holds folder.old) (λ files. Cuts result C.defines.compiled files
         (planned_of project.now skeletons.now wanted.now order.now)
@@ -133,9 +137,8 @@ pub fn build<F: Folder, C: Compiler>(
         (C.asked compiler.old) (C.asked compiler.new)) }
     ensures project { Told (F.holds folder.old) (λ files. KeepsProject files (F.holds folder.new)) }
     ensures same { C.asked_skeletons compiler.new ≡ C.asked_skeletons compiler.old }
+    ensures count { length (done_units result) ≤ length project.now.units }
+    ensures bins { All HasShortBin (done_units result) }
 {
-    if !all_short(project) {
-        return Err(BuildFault::NoMemory);
-    }
     build_each(alloc, folder, compiler, project, skeletons, wanted, order)
 }

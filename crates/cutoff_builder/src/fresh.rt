@@ -1,8 +1,10 @@
 //! Whether a unit is stale, and what the store has of it where it isn't.
 
-ghost use Rattle.std.specs.Prelude.{◌≡◌, Err, IfOk, MatchBool, not};
+ghost use Rattle.std.specs.Prelude.{◌≡◌, Err, IfOk, IfSome, MatchBool, not};
 ghost use Rattle.cm_base.specs.Causes.{HasCause};
 ghost use Rattle.cm_base.specs.Files.{Told};
+ghost use Rattle.bin_formats.specs.Format.{IsBin};
+ghost use Rattle.cutoff_builder.specs.Doing.{HasShortBin};
 ghost use Rattle.build_laws.specs.Stale.{HasKey, same_flag, same_options, same_import, same_imports, same_key, loaded_unit, loaded};
 
 use bin_store::{Bin, StoreFault, get_bin, get_interface};
@@ -64,8 +66,11 @@ pub fn is_stale(bin: &Bin, options: Options, source: &Text, imports: &List<Impor
 }
 
 /// The unit of a binfile and of its interface.
+#[tactic(auto, using(crate::proofs::Bins::loaded_has_bin))]
 fn loaded_from(bin: Bin, interface: Text) -> BuiltUnit
-    ensures { result ≡ loaded_unit bin interface }
+    requires { IsBin bin }
+    ensures is { result ≡ loaded_unit bin interface }
+    ensures bin { HasShortBin result }
 {
     BuiltUnit {
         unit: bin.unit,
@@ -77,7 +82,8 @@ fn loaded_from(bin: Bin, interface: Text) -> BuiltUnit
     }
 }
 
-/// The unit as the store has it, where it isn't stale: its whole binfile with this key, and its whole interface.
+/// The unit as the store has it, where it isn't stale: its whole binfile with this key, and its whole interface. In any
+/// folder it is that of a binfile that the format can hold.
 #[tactic(auto, unfolding(build_laws::specs::Stale::loaded))]
 pub fn load_unit<F: Folder>(
     alloc: Global,
@@ -91,6 +97,7 @@ pub fn load_unit<F: Folder>(
     ensures same { F.holds folder.new ≡ F.holds folder.old }
     ensures found { Told (F.holds folder.old) (λ files. IfOk result (λ found. found
         ≡ loaded files name.now options source.now imports.now)) }
+    ensures bin { IfOk result (λ found. IfSome found HasShortBin) }
 {
     let Some(bin) = get_bin(alloc, folder, name)? else {
         return Ok(None);

@@ -6,7 +6,6 @@ mod builder;
 mod done;
 mod fresh;
 mod planned;
-mod small;
 mod store;
 mod turn;
 mod unit;

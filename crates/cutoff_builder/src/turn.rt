@@ -7,7 +7,7 @@ ghost use Rattle.build_laws.specs.CutBuild.{turn};
 ghost use Rattle.build_laws.specs.PlainBuild.{unit_after};
 ghost use Rattle.build_laws.specs.Storing.{IsSmallPlanned};
 ghost use Rattle.cutoff_builder.specs.Answers.{as_compiled, CompilesUnit, Turns, UnitAsked};
-ghost use Rattle.cutoff_builder.specs.Doing.{IsDone};
+ghost use Rattle.cutoff_builder.specs.Doing.{HasShortBin, IsDone};
 
 use crate::done::Done;
 use crate::fresh::load_unit;
@@ -54,6 +54,7 @@ fn compile_turn<F: Folder, C: Compiler>(
     ensures asked { UnitAsked result (C.asked compiler.old) (C.asked compiler.new) (planned.now.unit ∷ []) }
     ensures same { C.asked_skeletons compiler.new ≡ C.asked_skeletons compiler.old }
     ensures room { IfOk result (λ unit. done.now.interface_bytes + length unit.interface ≤ ALL_INTERFACES) }
+    ensures bin { IfOk result HasShortBin }
 {
     let input = input_for(alloc, done, planned)?;
     let unit = match compile(alloc, compiler, input, done.interface_bytes) {
@@ -68,7 +69,8 @@ fn compile_turn<F: Folder, C: Compiler>(
     }
 }
 
-/// One unit's turn after those that are done. A loaded unit is never written.
+/// One unit's turn after those that are done. A loaded unit is never written. The format can hold the binfile of a unit
+/// that is done.
 pub fn take_turn<F: Folder, C: Compiler>(
     alloc: Global,
     folder: &mut F,
@@ -84,6 +86,7 @@ pub fn take_turn<F: Folder, C: Compiler>(
         files (F.holds folder.new) planned.now (C.asked compiler.old) (C.asked compiler.new)) }
     ensures same { C.asked_skeletons compiler.new ≡ C.asked_skeletons compiler.old }
     ensures room { IfOk result (λ unit. done.now.interface_bytes + length unit.interface ≤ ALL_INTERFACES) }
+    ensures bin { IfOk result HasShortBin }
 {
     let imports = imports_for(alloc, done, planned)?;
     match load_unit(

@@ -190,6 +190,7 @@ pub fn within(alloc: Global, before: u64, unit: BuiltUnit) -> Result<BuiltUnit, 
     requires { before ≤ ALL_INTERFACES }
     ensures gives { Gives result (limited before unit) }
     ensures room { IfOk result (λ unit. before + length unit.interface ≤ ALL_INTERFACES) }
+    ensures same { IfOk result (λ within. within ≡ unit) }
 {
     if is_too_large(before, &unit.interface, &unit.code) {
         return Err(Fault::Diag(Diag::on_file(alloc, 12, &unit.unit)?));

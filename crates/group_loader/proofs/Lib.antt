@@ -5,4 +5,5 @@ pub mod Groups
 pub mod Headline
 pub mod Making
 pub mod MemberSteps
+pub mod Nearness
 pub mod Whole

@@ -1,9 +1,10 @@
 //! The way down from ROOT: each group's members in turn, and below a group its own.
 
-ghost use Rattle.std.specs.Prelude.{◌≡◌, ◌<◌, None, OnOk, length, slice_get};
+ghost use Rattle.std.specs.Prelude.{◌≡◌, ◌<◌, ◌+◌, None, OnOk, length, slice_get};
 ghost use Rattle.std.specs.List.{filter_map};
 ghost use Rattle.cm_base.specs.Diags.{whole_file};
 ghost use Rattle.loader_parts.specs.Loaders.{GoesOn, IsReady};
+ghost use Rattle.loader_parts.specs.ShortNames.{IsNear};
 ghost use Rattle.project_checks.specs.Whole.{IsOpen, IsRead};
 ghost use Rattle.project_loading.specs.Projects.{begun, number_of};
 ghost use Rattle.tool_loading.specs.Projects.{entered_within, with_described, with_member, with_members, with_met, with_plain_member};
@@ -45,6 +46,7 @@ fn enter<F: Folder, T: Tool>(
 ) -> Result<(), LoadFault>
     requires ready { IsReady loader.old }
     requires new { number_of loader.old.progress name.now ≡ None }
+    requires near { IsNear levels name.now }
     ensures loads { Loads (answer result loader.new.progress)
         (scene_of (F.holds folder.old) (F.faults folder.old) (states_by T.class T.rule T.ran T.faults tools.old))
         (scene_of (F.holds folder.new) (F.faults folder.new) (states_by T.class T.rule T.ran T.faults tools.new))
@@ -73,6 +75,7 @@ pub(crate) fn load_described<F: Folder, T: Tool>(
 ) -> Result<(), LoadFault>
     requires ready { IsReady loader.old }
     requires new { number_of loader.old.progress name.now ≡ None }
+    requires near { IsNear (levels + 1) name.now }
     requires read { IsRead (begun name.now description) }
     requires room { length loader.old.progress.groups < GROUPS }
     ensures loads { Loads (answer result loader.new.progress)
@@ -109,6 +112,7 @@ fn load_members<F: Folder, T: Tool>(
 ) -> Result<(), LoadFault>
     requires ready { IsReady loader.old }
     requires going { IsOpen loader.old.progress holder.now.number }
+    requires near { IsNear (levels + 1) holder.now.name.now }
     ensures loads { Loads (answer result loader.new.progress)
         (scene_of (F.holds folder.old) (F.faults folder.old) (states_by T.class T.rule T.ran T.faults tools.old))
         (scene_of (F.holds folder.new) (F.faults folder.new) (states_by T.class T.rule T.ran T.faults tools.new))
@@ -139,6 +143,7 @@ fn load_member<F: Folder, T: Tool>(
 ) -> Result<(), LoadFault>
     requires ready { IsReady loader.old }
     requires going { IsOpen loader.old.progress holder.now.number }
+    requires near { IsNear (levels + 1) holder.now.name.now }
     ensures loads { Loads (answer result loader.new.progress)
         (scene_of (F.holds folder.old) (F.faults folder.old) (states_by T.class T.rule T.ran T.faults tools.old))
         (scene_of (F.holds folder.new) (F.faults folder.new) (states_by T.class T.rule T.ran T.faults tools.new))
@@ -169,6 +174,7 @@ fn load_plain<F: Folder, T: Tool>(
 ) -> Result<(), LoadFault>
     requires ready { IsReady loader.old }
     requires going { IsOpen loader.old.progress holder.now.number }
+    requires near { IsNear (levels + 1) holder.now.name.now }
     ensures loads { Loads (answer result loader.new.progress)
         (scene_of (F.holds folder.old) (F.faults folder.old) (states_by T.class T.rule T.ran T.faults tools.old))
         (scene_of (F.holds folder.new) (F.faults folder.new) (states_by T.class T.rule T.ran T.faults tools.new))
@@ -210,6 +216,7 @@ fn load_group<F: Folder, T: Tool>(
 ) -> Result<(), LoadFault>
     requires ready { IsReady loader.old }
     requires going { IsOpen loader.old.progress holder }
+    requires near { IsNear levels name.now }
     ensures loads { Loads (answer result loader.new.progress)
         (scene_of (F.holds folder.old) (F.faults folder.old) (states_by T.class T.rule T.ran T.faults tools.old))
         (scene_of (F.holds folder.new) (F.faults folder.new) (states_by T.class T.rule T.ran T.faults tools.new))

@@ -11,6 +11,7 @@ ghost use Rattle.project_checks.specs.declared.limits.TheConstants.{SOURCE};
 ghost use Rattle.project_loading.specs.Projects.{member_name, path_refusal, refused, there};
 ghost use Rattle.loader_parts.specs.Answers.{Loads as Reads};
 ghost use Rattle.loader_parts.specs.Loaders.{GoesOn, IsReady};
+ghost use Rattle.loader_parts.specs.ShortNames.{IsNear};
 ghost use Rattle.tool_deriving.specs.Toolboxes.{rules_of};
 ghost use Rattle.tool_loading.specs.Projects.{no_options, tool_member_name, tool_of, with_tool_member};
 ghost use Rattle.group_loader.specs.Answers.{answer};
@@ -155,6 +156,7 @@ pub(crate) fn load_made<F: Folder, T: Tool>(
 ) -> Result<(), LoadFault>
     requires ready { IsReady loader.old }
     requires going { IsOpen loader.old.progress holder.now.number }
+    requires near { IsNear 1 holder.now.name.now }
     requires maker { IsMaker T.class T.rule tools.old member.now maker.now.place maker.now.class.now }
     ensures loads { (rule : List ℕ)
         → tool_of (rules_of T.class T.rule tools.old) member.now ≡ Some (maker.now.class.now, rule)

@@ -5,4 +5,6 @@ pub mod MemberSteps
 pub mod Promises
 pub mod ReadGroups
 pub mod Steps
+pub mod NameLengths
+pub mod Sourcing
 pub mod Tables

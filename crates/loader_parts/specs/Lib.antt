@@ -1,4 +1,5 @@
 pub mod Answers
 pub mod LoadedProjects
+pub mod ShortNames
 pub mod Loaders
 pub mod StepsInARow

@@ -1,6 +1,6 @@
 //! What was loaded so far, with tables in which groups are found by their names.
 
-ghost use Rattle.std.specs.Prelude.{◌≡◌, ◌<◌, None, IfOk, OnOk, length};
+ghost use Rattle.std.specs.Prelude.{◌≡◌, ◌<◌, ◌^◌, None, IfOk, OnOk, length};
 ghost use Rattle.loader_parts.specs.Answers.{LeavesBy};
 ghost use Rattle.loader_parts.specs.Loaders.{HasTables};
 ghost use Rattle.project_loading.specs.Projects.{number_of, is_finished, passes_limits, with_source};
@@ -110,6 +110,7 @@ impl Loader {
     }
 
     /// A unit is met in the group of a number. 12 for one unit too many, or for the sum of all sources.
+    #[tactic(auto, using(crate::proofs::Sourcing::room_for_units, crate::proofs::Sourcing::room_for_bytes, crate::proofs::Sourcing::sources_more))]
     pub fn add_source(
         &mut self,
         alloc: Global,
@@ -119,6 +120,7 @@ impl Loader {
         source: Text,
     ) -> Result<(), Fault>
         requires tables { HasTables self.old }
+        requires named { length name < 2 ^ 32 }
         ensures gives { LeavesBy result (with_source group name options source self.old.progress) self.new.progress }
         ensures tables { OnOk result (HasTables self.new) }
     {

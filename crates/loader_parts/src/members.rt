@@ -1,6 +1,6 @@
 //! Groups whose members are loaded: which members are chosen, how a group begins, and a member that is a source.
 
-ghost use Rattle.std.specs.Prelude.{◌≡◌, [], Err, OnOk};
+ghost use Rattle.std.specs.Prelude.{◌≡◌, ◌<◌, ◌^◌, [], Err, OnOk, length};
 ghost use Rattle.cm_base.specs.Calls.{Gives};
 ghost use Rattle.cm_base.specs.Causes.{HasCause};
 ghost use Rattle.cm_base.specs.Files.{Told};
@@ -81,6 +81,7 @@ pub fn load_source<F: Folder>(
 ) -> Result<(), ReadFault>
     requires ready { IsReady loader.old }
     requires going { IsOpen loader.old.progress holder }
+    requires named { length found.name < 2 ^ 32 }
     ensures cause { HasCause (F.faults folder.old) (F.faults folder.new) (result ≡ Err ReadFault.Folder) }
     ensures same { F.holds folder.new ≡ F.holds folder.old }
     ensures gives { Told (F.holds folder.old) (λ files. Leaves result

@@ -61,7 +61,7 @@ fn in_order(alloc: Global, names: &List<Text>, edges: &List<List<u32>>) -> Resul
     }
 }
 
-/// The order of a project's units with these imports, or the refusal of a cycle. 2^32 units are want of memory.
+/// The order of a project's units with these imports, or the refusal of a cycle.
 #[tactic(auto, using(crate::proofs::Graphs::units_differ, crate::proofs::Graphs::names_count, crate::proofs::Graphs::edges_count, crate::proofs::Graphs::edges_are_units, crate::proofs::Graphs::order_whole))]
 pub(crate) fn order_of(
     alloc: Global,
@@ -71,12 +71,10 @@ pub(crate) fn order_of(
     requires formed { IsWellFormed project.now }
     requires counted { length wanted.now ≡ length project.now.units }
     requires provided { AreProvided project.now wanted.now }
+    requires few { length project.now.units < 2 ^ 32 }
     ensures gives { Gives result (in_order (unit_names project.now) (edges_of wanted.now)) }
     ensures whole { IfOk result (IsOrder (unit_names project.now) (edges_of wanted.now)) }
 {
-    if project.units.len() >= 1 << 32 {
-        return Err(Fault::NoMemory);
-    }
     let names = unit_names(alloc, project)?;
     let edges = edges_of(alloc, wanted.as_slice())?;
     in_order(alloc, &names, &edges)

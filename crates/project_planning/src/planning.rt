@@ -1,6 +1,6 @@
 //! A project is planned: its skeletons and its names are found, and its units ordered.
 
-ghost use Rattle.std.specs.Prelude.{◌≡◌, ℕ, All, Err, IfOk, List, length};
+ghost use Rattle.std.specs.Prelude.{◌≡◌, ◌<◌, ◌^◌, ℕ, All, Err, IfOk, List, length};
 ghost use Rattle.bin_store.specs.GoodStore.{IsGoodStore};
 ghost use Rattle.cm_base.specs.Calls.{Gives};
 ghost use Rattle.cm_base.specs.Causes.{HasCause};
@@ -22,8 +22,8 @@ use std::alloc::Global;
 use visibility::all_names;
 
 /// The plan of a project whose units have these skeletons, or the first refusal: of names, group by group in the order
-/// in which their loading ended (22, 3, 4, 25, 23, 24), and then of a cycle of units (26). 2^32 units are want of
-/// memory. Each unit has a skeleton.
+/// in which their loading ended (22, 3, 4, 25, 23, 24), and then of a cycle of units (26). Each unit has a skeleton, and
+/// numbers of four bytes count them.
 #[tactic(auto, using(crate::proofs::Providers::names_counted, crate::proofs::Providers::names_provided, crate::proofs::Graphs::order_count, crate::proofs::Planned::planned_differ))]
 pub fn plan_with(
     alloc: Global,
@@ -33,6 +33,7 @@ pub fn plan_with(
 ) -> Result<Plan, Fault>
     requires formed { IsWellFormed project.now }
     requires counted { length skeletons ≡ length project.now.units }
+    requires few { length project.now.units < 2 ^ 32 }
     ensures gives { Gives result (plan_with project.now defs.now skeletons) }
     ensures skeletons { IfOk result (λ plan. plan.skeletons ≡ skeletons) }
     ensures order { IfOk result (λ plan. length plan.order ≡ length project.now.units) }
@@ -53,7 +54,7 @@ pub fn plan_with(
 /// The plan of a project, or the first refusal: the first refused skeleton in load order; then what is refused of
 /// names, group by group in the order in which their loading ended (22, 3, 4, 25, 23, 24); then a cycle of units (26).
 /// Skeletons come out of the binfiles that were made of the same sources; for the others the compiler is asked, in load
-/// order, and for none after a refused one. 2^32 units are want of memory. No file changes.
+/// order, and for none after a refused one. No file changes. Numbers of four bytes count the units.
 ///
 /// It is the plan over the store as it stands, whoever wrote it. From a good store it is the compiler's plan. A build
 /// takes it as it is: its lists have an entry for each unit, the store's formats can hold its skeletons and its
@@ -67,6 +68,7 @@ pub fn make_plan<F: Folder, C: Compiler>(
     defs: &List<Def>,
 ) -> Result<Plan, PlanFault>
     requires formed { IsWellFormed project.now }
+    requires few { length project.now.units < 2 ^ 32 }
     ensures cause { HasCause (F.faults folder.old) (F.faults folder.new) (result ≡ Err PlanFault.Folder) }
     ensures holds { F.holds folder.new ≡ F.holds folder.old }
     ensures plans { Told (F.holds folder.old) (λ files. Plans result

@@ -5,7 +5,6 @@
 mod asking;
 mod fault;
 pub mod laws;
-mod short;
 mod stored;
 
 pub use asking::find_skeletons;

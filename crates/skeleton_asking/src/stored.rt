@@ -6,7 +6,6 @@ ghost use Rattle.cm_base.specs.Files.{Told};
 ghost use Rattle.skeleton_asking.specs.Short.{IsShortSkeleton};
 ghost use Rattle.skeleton_asking.specs.Skeletons.{skeleton_of_source, stored_skeleton};
 
-use crate::short::if_short;
 use bin_store::{Bin, StoreFault, get_bin};
 use cm_base::{Folder, Skeleton, Text};
 use std::alloc::Global;
@@ -30,7 +29,7 @@ fn skeleton_of_source(source: &Text, found: Option<Bin>) -> Option<Skeleton>
 /// The skeleton of a source as the store has it: that of the unit's whole binfile, where this was made of the same
 /// whole source. Its options, its imports and its interface don't matter: a skeleton is one of the source alone. It is
 /// short, as all that a whole binfile has.
-#[tactic(auto, unfolding(crate::specs::Skeletons::stored_skeleton), using(crate::proofs::Shortness::stored_kept))]
+#[tactic(auto, unfolding(crate::specs::Skeletons::stored_skeleton), using(crate::proofs::Shortness::source_is_short))]
 pub fn get_skeleton<F: Folder>(
     alloc: Global,
     folder: &mut F,
@@ -44,5 +43,5 @@ pub fn get_skeleton<F: Folder>(
     ensures short { IfOk result (λ found. IfSome found IsShortSkeleton) }
 {
     let found = get_bin(alloc, folder, unit)?;
-    Ok(if_short(skeleton_of_source(source, found)))
+    Ok(skeleton_of_source(source, found))
 }

@@ -1,21 +1,20 @@
-use Rattle.std.proofs.Common.{refl}
 use Rattle.cutoff_builder.specs.Planning.{planned_of}
-use Rattle.cutoff_builder.proofs.Building.{builds_plain, builds_nothing, cuts_nothing, keeps_project}
+use Rattle.cutoff_builder.proofs.Building.{builds_plain, keeps_project}
 use Rattle.cutoff_builder.proofs.Smallness.{all_small}
 use Rattle.cutoff_builder.proofs.builder.build.Goals as goal
 
 pub build_each-requires-clause-small : goal.build_each-requires-clause-small
 build_each-requires-clause-small g c =
-    all_small c.args.project.now c.args.skeletons.now c.args.wanted.now c.args.order.now
-    (c.if-not-all_short.ensures.short refl) c.requires.short c.requires.names
+    all_small c.args.project.now c.args.skeletons.now c.args.wanted.now c.args.order.now c.requires.units
+    c.requires.short c.requires.names
 
 pub returns-clause-builds : goal.returns-clause-builds
 returns-clause-builds g c = λ files told. builds_plain g.C.Compiler.defines files
     (planned_of c.args.project.now c.args.skeletons.now c.args.wanted.now c.args.order.now) c.build_each.result
     (g.F.Folder.holds c.build_each.new.folder) (g.C.Compiler.asked c.args.compiler.now)
     (g.C.Compiler.asked c.build_each.new.compiler)
-    (all_small c.args.project.now c.args.skeletons.now c.args.wanted.now c.args.order.now
-    (c.if-not-all_short.ensures.short refl) c.requires.short c.requires.names)
+    (all_small c.args.project.now c.args.skeletons.now c.args.wanted.now c.args.order.now c.requires.units
+    c.requires.short c.requires.names)
     (c.build_each.ensures.cuts files told)
 
 pub returns-clause-project : goal.returns-clause-project
@@ -23,13 +22,3 @@ returns-clause-project g c = λ files told. keeps_project g.C.Compiler.defines.c
     (planned_of c.args.project.now c.args.skeletons.now c.args.wanted.now c.args.order.now) c.build_each.result
     (g.F.Folder.holds c.build_each.new.folder) (g.C.Compiler.asked c.args.compiler.now)
     (g.C.Compiler.asked c.build_each.new.compiler) (c.build_each.ensures.cuts files told)
-
-pub returns-then-not-all_short-clause-cuts : goal.returns-then-not-all_short-clause-cuts
-returns-then-not-all_short-clause-cuts g c = λ files told. cuts_nothing g.C.Compiler.defines.compiled files
-    (planned_of c.args.project.now c.args.skeletons.now c.args.wanted.now c.args.order.now)
-    (g.F.Folder.holds c.args.folder.now) (g.C.Compiler.asked c.args.compiler.now) told
-
-pub returns-then-not-all_short-clause-builds : goal.returns-then-not-all_short-clause-builds
-returns-then-not-all_short-clause-builds g c = λ files told. builds_nothing g.C.Compiler.defines files
-    (planned_of c.args.project.now c.args.skeletons.now c.args.wanted.now c.args.order.now)
-    (g.F.Folder.holds c.args.folder.now) (g.C.Compiler.asked c.args.compiler.now) told

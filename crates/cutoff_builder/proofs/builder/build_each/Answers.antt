@@ -4,6 +4,7 @@ use Rattle.std.proofs.lemmas.List.{length-map, take_all}
 use Rattle.build_laws.specs.Inputs.{interface_bytes}
 use Rattle.build_laws.specs.Storing.{IsSmallPlanned}
 use Rattle.cutoff_builder.specs.Planning.{as_list, planned_in, planned_of}
+use Rattle.cutoff_builder.proofs.Bins.{none_have_bins, no_units, step_bins, step_count}
 use Rattle.cutoff_builder.proofs.Going.{Going, going_start, going_more, going_stops, going_folder, going_memory, going_ends, planned_split, planned_more, each_middle}
 use Rattle.cutoff_builder.proofs.builder.build_each.Goals as goal
 
@@ -16,6 +17,8 @@ loop-place-init g c = record {
   few = let none = c.none-done.ensures.done.bytes ∙ ap interface_bytes c.none-done.ensures.units in omega (arith, none);
   later = omega arith;
   same = refl;
+  count = no_units c.none-done.result.units c.none-done.ensures.units 0;
+  bins = none_have_bins c.none-done.result.units c.none-done.ensures.units;
 }
 
 pub build_number-requires-clause-small : goal.build_number-requires-clause-small
@@ -99,6 +102,10 @@ loop-place-preserved g c =
       few = c.in-Ok.ensures.few;
       later = omega (arith, c.loop-place.invariant.later, c.in-Ok.ensures.cause.later);
       same = c.in-Ok.ensures.same ∙ c.loop-place.invariant.same;
+      count = step_count c.loop-place.place c.loop-place.done.units c.build_number.new.done.units
+          c.loop-place.invariant.count c.in-Ok.ensures.adds;
+      bins = step_bins c.loop-place.done.units c.build_number.new.done.units c.loop-place.invariant.bins
+          c.in-Ok.ensures.adds;
     }
 
 pub returns-clause-cuts : goal.returns-clause-cuts

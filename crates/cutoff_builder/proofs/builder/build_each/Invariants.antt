@@ -1,7 +1,8 @@
-use Rattle.std.proofs.Common.{◌≡◌, ◌≤◌, map, take}
+use Rattle.std.proofs.Common.{◌≡◌, ◌≤◌, length, map, take}
+use Rattle.std.specs.Prelude.{All}
 use Rattle.cm_base.specs.Files.{Told}
 use Rattle.build_laws.specs.declared.limits.TheConstants.{ALL_INTERFACES}
-use Rattle.cutoff_builder.specs.Doing.{IsDone}
+use Rattle.cutoff_builder.specs.Doing.{HasShortBin, IsDone}
 use Rattle.cutoff_builder.specs.Planning.{planned_in}
 use Rattle.cutoff_builder.proofs.Going.{Going}
 use Rattle.cutoff_builder.proofs.builder.build_each.Given as goal
@@ -16,4 +17,6 @@ invariant-loop-place g l = record {
   few : l.done.interface_bytes ≤ ALL_INTERFACES;
   later : g.F.Folder.faults l.fn.folder ≤ g.F.Folder.faults l.folder;
   same : g.C.Compiler.asked_skeletons l.compiler ≡ g.C.Compiler.asked_skeletons l.fn.compiler;
+  count : length l.done.units ≤ l.place;
+  bins : All HasShortBin l.done.units;
 }

@@ -62,7 +62,7 @@ load_described-load_members-requires g t c κs within =
           (
             begun_ready old new group c.requires.ready (subst IsRead (sym group_is) c.requires.read)
                 c.in_ok-begin.ensures.tables starts,
-            subst (IsOpen new.progress) (sym c.next_number-number.ensures) going,
+            (subst (IsOpen new.progress) (sym c.next_number-number.ensures) going, c.requires.near),
           ),
         ),
       ),

@@ -9,7 +9,13 @@ use Rattle.tool_loading.specs.Projects.{without_options}
 use Rattle.group_loader.specs.Answers.{of_member}
 use Rattle.group_loader.proofs.Ending.{derives}
 use Rattle.group_loader.proofs.Making.{added_stops, input_stops, left_gives, made, name_stops, rule_is, source_stops}
+use Rattle.group_loader.proofs.Nearness.{tool_member_short}
 use Rattle.group_loader.proofs.members.load_made.Goals as goal
+
+pub add_source-requires-clause-named : goal.add_source-requires-clause-named
+add_source-requires-clause-named g c =
+    tool_member_short c.args.context.now.anchors.now c.args.holder.now.name.now c.args.member.now c.in_ok-name.name
+    c.requires.near c.in_ok-name.ensures
 
 pub returns-in_err-name-clause-loads : goal.returns-in_err-name-clause-loads
 returns-in_err-name-clause-loads g c = λ rule named.

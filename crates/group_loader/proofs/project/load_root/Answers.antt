@@ -6,7 +6,12 @@ use Rattle.tool_loading.specs.Projects.{reached_from}
 use Rattle.group_loader.specs.Loading.{setting_at}
 use Rattle.group_loader.proofs.Ending.{value_is}
 use Rattle.group_loader.proofs.Whole.{described_so, description_stops, members_stop, name_stops, place_stops}
+use Rattle.loader_parts.proofs.NameLengths.{root_near}
 use Rattle.group_loader.proofs.project.load_root.Goals as goal
+
+pub load_described-requires-clause-near : goal.load_described-requires-clause-near
+load_described-requires-clause-near g c =
+    root_near c.args.context.now.anchors.now c.args.root.now c.in_ok-name.name c.in_ok-name.ensures
 
 pub returns-in_err-name-clause-loads : goal.returns-in_err-name-clause-loads
 returns-in_err-name-clause-loads g c =
