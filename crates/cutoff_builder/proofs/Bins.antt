@@ -36,12 +36,12 @@ pub step_bins : (before after : List BuiltUnit) → All HasShortBin before → S
     → All HasShortBin after
 step_bins before after all (inl same) = subst (All HasShortBin) (sym same) all
 step_bins before after all (inr one) =
-    subst (All HasShortBin) (sym one.1.1) (All-push HasShortBin before one.0 all one.1.0)
+    subst (All HasShortBin) (sym one.2) (All-push HasShortBin before one.0 all one.1)
 
 pub step_count : (n : ℕ) (before after : List BuiltUnit) → length before ≤ n → StepAdds (Ok tt) before after
     → length after ≤ n + 1
 step_count n before after few (inl same) = let long = ap length same in omega (arith, few, long)
 step_count n before after few (inr one) =
-    let long = ap length one.1.1 in
+    let long = ap length one.2 in
     let more = length-append before (one.0 ∷ []) in
     omega (arith, few, long, more)

@@ -12,7 +12,7 @@ use Rattle.tool_loading.specs.Projects.{no_options, tool_member_name}
 
 both_ok : {A B : Type 0} (m : Result A Diag) (next : A → Result B Diag) (b : B) → (m >>= next) ≡ Ok b
     → (a : A) × (m ≡ Ok a) × (next a ≡ Ok b)
-both_ok (Ok a) next b is = (a, (refl, is))
+both_ok (Ok a) next b is = (a, refl, is)
 both_ok (Err diag) next b is = absurd cc
 
 -- the levels below don't matter to a member that is a source
@@ -24,10 +24,11 @@ pub found_near : (anchors : Bindings) (holder : List ℕ) (member : MemberEntry)
     → IsNear (levels + 1) holder → found_of anchors holder member ≡ Ok found → IsNear levels found.name
 found_near anchors holder member found levels near is =
     let one = both_ok (member_name anchors holder member) _ found is in
-    let two = both_ok (class_of member one.0) _ found one.1.1 in
-    let three = both_ok (options_of member two.0) _ found two.1.1 in
-    let same : one.0 ≡ found.name = ap (λ (f : Found). f.name) cc in
-    subst (IsNear levels) same (member_near anchors holder member one.0 levels near one.1.0)
+    let two = both_ok (class_of member one.0) _ found one.2 in
+    let three = both_ok (options_of member two.0) _ found two.2 in
+    let whole : record { name = one.0; class = two.0; options = three.0 } ≡ found = cc (three.2) in
+    let same : one.0 ≡ found.name = ap (λ (f : Found). f.name) whole in
+    subst (IsNear levels) same (member_near anchors holder member one.0 levels near one.1)
 
 pub found_short : (anchors : Bindings) (holder : List ℕ) (member : MemberEntry) (found : Found) (levels : ℕ)
     → IsNear (levels + 1) holder → found_of anchors holder member ≡ Ok found → length found.name < 2 ^ 32
@@ -38,6 +39,6 @@ pub tool_member_short : (anchors : Bindings) (holder : List ℕ) (member : Membe
     → IsNear 1 holder → tool_member_name anchors holder member ≡ Ok name → length name < 2 ^ 32
 tool_member_short anchors holder member name near is =
     let one = both_ok (member_name anchors holder member) _ name is in
-    let two = both_ok (no_options member.at member.options) _ name one.1.1 in
-    let same : one.0 ≡ name = cc in
-    near_short 0 name (subst (IsNear 0) same (member_near anchors holder member one.0 0 near one.1.0))
+    let two = both_ok (no_options member.at member.options) _ name one.2 in
+    let same : one.0 ≡ name = cc (two.2) in
+    near_short 0 name (subst (IsNear 0) same (member_near anchors holder member one.0 0 near one.1))

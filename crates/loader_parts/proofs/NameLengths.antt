@@ -88,18 +88,21 @@ few_walked [] here there fine all is =
     subst (AreFew (length here + 0)) same (record { fine = fine; count = omega arith })
 few_walked (part ∷ parts) here there fine all is =
     by_step (stepped here part)
-    (λ next gives. few_stepped here next part (is_stay part) (is_up part) fine all.0 gives) is
+    (λ next gives. few_stepped here next part (is_stay part) (is_up part) fine all.0 gives)
+    (λ next good so. few_walked parts next there good all.1 so) is
   where
     by_step : (o : Option (List (List ℕ)))
         → ((next : List (List ℕ)) → o ≡ Some next → AreFew (suc (length here)) next)
+        → ((next : List (List ℕ)) → Fine next → walked next parts ≡ Some there
+        → AreFew (length next + length parts) there)
         → option_and_then (λ next. walked next parts) o ≡ Some there
         → AreFew (length here + suc (length parts)) there
-    by_step None step so = absurd cc
-    by_step (Some next) step so =
+    by_step None step rest so = absurd cc
+    by_step (Some next) step rest so =
         let one = step next refl in
         let count = one.count in
-        few_more (length next + length parts) (length here + suc (length parts)) there
-        (few_walked parts next there one.fine all.1 so) (omega (arith, count))
+        few_more (length next + length parts) (length here + suc (length parts)) there (rest next one.fine so)
+        (omega (arith, count))
 
 -- ---- routes
 
