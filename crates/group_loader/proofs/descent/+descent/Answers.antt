@@ -11,6 +11,7 @@ use Rattle.group_loader.specs.Loading.{scene_of, states_by}
 use Rattle.group_loader.proofs.Ending.{reads}
 use Rattle.group_loader.proofs.Groups.{chosen_stops, end_stops, group_done, group_stops, join_stops, known_done, known_stops, level_goes, level_none, level_stops, members_done, members_stop, open_stops, start_stops}
 use Rattle.group_loader.proofs.MemberSteps.{found_stops, is_made, is_plain, member_loaded, member_passed, member_stops, members_done as list_done, leads_as, skip_stops, source_stops}
+use Rattle.group_loader.proofs.Nearness.{found_near, found_short}
 use Rattle.group_loader.proofs.descent.+descent.Goals.{load_members-in-Some+in_ok-load_member, load_members-in_default}
 use Rattle.group_loader.proofs.descent.+descent.Goals as goal
 
@@ -282,6 +283,17 @@ load_members-returns-clause-loads g t c =
     c.loop-number.loader.progress _ _ _ (omega (arith, k, long)) c.loop-number.invariant.back
 
 -- ---- a member of no tool's class
+
+pub load_plain-load_group-requires : goal.load_plain-load_group-requires
+load_plain-load_group-requires g t c κs within =
+    let near = found_near c.args.context.now.anchors.now c.args.holder.now.name.now c.args.member.now
+    c.in_ok-found.found c.args.levels c.requires.near c.in_ok-found.ensures in
+    (omega arith, (within.0, (within.1, (c.requires.ready, (c.requires.going, near)))))
+
+pub load_plain-load_source-requires-clause-named : goal.load_plain-load_source-requires-clause-named
+load_plain-load_source-requires-clause-named g t c =
+    found_short c.args.context.now.anchors.now c.args.holder.now.name.now c.args.member.now c.in_ok-found.found
+    c.args.levels c.requires.near c.in_ok-found.ensures
 
 pub load_plain-returns-in_err-found-clause-loads : goal.load_plain-returns-in_err-found-clause-loads
 load_plain-returns-in_err-found-clause-loads g t c =
