@@ -1,12 +1,11 @@
 -- The constants of the bare unit of a source fit.
-use Rattle.std.proofs.Common.{◌≡◌, ℕ, List, [], ◌∷◌, length, Option, None, Some, Ok, All, refl, subst}
+use Rattle.std.proofs.Common.{◌≡◌, ℕ, List, [], ◌∷◌, Option, None, Some, Ok, All, subst}
 use Rattle.std.proofs.lemmas.List.Elements.{All-head, All-tail}
 use Rattle.cm_base.specs.declared.diag.Diag.{Diag}
 use Rattle.sml_lexer.specs.declared.lexeme.Lexeme.{Lexeme}
 use Rattle.sml_trees.specs.declared.name.At.{At}
 use Rattle.sml_trees.specs.declared.name.Name.{Name}
 use Rattle.sml_trees.specs.declared.full_unit.FullTopDec.{FullTopDec}
-use Rattle.sml_trees.specs.declared.full_unit.FullTopDec.TheVariants as top
 use Rattle.sml_trees.specs.declared.unit.BareUnit.{BareUnit}
 use Rattle.infix_names.specs.Fixities.{initial}
 use Rattle.phrase_reading.specs.Words.{at, word}
