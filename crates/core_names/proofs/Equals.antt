@@ -75,7 +75,7 @@ mark_fits text =
     test text (codes "->") w.Arrow ∷
     test text (codes "#") w.Hash ∷
     [])
-    (tt, tt, tt, tt, tt, tt, tt, tt, tt, tt, tt, tt, tt, same_text text, tt, tt, tt, tt)
+    (tt, (tt, (tt, (tt, (tt, (tt, (tt, (tt, (tt, (tt, (tt, (tt, (tt, (same_text text, (tt, (tt, (tt, tt)))))))))))))))))
 
 a_to_d_fits : (text : List ℕ) → IfAny FitText (if_equals (a_to_d text) text)
 unfolding a_to_d
@@ -89,7 +89,7 @@ a_to_d_fits text =
     test text (codes "datatype") w.Datatype ∷
     test text (codes "do") w.Do ∷
     [])
-    (tt, tt, tt, tt, tt, tt, tt, tt)
+    (tt, (tt, (tt, (tt, (tt, (tt, (tt, tt)))))))
 
 e_to_f_fits : (text : List ℕ) → IfAny FitText (if_equals (e_to_f text) text)
 unfolding e_to_f
@@ -104,7 +104,7 @@ e_to_f_fits text =
     test text (codes "functor") w.Functor ∷
     test text (codes "funsig") w.Funsig ∷
     [])
-    (tt, tt, tt, tt, tt, tt, tt, tt, tt)
+    (tt, (tt, (tt, (tt, (tt, (tt, (tt, (tt, tt))))))))
 
 h_to_n_fits : (text : List ℕ) → IfAny FitText (if_equals (h_to_n text) text)
 unfolding h_to_n
@@ -120,7 +120,7 @@ h_to_n_fits text =
     test text (codes "local") w.Local ∷
     test text (codes "nonfix") w.Nonfix ∷
     [])
-    (tt, tt, tt, tt, tt, tt, tt, tt, tt, tt)
+    (tt, (tt, (tt, (tt, (tt, (tt, (tt, (tt, (tt, tt)))))))))
 
 o_to_s_fits : (text : List ℕ) → IfAny FitText (if_equals (o_to_s text) text)
 unfolding o_to_s
@@ -138,7 +138,7 @@ o_to_s_fits text =
     test text (codes "struct") w.Struct ∷
     test text (codes "structure") w.Structure ∷
     [])
-    (tt, tt, tt, tt, tt, tt, tt, tt, tt, tt, tt, tt)
+    (tt, (tt, (tt, (tt, (tt, (tt, (tt, (tt, (tt, (tt, (tt, tt)))))))))))
 
 t_to_w_fits : (text : List ℕ) → IfAny FitText (if_equals (t_to_w text) text)
 unfolding t_to_w
@@ -152,7 +152,7 @@ t_to_w_fits text =
     test text (codes "with") w.With ∷
     test text (codes "withtype") w.WithType ∷
     [])
-    (tt, tt, tt, tt, tt, tt, tt, tt)
+    (tt, (tt, (tt, (tt, (tt, (tt, (tt, tt)))))))
 
 word_fits : (text : List ℕ) → IfAny FitText (if_equals (word_of text) text)
 unfolding word_of
