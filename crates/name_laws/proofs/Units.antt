@@ -1,6 +1,7 @@
 -- The names of the bare unit of a source fit.
-use Rattle.std.proofs.Common.{◌≡◌, ℕ, zero, suc, ◌-◌, ◌<◌, ◌≤◌, ◌^◌, nat_lt, Bool, true, false, List, [], ◌∷◌, length, Option, None, Some, Result, Ok, Err, All, if◌then◌else◌, refl, subst, arith}
-use Rattle.std.proofs.lemmas.Bool.{ltb-false}
+use Rattle.std.proofs.Common.{◌≡◌, ℕ, suc, ◌+◌, ◌<◌, ◌≤◌, ◌^◌, nat_lt, List, [], ◌∷◌, length, length-append, Option, None, Some, Ok, All, sym, ap, ◌∙◌, subst, arith, inl, inr}
+use Rattle.std.specs.List.{fold}
+use Rattle.std.proofs.lemmas.Bool.{cases_Bool, ltb-false}
 use Rattle.std.proofs.lemmas.List.Elements.{All-head, All-tail}
 use Rattle.cm_base.specs.declared.diag.Diag.{Diag}
 use Rattle.sml_lexer.specs.declared.lexeme.Lexeme.{Lexeme}
@@ -23,12 +24,10 @@ use Rattle.bare_forms.specs.Units.{bare_of}
 use Rattle.tree_heights.specs.Heights.{unit_height}
 use Rattle.repeated_names.specs.RepeatedUnits.{first_repeat}
 use Rattle.derived_forms.specs.Bare.{refusal, or_refused}
-use Rattle.cm_base.specs.Diags.{whole_file}
-use Rattle.sml_lexer.specs.Fronts.{front}
-use Rattle.sml_lexer.specs.declared.front.Front.{Front}
-use Rattle.sml_lexer.specs.declared.front.Front.TheVariants as at_front
-use Rattle.sml_lexer.specs.declared.place.Point.{Point}
-use Rattle.sml_lexer.specs.Lexing.{after_byte, onto, front_and_rest, lexemes_after, lexemes_of}
+use Rattle.sml_lexer.specs.declared.lexeme.LexemeKind.{LexemeKind}
+use Rattle.sml_lexer.specs.Lexing.{after_byte, lexemes_of}
+use Rattle.sml_lexer.specs.Cuttings.{Piece, IsCutting, placed_piece, placed}
+use Rattle.sml_lexer.proofs.CuttingsLemmas.{cut}
 use Rattle.lexeme_laws.proofs.Lexemes.{lexemes_within}
 use Rattle.body_laws.proofs.Signatures.{Each}
 use Rattle.fitting_names.specs.Names.{HasFitNames}
@@ -114,51 +113,45 @@ each_good : (lexemes : List Lexeme) → All Good lexemes → Each Good lexemes
 each_good [] all = tt
 each_good (x ∷ xs) all = (All-head Good x xs all, each_good xs (All-tail Good x xs all))
 
--- a source has no more lexemes than bytes, and these are at most 1,048,576
-onto_few : (n : ℕ) (x : Lexeme) (r : Result (List Lexeme) Diag) (lexemes : List Lexeme)
-    → ((others : List Lexeme) → r ≡ Ok others → length others ≤ n) → onto x r ≡ Ok lexemes → length lexemes ≤ suc n
-onto_few n x (Ok others) lexemes each is =
-    let low = each others refl in
-    let same : x ∷ others ≡ lexemes = cc in
-    subst (λ (made : List Lexeme). length made ≤ suc n) same (omega (arith, low))
-onto_few n x (Err diag) lexemes each is = absurd (cc)
+-- a source has no more pieces than bytes, which are at most 1,048,576, and no more lexemes than pieces
+pieces_few : (ps : List Piece) (text : List ℕ) → IsCutting ps text → length ps ≤ length text
+pieces_few [] text cutting = omega arith
+pieces_few (p ∷ ps) text (rest, split, some, here, more) =
+    let low = pieces_few ps rest more in
+    let whole : length text ≡ length p.bytes + length rest = ap length split ∙ length-append p.bytes rest in
+    omega (arith, low, whole, some)
 
-front_few : (n : ℕ) (file : List ℕ) (place : Point) (found : Front) (rest : ℕ → Result (List Lexeme) Diag)
-    (lexemes : List Lexeme)
-    → ((passed : ℕ) (others : List Lexeme) → rest passed ≡ Ok others → length others ≤ n)
-    → front_and_rest file place found rest ≡ Ok lexemes → length lexemes ≤ suc n
-front_few n file place (at_front.Gap len) rest lexemes each is =
-    let low = each (len - 1) lexemes is in omega (arith, low)
-front_few n file place (at_front.Lexeme kind len) rest lexemes each is =
-    onto_few n (record { kind = kind; line = place.line; col = place.col }) (rest (len - 1)) lexemes (each (len - 1)) is
-front_few n file place (at_front.Refused number) rest lexemes each is = absurd (cc)
+piece_few : (kind : Option LexemeKind) (line col : ℕ) (lexemes : List Lexeme)
+    → length (placed_piece kind (record { line = line; col = col }) lexemes) ≤ suc (length lexemes)
+piece_few None line col lexemes = omega arith
+piece_few (Some k) line col lexemes = omega arith
 
-after_few : (file text : List ℕ) (passed : ℕ) (place : Point) (lexemes : List Lexeme)
-    → lexemes_after file passed place text ≡ Ok lexemes → length lexemes ≤ length text
-after_few file [] passed place lexemes is =
-    let same : ◌≡◌ {A = List Lexeme} [] lexemes = cc in
-    subst (λ (made : List Lexeme). length made ≤ 0) same (omega arith)
-after_few file (b ∷ bs) (suc passed) place lexemes is =
-    let low = after_few file bs passed (after_byte place b) lexemes is in omega (arith, low)
-after_few file (b ∷ bs) zero place lexemes is =
-    front_few (length bs) file place (front (b ∷ bs))
-    (λ passed. lexemes_after file passed (after_byte place b) bs) lexemes
-    (λ passed others so. after_few file bs passed (after_byte place b) others so) is
+placed_few : (ps : List Piece) (line col : ℕ) → length (placed (record { line = line; col = col }) ps) ≤ length ps
+placed_few [] line col = omega arith
+placed_few (p ∷ ps) line col =
+    let next = fold after_byte (record { line = line; col = col }) p.bytes in
+    let low : length (placed next ps) ≤ length ps = placed_few ps next.line next.col in
+    let here : length (placed (record { line = line; col = col }) (p ∷ ps)) ≤ suc (length (placed next ps)) =
+    piece_few p.kind line col (placed next ps) in
+    omega (arith, here, low)
 
-few_if : (b : Bool) (diag : Diag) (file source : List ℕ) (lexemes : List Lexeme) → nat_lt 1048576 (length source) ≡ b
-    → (if b then Err diag else lexemes_after file 0 (record { line = 1; col = 1 }) source) ≡ Ok lexemes
-    → length lexemes < 2 ^ 62
-few_if true diag file source lexemes long is = absurd (cc)
-few_if false diag file source lexemes short is =
-    let low = after_few file source 0 (record { line = 1; col = 1 }) lexemes is in
-    let most = ltb-false 1048576 (length source) short in
-    omega (arith, low, most)
+source_small : (file source : List ℕ) (lexemes : List Lexeme) → lexemes_of file source ≡ Ok lexemes
+    → length source ≤ 1048576
+unfolding lexemes_of
+source_small file source lexemes lexed =
+    elim (cases_Bool (nat_lt 1048576 (length source))) [
+      | inl long ↦ let refused = rw long at lexed in absurd cc
+      | inr short ↦ ltb-false 1048576 (length source) short
+    ]
 
 lexemes_few : (file source : List ℕ) (lexemes : List Lexeme) → lexemes_of file source ≡ Ok lexemes
     → length lexemes < 2 ^ 62
-unfolding lexemes_of
 lexemes_few file source lexemes lexed =
-    few_if (nat_lt 1048576 (length source)) (whole_file 12 file) file source lexemes refl lexed
+    let (ps, cutting, same) = cut file source lexemes lexed in
+    let small = source_small file source lexemes lexed in
+    let pieces = pieces_few ps source cutting in
+    let few = placed_few ps 1 1 in
+    subst (λ (made : List Lexeme). length made < 2 ^ 62) (sym same) (omega (arith, small, pieces, few))
 
 -- what is given isn't refused
 given : (refused : Option Diag) (made bare : BareUnit) → or_refused refused made ≡ Ok bare → made ≡ bare
@@ -166,7 +159,7 @@ given None made bare is = cc
 given (Some diag) made bare is = absurd (cc)
 
 pub names_fit : NamesFit
-names_fit file source unit bare bytes (lexemes, lexed, height, phrase, named) is =
+names_fit file source unit bare bytes (lexemes, lexed, height, phrase, same) is =
     let good : Fit lexemes = record {
       good = each_good lexemes (lexemes_within file source lexemes bytes lexed);
       few = lexemes_few file source lexemes lexed;
