@@ -3,7 +3,6 @@
 ghost use Rattle.core_names.specs.Promises.{TypesFit};
 
 /// The names of each type that is read have 1 to 255 bytes from 33 to 126.
-#[tactic(auto, using(crate::proofs::Exps::types))]
 pub fn types_fit()
     ensures { TypesFit }
 {}

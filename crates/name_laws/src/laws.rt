@@ -3,7 +3,6 @@
 ghost use Rattle.name_laws.specs.Promises.{NamesFit};
 
 /// Each name of the bare unit of a source has 1 to 255 bytes from 33 to 126.
-#[tactic(auto, using(crate::proofs::Units::names_fit))]
 pub fn names_fit()
     ensures { NamesFit }
 {}
