@@ -1,5 +1,6 @@
 -- The bodies of bare signatures are sequences; and what holds of each item of a list.
-use Rattle.std.proofs.Common.{◌≡◌, Bool, true, false, List, [], ◌∷◌, ◌++◌, Option, Some, None, if◌then◌else◌, ◌&&◌, refl, sym, ap, ap₂, ◌∙◌, subst, map, flat_map}
+use Rattle.std.proofs.Common.{◌≡◌, Bool, true, false, List, [], ◌∷◌, ◌++◌, Option, Some, None, if◌then◌else◌, ◌&&◌, refl, sym, ap, ap₂, ◌∙◌, subst, map, flat_map, All}
+use Rattle.std.proofs.lemmas.List.Elements.{All-head, All-tail}
 use Rattle.std.specs.List.{list_all}
 use Rattle.sml_trees.specs.CoreLets.{all_true}
 use Rattle.sml_trees.specs.declared.name.At.{At}
@@ -39,6 +40,10 @@ Each P (x ∷ xs) = P x × Each P xs
 pub every : {A : Type 0} (P : A → Type 0) → ((x : A) → P x) → (xs : List A) → Each P xs
 every P is [] = tt
 every P is (x ∷ xs) = (is x, every P is xs)
+
+pub each_of_all : {A : Type 0} (P : A → Type 0) (xs : List A) → All P xs → Each P xs
+each_of_all P [] all = tt
+each_of_all P (x ∷ xs) all = (All-head P x xs all, each_of_all P xs (All-tail P x xs all))
 
 pub each-map : {A B : Type 0} (P : B → Type 0) (f : A → B) (xs : List A) → Each (λ x. P (f x)) xs → Each P (map f xs)
 each-map P f [] all = tt

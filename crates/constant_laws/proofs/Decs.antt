@@ -1,9 +1,8 @@
 -- The constants of each declaration of the core that is read fit; and so do those of all phrases of the core, level by
 -- level.
-use Rattle.std.proofs.Common.{◌≡◌, ℕ, zero, suc, ◌-◌, List, [], ◌∷◌, Option, Some, Bool, true, false, nat_lt}
+use Rattle.std.proofs.Common.{ℕ, zero, suc, List, [], ◌∷◌, Option, Some, Bool, true, false, nat_lt}
 use Rattle.sml_lexer.specs.declared.lexeme.Lexeme.{Lexeme}
 use Rattle.sml_trees.specs.declared.full_exp.FullClause.{out-FullClause}
-use Rattle.sml_trees.specs.declared.full_exp.FullDec.{FullDec}
 use Rattle.sml_trees.specs.declared.full_exp.FullFunBind.{FullFunBind}
 use Rattle.sml_trees.specs.declared.full_exp.FullHead.{FullHead}
 use Rattle.sml_trees.specs.declared.full_exp.FullValBind.{FullValBind}
@@ -28,7 +27,7 @@ use Rattle.phrase_reading.specs.declared.tall.Tall.{Tall}
 use Rattle.sml_lexer.specs.declared.words.Word.{Word}
 use Rattle.sml_lexer.specs.declared.words.Word.TheVariants as w
 use Rattle.body_laws.proofs.Signatures.{Each}
-use Rattle.constant_laws.proofs.Keeping.{Good, Keeps, keep_pure, keep_refuse, keep_bind, keep_then, keep_within, keep_many, keep_beginning, keep_if_taken, keep_if_mark, keep_if_marked, keep_either, Holds, leaf_is, over_is, part_is, one_is, more_is, further_keeps, HoldsEach, declares_is, with_dec_is, plain_keeps}
+use Rattle.constant_laws.proofs.Keeping.{Keeps, keep_pure, keep_refuse, keep_bind, keep_then, keep_within, keep_many, keep_beginning, keep_if_taken, keep_if_mark, keep_if_marked, keep_either, Holds, leaf_is, over_is, part_is, one_is, more_is, further_keeps, HoldsEach, declares_is, with_dec_is, plain_keeps}
 use Rattle.fitting_forms.proofs.PatForms.{PatIs}
 use Rattle.constant_laws.proofs.Pats.{pat_behind_keeps}
 use Rattle.fitting_forms.proofs.ExpForms.{ExpIs, DecIs, ClauseIs, FunIs, ValIs, HeadIs, exp-Paren, dec-Val, dec-Fun, dec-Types, dec-Datatypes, dec-Replication, dec-Exceptions, dec-Local, dec-Open, dec-Infix, dec-Infixr, dec-Nonfix, clause-is, fun_bind-is, val_bind-is}

@@ -1,9 +1,8 @@
 -- The constants of each head of a clause that is read fit.
-use Rattle.std.proofs.Common.{◌≡◌, ℕ, ◌+◌, ◌-◌, max, length, List, Option, None, Some, Bool, true, false, nat_lt}
+use Rattle.std.proofs.Common.{ℕ, ◌+◌, ◌-◌, max, length, List, Option, None, Some, Bool, true, false, nat_lt}
 use Rattle.sml_lexer.specs.declared.lexeme.Lexeme.{Lexeme}
 use Rattle.sml_lexer.specs.declared.lexeme.LexemeKind.{LexemeKind}
 use Rattle.sml_lexer.specs.declared.lexeme.LexemeKind.TheVariants as k
-use Rattle.sml_trees.specs.declared.full_exp.FullHead.{FullHead}
 use Rattle.sml_trees.specs.declared.full_pat.Fixity.{Fixity}
 use Rattle.sml_trees.specs.declared.full_pat.FullPat.{FullPat}
 use Rattle.sml_trees.specs.declared.full_pat.FullPat.TheVariants as p
@@ -11,8 +10,7 @@ use Rattle.sml_trees.specs.declared.full_ty.OpName.{OpName}
 use Rattle.sml_trees.specs.declared.name.At.{At}
 use Rattle.sml_trees.specs.declared.name.LongName.{LongName}
 use Rattle.sml_trees.specs.declared.name.Name.{Name}
-use Rattle.core_patterns.specs.Patterns.{plain, operand_height, start, whole_run, behind_operand, pat_level, pat}
-use Rattle.core_patterns.specs.declared.operand.Operand.{Operand}
+use Rattle.core_patterns.specs.Patterns.{plain, operand_height, start, whole_run, pat_level, pat}
 use Rattle.core_patterns.specs.declared.operand.Run.{Run}
 use Rattle.core_types.specs.Types.{ty}
 use Rattle.infix_names.specs.Fixities.{Fixities, fixity_of}

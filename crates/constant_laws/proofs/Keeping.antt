@@ -1,5 +1,5 @@
 -- What holds of the value of each phrase of a grammar whose lexemes are within their limits, form by form.
-use Rattle.std.proofs.Common.{◌≡◌, ℕ, zero, suc, List, [], ◌∷◌, ◌++◌, Option, Some, None, Bool, true, false, refl, subst, inl, inr}
+use Rattle.std.proofs.Common.{◌≡◌, ℕ, zero, suc, List, [], ◌∷◌, ◌++◌, Option, Some, None, Bool, true, false, subst, inl, inr}
 use Rattle.grammars.specs.Grammar.{Grammar, End, Ends, Rounds, Phrase}
 use Rattle.sml_lexer.specs.declared.lexeme.Lexeme.{Lexeme}
 use Rattle.phrase_reading.specs.Names.{either, if_mark, if_marked, if_taken, beginning}

@@ -22,7 +22,6 @@ use Rattle.core_patterns.specs.Patterns.{PatLevel, plain, items_of, in_brackets,
 use Rattle.core_patterns.specs.declared.operand.Operand.{Operand}
 use Rattle.core_patterns.specs.declared.operand.Operand.TheVariants as o
 use Rattle.core_patterns.specs.declared.operand.Run.{Run}
-use Rattle.phrase_reading.specs.Sized.{more}
 use Rattle.phrase_reading.specs.Words.{g, is, at, given}
 use Rattle.sml_lexer.specs.Words.{word_of}
 use Rattle.phrase_reading.specs.declared.tall.Tall.{Tall}

@@ -1,5 +1,5 @@
 -- The constants of each structure expression that is read fit, and those of each declaration in one.
-use Rattle.std.proofs.Common.{◌≡◌, ℕ, zero, suc, ◌-◌, List, [], ◌∷◌, Option, None, Some, Bool, true, false, map}
+use Rattle.std.proofs.Common.{ℕ, zero, suc, ◌-◌, List, [], ◌∷◌, Option, None, Some, Bool, true, false, map}
 use Rattle.sml_lexer.specs.declared.lexeme.Lexeme.{Lexeme}
 use Rattle.sml_trees.specs.declared.name.At.{At}
 use Rattle.sml_trees.specs.declared.name.Name.{Name}
@@ -9,22 +9,20 @@ use Rattle.sml_trees.specs.declared.full_str.FullStrDec.{FullStrDec}
 use Rattle.sml_trees.specs.declared.full_str.FullStrDec.TheVariants as d
 use Rattle.sml_trees.specs.declared.full_str.FullStrExp.{FullStrExp}
 use Rattle.infix_names.specs.Fixities.{Fixities}
-use Rattle.core_bindings.specs.Decs.{Decs, plain}
+use Rattle.core_bindings.specs.Decs.{Decs}
 use Rattle.core_expressions.specs.Levels.{level}
 use Rattle.phrase_reading.specs.Names.{strid_of}
 use Rattle.phrase_reading.specs.Words.{g, is, word, at}
-use Rattle.phrase_reading.specs.declared.tall.Tall.{Tall}
 use Rattle.sml_lexer.specs.declared.words.Word.{Word}
 use Rattle.sml_lexer.specs.declared.words.Word.TheVariants as w
 use Rattle.signature_parser.specs.Joined.{module_name_of, apart, alone, next_binding, bindings_from, bindings}
 use Rattle.signature_parser.specs.SigLevels.{sig_level}
 use Rattle.signature_parser.specs.declared.joined.Joined.{Joined}
 use Rattle.module_parser.specs.StrLevels.{str_level, str_level_of, str_below, no_str_level}
-use Rattle.module_parser.specs.Structures.{StrLevel, no_str_decs, str, str_bind, struct_str, let_str, of_str, of_decs, of_strdec, argument, str_name, str_named, str_atom, sealed_tree, sealed_of, seal_of, seals, str_within, str_behind, structures, local_str, core_dec, str_dec_word, str_dec_of, next_str_dec, str_round, str_decs_from, str_decs_behind, str_decs_of}
+use Rattle.module_parser.specs.Structures.{StrLevel, no_str_decs, str, str_bind, struct_str, let_str, of_str, of_decs, of_strdec, argument, str_name, str_named, str_atom, sealed_tree, sealed_of, seal_of, seals, str_within, str_behind, structures, local_str, core_dec, str_dec_word, str_dec_of, next_str_dec, str_round, str_decs_from, str_decs_behind}
 use Rattle.body_laws.proofs.Signatures.{Each}
-use Rattle.constant_laws.proofs.Keeping.{Good, Keeps, keep_pure, keep_refuse, keep_bind, keep_then, keep_on, keep_on_good, keep_within, keep_many, keep_made, keep_if_mark, keep_either, Holds, leaf_is, over_is, one_is, more_is, HoldsEach, declares_is, with_dec_is, plain_keeps}
+use Rattle.constant_laws.proofs.Keeping.{Good, Keeps, keep_pure, keep_refuse, keep_bind, keep_then, keep_on_good, keep_within, keep_many, keep_made, keep_if_mark, keep_either, Holds, leaf_is, over_is, one_is, more_is, HoldsEach, declares_is, with_dec_is, plain_keeps}
 use Rattle.fitting_forms.proofs.ExpForms.{DecIs}
-use Rattle.constant_laws.proofs.Exps.{LevelIs}
 use Rattle.constant_laws.proofs.Decs.{core_keeps}
 use Rattle.fitting_forms.proofs.StrForms.{StrIs, StrDecIs, BindIs, str-Struct, str-Named, str-Transparent, str-Opaque, str-Functor, str-FunctorOfDecs, str-Within, str_bind-is, str_dec-Core, str_dec-Structures, str_dec-Local}
 

@@ -1,13 +1,8 @@
 -- The constants of the bare unit of a source fit.
-use Rattle.std.proofs.Common.{◌≡◌, ℕ, List, [], ◌∷◌, length, Option, None, Some, Ok, All, refl, subst}
-use Rattle.std.proofs.lemmas.List.Elements.{All-head, All-tail}
-use Rattle.cm_base.specs.declared.diag.Diag.{Diag}
-use Rattle.sml_lexer.specs.declared.lexeme.Lexeme.{Lexeme}
+use Rattle.std.proofs.Common.{ℕ, List, Option, None, Some, subst}
 use Rattle.sml_trees.specs.declared.name.At.{At}
 use Rattle.sml_trees.specs.declared.name.Name.{Name}
 use Rattle.sml_trees.specs.declared.full_unit.FullTopDec.{FullTopDec}
-use Rattle.sml_trees.specs.declared.full_unit.FullTopDec.TheVariants as top
-use Rattle.sml_trees.specs.declared.unit.BareUnit.{BareUnit}
 use Rattle.infix_names.specs.Fixities.{initial}
 use Rattle.phrase_reading.specs.Words.{at, word}
 use Rattle.phrase_reading.specs.declared.tall.Tall.{Tall}
@@ -16,13 +11,10 @@ use Rattle.sml_lexer.specs.declared.words.Word.TheVariants as w
 use Rattle.module_parser.specs.Functors.{fun_bind}
 use Rattle.module_parser.specs.StrLevels.{str_level}
 use Rattle.module_parser.specs.Units.{top_structures, top_signatures, top_functors, top_funsigs, top_word, top_round, topdecs_from, topdecs}
-use Rattle.bare_forms.specs.Units.{bare_of}
-use Rattle.tree_heights.specs.Heights.{unit_height}
-use Rattle.repeated_names.specs.RepeatedUnits.{first_repeat}
-use Rattle.derived_forms.specs.Bare.{refusal, or_refused}
 use Rattle.lexeme_laws.proofs.Lexemes.{lexemes_within}
 use Rattle.code_laws.specs.Constants.{HasFitConstants}
-use Rattle.body_laws.proofs.Signatures.{Each}
+use Rattle.body_laws.proofs.Signatures.{Each, each_of_all}
+use Rattle.bare_codes.proofs.Given.{is_becoming}
 use Rattle.constant_laws.specs.Promises.{ConstantsFit}
 use Rattle.constant_laws.proofs.Keeping.{Good, Keeps, keep_pure, keep_refuse, keep_bind, keep_then, keep_many, Holds, more_is, none_is}
 use Rattle.fitting_forms.proofs.StrForms.{FunctorIs, functor-is, TopIs, top-Structures, top-Signatures, top-Functors, top-Funsigs, unit-is}
@@ -67,20 +59,9 @@ all_topdecs_keep = topdecs_keep 127 _ none_is
 
 -- ---- units
 
-each_good : (lexemes : List Lexeme) → All Good lexemes → Each Good lexemes
-each_good [] all = tt
-each_good (x ∷ xs) all = (All-head Good x xs all, each_good xs (All-tail Good x xs all))
-
--- what is given isn't refused
-given : (refused : Option Diag) (made bare : BareUnit) → or_refused refused made ≡ Ok bare → made ≡ bare
-given None made bare is = cc
-given (Some diag) made bare is = absurd (cc)
-
 pub constants_fit : ConstantsFit
 constants_fit file source unit bare bytes (lexemes, lexed, height, phrase, named) is =
-    let good = each_good lexemes (lexemes_within file source lexemes bytes lexed) in
+    let good = each_of_all Good lexemes (lexemes_within file source lexemes bytes lexed) in
     let made : Tall (List FullTopDec) = record { tree = unit.topdecs; height = height } in
     let all = all_topdecs_keep.gives lexemes None made good phrase in
-    subst HasFitConstants
-    (given (refusal unit.file (unit_height (bare_of unit)) (first_repeat unit)) (bare_of unit) bare is)
-    (unit-is unit all.tree)
+    subst HasFitConstants (is_becoming unit bare is) (unit-is unit all.tree)

@@ -1,0 +1,4 @@
+pub mod Bindings
+pub mod Derived
+pub mod ExpForms
+pub mod StrForms

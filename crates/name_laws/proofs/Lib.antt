@@ -1,0 +1,5 @@
+pub mod Decs
+pub mod Heads
+pub mod Sigs
+pub mod Strs
+pub mod Units
