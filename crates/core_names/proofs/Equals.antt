@@ -1,8 +1,7 @@
 -- The name `=`, which is a reserved word too, fits.
 use Rattle.std.proofs.Common.{◌≡◌, ℕ, Bool, true, false, List, [], ◌∷◌, Option, Some, None, refl, subst, sym, if◌then◌else◌, arith}
 use Rattle.std.specs.Prelude.{nat_eq, codes}
-use lib.Pointwise.{pointwise}
-use Rattle.core.specs.Cmp.Lexicographic.{bytes_decides}
+use lib.Pointwise.{pointwise, bytes_decides}
 use Rattle.sml_lexer.specs.declared.lexeme.Lexeme.{Lexeme}
 use Rattle.sml_lexer.specs.declared.lexeme.LexemeKind.{LexemeKind}
 use Rattle.sml_lexer.specs.declared.lexeme.LexemeKind.TheVariants as k

@@ -14,7 +14,7 @@ use Rattle.sml_trees.specs.declared.full_exp.FullExp.TheVariants as e
 use Rattle.sml_trees.specs.declared.full_exp.FullExpItem.TheVariants as item
 use Rattle.infix_names.specs.Fixities.{Fixities, fixity_of}
 use Rattle.core_expressions.specs.Level.{Level}
-use Rattle.core_expressions.specs.Expressions.{long_exp, op_exp, exps, exp_list, field, fields, record_fields, record_exp, several, tuple_exp, sequence_exp, paren_exp, parens_from, parens, bracket_items, bracket, let_exp, atexp_word, atexp_kind, atexp_of, atom, behind_operator, step_by, step_with, step, steps, whole_run, run_with, run_from, constraint, constraints, typed_of, exp_behind, rule, rules_of, rules_behind, raise_exp, if_exp, while_exp, case_exp, fn_of, prefix_word, operand_by, operand_after, side, beside, chained, conjunction_after, disjunction_after, handle_exp, handled, operand_of, conjunction_of, exp_of}
+use Rattle.core_expressions.specs.Expressions.{long_exp, op_exp, exps, exp_list, field, record_fields, record_exp, several, tuple_exp, sequence_exp, paren_exp, parens_from, parens, bracket_items, bracket, let_exp, atexp_word, atexp_kind, atexp_of, atom, behind_operator, step_by, step_with, step, steps, whole_run, run_with, run_from, constraint, constraints, typed_of, exp_behind, rule, rules_of, rules_behind, raise_exp, if_exp, while_exp, case_exp, fn_of, prefix_word, operand_by, operand_after, side, beside, chained, conjunction_after, disjunction_after, handle_exp, handled, operand_of, conjunction_of, exp_of}
 use Rattle.expression_parts.specs.declared.runs.Run.{Run}
 use Rattle.expression_parts.specs.declared.chain.Chain.{Chain}
 use Rattle.expression_parts.specs.declared.chain.Chain.TheVariants as chain
