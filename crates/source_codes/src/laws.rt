@@ -4,7 +4,6 @@ ghost use Rattle.source_codes.specs.Promises.{SourcesFitFormat, FitUnitsHaveCode
 
 /// The bare unit of a source is as its format wants it: its bodies are sequences, its constants and names fit, and it
 /// has at most 1,024 levels.
-#[tactic(auto, using(crate::proofs::Sources::sources_fit))]
 pub fn sources_fit_format()
     ensures { SourcesFitFormat }
 {}
