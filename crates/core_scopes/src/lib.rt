@@ -16,5 +16,5 @@ pub use laws::{fronts_go_on, scopes_stay};
 pub use made::{Made, NamedInScope};
 pub use mark::ScopeMark;
 pub use scope::Scope;
-pub use value::ValueInScope;
+pub use value::{BoundValue, NamedBound, ValueInScope};
 pub use written::InScope;

@@ -1,10 +1,9 @@
 //! Schemes as a table has them.
 
-ghost use Rattle.std.specs.Prelude.{◌≡◌, IfOk, map};
+ghost use Rattle.std.specs.Prelude.{◌≡◌, IfOk};
 
 use cm_base::{List, NoMemory};
 use semantic_objects::{Symbol, TyId};
-use std::alloc::Global;
 
 /// A part of a type that a scheme closes: an id of the table, in whose type no variable of the scheme stands, such a
 /// variable by its number, or one of the scheme's nodes, by its place.
@@ -16,7 +15,7 @@ pub enum OpenPart {
 }
 
 /// A symbol over parts, in one of which a variable of the scheme stands.
-#[derive(Drop)]
+#[derive(Clone, Drop)]
 pub struct OpenNode {
     pub symbol: Symbol,
     pub parts: List<OpenPart>,
@@ -24,8 +23,17 @@ pub struct OpenNode {
 
 /// The type of a scheme inside a table: the nodes in which variables of the scheme stand, each behind those of its
 /// parts, and what the type is. Equal nodes stand there once. The Definition of Standard ML (Revised), section 4.5.
-#[derive(Drop)]
+#[derive(Clone, Drop)]
 pub struct TableScheme {
     pub nodes: List<OpenNode>,
     pub root: OpenPart,
+}
+
+impl TableScheme {
+    /// The same once more.
+    pub fn copy(&self) -> Result<TableScheme, NoMemory>
+        ensures { IfOk result (λ copy. copy ≡ self.now) }
+    {
+        Ok(self.clone()?)
+    }
 }

@@ -1,6 +1,6 @@
 //! Instances of schemes that a table has.
 
-ghost use Rattle.std.specs.Prelude.{◌≡◌, ◌++◌, ◌<◌, ℕ, slice_get, length, false, Some, IfOk, IfSome, OnOk, OnErr};
+ghost use Rattle.std.specs.Prelude.{◌≡◌, ◌++◌, ℕ, slice_get, Some, IfOk, IfSome, OnOk, OnErr};
 ghost use Rattle.unification.specs.Instances as schemes;
 ghost use Rattle.type_nodes.specs.Tables.{Has, state, type_of};
 ghost use Rattle.type_schemes.specs.Instances.{births_of, Adds, Extends};
@@ -12,22 +12,8 @@ use crate::scheme::{OpenNode, OpenPart, TableScheme};
 use cm_base::{List, NoMemory};
 use semantic_objects::{Scheme, TyId};
 use std::alloc::Global;
-use type_nodes::{Birth, Node, TypeBindings};
-
-/// New variables, one for each mark in their order.
-fn add_variables(table: &mut TypeBindings, marks: &[bool]) -> Result<(), NoMemory>
-    ensures births { OnOk result (table.new.births ≡ table.old.births ++ births_of marks.now) }
-    ensures state { OnOk result (state table.new ≡ schemes.with_variables false marks.now (state table.old)) }
-    ensures added { Adds table.old table.new }
-{
-    for mark in marks {
-        table.add_variable(Birth {
-            marked: *mark,
-            rigid: false,
-        })?;
-    }
-    Ok(())
-}
+use type_nodes::{Node, TypeBindings};
+use type_schemes::{add_variables, variable};
 
 /// The id at a place, if there is one.
 fn id_at(ids: &List<TyId>, place: usize) -> Option<TyId>
@@ -36,17 +22,6 @@ fn id_at(ids: &List<TyId>, place: usize) -> Option<TyId>
     match ids.get(place) {
         Some(id) => Some(*id),
         None => None,
-    }
-}
-
-/// The variable with this number, if the table has one.
-fn variable(table: &TypeBindings, number: usize) -> Option<TyId>
-    ensures { (id : TyId) → result ≡ Some id → (number < length table.now.births) × (id ≡ TyId.Variable number) }
-{
-    if number < table.variables() {
-        Some(TyId::Variable(number))
-    } else {
-        None
     }
 }
 
