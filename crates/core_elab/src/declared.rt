@@ -72,7 +72,7 @@ fn elab_shown(
         result }
 {
     let before = scope.mark();
-    enter_made(scope, made)?;
+    enter_made(alloc, t, scope, made)?;
     is_ready(g, t, scope);
     let result = elab_declared(alloc, g, t, scope, dec);
     scope.leave(before);
@@ -118,8 +118,8 @@ fn elab_each(
     for dec in decs {
         is_ready(g, t, scope);
         let made = elab_declared(alloc, g, t, scope, dec)?;
+        enter_behind(alloc, t, scope, all, made)?;
         t.is_kept();
-        enter_behind(alloc, scope, all, made)?;
     }
     Ok(())
 }

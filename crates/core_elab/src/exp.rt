@@ -222,7 +222,7 @@ fn elab_body(
     ensures { IsBehind (moment g.old t.old scope.old) made (exp_phrase exp.now) (moment g.new t.new scope.new) result }
 {
     let before = scope.mark();
-    enter_made(scope, made)?;
+    enter_made(alloc, t, scope, made)?;
     is_ready(g, t, scope);
     let result = elab_in_scope(alloc, g, t, scope, exp);
     scope.leave(before);

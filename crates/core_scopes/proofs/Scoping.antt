@@ -562,20 +562,25 @@ made_bound {V} old new made kept is g there = record {
       written = nothing_more old.written new.written (ap (λ (sc : Bindings V). sc.written) is);
     }
 
--- .. of which a table has nothing
+-- the environment of what was made is the same, whatever a table has of it
+pub bound_is_made : {V : Type 0} (g : Graph) (read : V → ValueEntry) (made : Made V) (more : MadeBound V)
+    → more.structures ≡ made.structures → more.types ≡ made.types
+    → map_rows value_of (bound_rows more.values) ≡ scope_rows made.values → env_of_bound g read more ≡ env_of_made g read made
+bound_is_made g read made more ss ts vs =
+    ap (λ z. env_of (with_all (structure_rows g z) []) (with_all (type_rows more.types) [])
+    (with_all (map_rows (bound_entry read) (bound_rows more.values)) [])) ss
+    ∙ ap (λ z. env_of (with_all (structure_rows g made.structures) []) (with_all (type_rows z) [])
+    (with_all (map_rows (bound_entry read) (bound_rows more.values)) [])) ts
+    ∙ ap (λ z. env_of (with_all (structure_rows g made.structures) []) (with_all (type_rows made.types) []) (with_all z []))
+    (read_rows read (bound_rows more.values) made.values (sym vs))
+
 pub bare_bound : {V : Type 0} (old new : Bindings V) (made : Made V) (more : MadeBound V) → more.structures ≡ made.structures
     → more.types ≡ made.types → bound_rows more.values ≡ map_rows bare (scope_rows made.values) → (g : Graph)
     → Becomes g old new (λ read. modified_by (seen g read old) (env_of_bound g read more)) (written_of old)
     → Becomes g old new (λ read. modified_by (seen g read old) (env_of_made g read made)) (written_of old)
 bare_bound old new made more ss ts vs g b = record {
-  seen = λ read. b.seen read
-      ∙ ap (λ z. modified_by (seen g read old) (env_of (with_all (structure_rows g z) []) (with_all (type_rows more.types) [])
-      (with_all (map_rows (bound_entry read) (bound_rows more.values)) []))) ss
-      ∙ ap (λ z. modified_by (seen g read old) (env_of (with_all (structure_rows g made.structures) []) (with_all (type_rows z) [])
-      (with_all (map_rows (bound_entry read) (bound_rows more.values)) []))) ts
-      ∙ ap (λ z. modified_by (seen g read old) (env_of (with_all (structure_rows g made.structures) [])
-      (with_all (type_rows made.types) []) (with_all z [])))
-      (read_rows read (bound_rows more.values) made.values (sym (ap (map_rows value_of) vs ∙ bare_rows (scope_rows made.values))));
+  seen = λ read. b.seen read ∙ ap (modified_by (seen g read old))
+      (bound_is_made g read made more ss ts (ap (map_rows value_of) vs ∙ bare_rows (scope_rows made.values)));
   written = b.written;
   front = b.front;
   there = b.there;
