@@ -18,10 +18,10 @@ use Rattle.static_semantics.specs.Inferring.{Progress, Answer, gives, outermost}
 use Rattle.static_semantics.specs.CoreInference.{infer_exp, infer_dec}
 use Rattle.core_scopes.specs.declared.made.Made.{Made}
 use Rattle.core_scopes.specs.Marks.{env_of_made}
-use Rattle.core_scopes.specs.Scopes.{Bindings, seen, written_of, IsScopeOf}
+use Rattle.core_scopes.specs.Scopes.{Bindings, seen, written_of, AreHeld, IsScopeOf}
 use Rattle.type_phrases.specs.Inferred.{Answers, Inferred, progress}
 use Rattle.pattern_elab.specs.declared.own.OwnVariable.{OwnVariable}
-use Rattle.pattern_elab.specs.Scopes.{own_entry, variable_of, scope_of, AreVariables}
+use Rattle.pattern_elab.specs.Scopes.{own_entry, variable_of, scope_of, AreVariables, IsEnteredIn}
 use Rattle.closing_laws.specs.Promises.{IsOfState}
 use Rattle.core_rules.specs.Ready.{IsReadyAt}
 use Rattle.core_rules.specs.Moments.{Moment, moment}
@@ -50,10 +50,10 @@ refused want fault.NoMemory t u g h k = tt
 
 -- everything is ready there where the environment is of what the table knows
 pub begun : (g : Graph) (t : Table) (sc : Bindings OwnVariable) (env : EnvId) → IsScopeOf g sc → IsKept t
-    → seen g own_entry sc ≡ env_at g env → written_of sc ≡ []
+    → AreHeld (IsEnteredIn t) sc.values → seen g own_entry sc ≡ env_at g env → written_of sc ≡ []
     → IsOfState (outermost g.home (env_at g env)) (progress t g) → IsReadyAt (moment g t sc)
-begun g t sc env there k e f s = record {
-  core = record { there = there; written = subst (AreVariables t) (sym f) tt };
+begun g t sc env there k entered e f s = record {
+  core = record { there = there; written = subst (AreVariables t) (sym f) tt; entered = entered };
   kept = k;
   state = subst (λ inner. IsOfState inner (progress t g)) (sym (scope_outermost g env sc e f)) s;
 }

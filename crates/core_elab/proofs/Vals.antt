@@ -14,10 +14,13 @@ use Rattle.bare_phrases.specs.PhraseOf.{rule_phrase, rules_of}
 use Rattle.static_semantics.specs.Inferring.{Scope, Answer}
 use Rattle.core_scopes.specs.declared.made.Made.{Made}
 use Rattle.pattern_elab.specs.declared.own.OwnVariable.{OwnVariable}
+use Rattle.sml_modules.specs.Graphs.{Graph}
+use Rattle.core_scopes.specs.Scopes.{Bindings}
+use Rattle.type_phrases.specs.Inferred.{KeepsTypes}
 use Rattle.type_phrases.proofs.Keeping.{keeps_all}
-use Rattle.core_rules.specs.Moments.{Moment, IsCoreAt, Elabs}
+use Rattle.core_rules.specs.Moments.{Moment, moment, IsCoreAt, Passes, Elabs}
 use Rattle.core_rules.specs.Values.{AreRecsUnder, IsValUnder, IsVal}
-use Rattle.core_rules.proofs.Chains.{passes_table, memory}
+use Rattle.core_rules.proofs.Chains.{passes_table, core_kept, memory}
 use Rattle.core_elab.specs.Vals.{AreRecsOf, IsValOf, IsOfValues, binds_of}
 
 -- the phrase of a `val` whose rules are these
@@ -64,6 +67,14 @@ pub at_once : {W R : Type 0} {m : Moment} {want : Scope → Answer W} {reads : M
     {have : Table → R → Type 0} → IsCoreAt m → Elabs m want reads have m (Err fault.NoMemory)
 at_once {W} {R} {m} {want} {reads} {have} core =
     memory (passes_table m m.table m.scope (keeps_all m.table)) refl core
+
+-- .. or when the table alone has grown
+pub at_entering : {W R : Type 0} {g : Graph} {t u : Table} {sc after : Bindings OwnVariable} {want : Scope → Answer W}
+    {reads : Moment → R → W} {have : Table → R → Type 0} → KeepsTypes t u → after ≡ sc → IsCoreAt (moment g t sc)
+    → Elabs (moment g t sc) want reads have (moment g u after) (Err fault.NoMemory)
+at_entering {W} {R} {g} {t} {u} {sc} {after} keeps same core =
+    let goes : Passes (moment g t sc) (moment g u after) = passes_table (moment g t sc) u after keeps in
+    memory goes same (core_kept core goes same)
 
 -- ---- behind the plain bindings
 

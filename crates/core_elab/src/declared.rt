@@ -8,6 +8,7 @@ ghost use Rattle.core_rules.specs.Ready.{IsReadyAt, IsReadyBehind};
 ghost use Rattle.core_rules.specs.Declarations.{IsDeclared, IsDeclaredBehind};
 ghost use Rattle.core_rules.specs.Joined.{IsNothing, AreDeclared, AreEntered};
 
+use crate::opening::{opens, opens_inside};
 use crate::ready::{is_ready, is_ready_behind};
 use crate::val::elab_val;
 use cm_base::Fault;
@@ -48,7 +49,15 @@ pub(crate) fn elab_declared(
         Dec::Local(hidden, shown, at) => {
             let before = elab_declared(alloc, g, t, scope, hidden.get())?;
             is_ready_behind(g, t, scope, &before);
-            let made = elab_shown(alloc, g, t, scope, before, shown.get())?;
+            let made = elab_shown(
+                alloc,
+                g,
+                t,
+                scope,
+                before,
+                !opens_inside(hidden),
+                shown.get(),
+            )?;
             check_made(alloc, g, t, *at, made)
         }
         Dec::Open(longs, at) => declare_open(alloc, g, t, scope, longs.as_slice(), *at),
@@ -65,6 +74,7 @@ fn elab_shown(
     t: &mut TypeTable,
     scope: &mut CoreScope,
     made: Made<OwnVariable>,
+    with_schemes: bool,
     dec: &Dec,
 ) -> Result<Made<OwnVariable>, Fault>
     requires { IsReadyBehind (moment g.old t.old scope.old) made }
@@ -72,7 +82,7 @@ fn elab_shown(
         result }
 {
     let before = scope.mark();
-    enter_made(scope, made)?;
+    enter_made(alloc, t, scope, made, with_schemes)?;
     is_ready(g, t, scope);
     let result = elab_declared(alloc, g, t, scope, dec);
     scope.leave(before);
@@ -118,8 +128,8 @@ fn elab_each(
     for dec in decs {
         is_ready(g, t, scope);
         let made = elab_declared(alloc, g, t, scope, dec)?;
+        enter_behind(alloc, t, scope, all, made, !opens(dec))?;
         t.is_kept();
-        enter_behind(alloc, scope, all, made)?;
     }
     Ok(())
 }

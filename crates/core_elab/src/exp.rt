@@ -8,6 +8,7 @@ ghost use Rattle.core_rules.specs.Declarations.{IsBehind};
 ghost use Rattle.core_rules.specs.Expressions.{IsExp, IsUnder, IsMatch, IsTypedRule, HasFirst, AreExpFields, IsExpField, AreLabelled};
 
 use crate::declared::elab_declared;
+use crate::opening::opens_inside;
 use crate::ready::{is_ready, is_ready_behind};
 use cm_base::Fault;
 use core_rules::{
@@ -95,7 +96,7 @@ fn elab_let(
             let made = elab_declared(alloc, g, t, scope, dec.get())?;
             is_ready_behind(g, t, scope, &made);
             let to = g.made();
-            let id = elab_body(alloc, g, t, scope, made, body.get())?;
+            let id = elab_body(alloc, g, t, scope, made, !opens_inside(dec), body.get())?;
             end_let(alloc, g, t, *at, from, to, id)
         }
         _ => Err(Fault::NoMemory),
@@ -216,13 +217,14 @@ fn elab_body(
     t: &mut TypeTable,
     scope: &mut CoreScope,
     made: Made<OwnVariable>,
+    with_schemes: bool,
     exp: &Exp,
 ) -> Result<TyId, Fault>
     requires { IsReadyBehind (moment g.old t.old scope.old) made }
     ensures { IsBehind (moment g.old t.old scope.old) made (exp_phrase exp.now) (moment g.new t.new scope.new) result }
 {
     let before = scope.mark();
-    enter_made(scope, made)?;
+    enter_made(alloc, t, scope, made, with_schemes)?;
     is_ready(g, t, scope);
     let result = elab_in_scope(alloc, g, t, scope, exp);
     scope.leave(before);

@@ -4,6 +4,7 @@
 mod binds;
 mod declared;
 mod exp;
+mod opening;
 mod patterns;
 mod ready;
 mod rec_exps;

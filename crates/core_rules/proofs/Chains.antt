@@ -66,6 +66,7 @@ core_kept {old} {new} core p e =
     subst (λ (sc : Bindings OwnVariable). IsCoreScope new.graph new.table sc) (sym e) (record {
       there = scope_there old.graph new.graph p.graph old.scope core.there;
       written = (core_later old.graph old.table new.table old.scope p.ids core).written;
+      entered = (core_later old.graph old.table new.table old.scope p.ids core).entered;
     })
 
 -- ---- chains

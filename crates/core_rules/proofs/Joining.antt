@@ -18,13 +18,14 @@ use Rattle.sml_modules.proofs.Keeping.{keeps, extends_self}
 use Rattle.bare_phrases.specs.Phrases.{DecPhrase, DecPhrases}
 use Rattle.static_semantics.specs.Inferring.{Progress, Scope, Answer, ◌>>=◌, gives, under}
 use Rattle.static_semantics.specs.CoreInference.{infer_dec, infer_decs}
+use Rattle.type_nodes.specs.Tables.{Table}
 use Rattle.core_scopes.specs.declared.made.Made.{Made}
 use Rattle.core_scopes.specs.declared.made.NamedInScope.{NamedInScope}
 use Rattle.core_scopes.specs.Scopes.{Bindings, entry_of}
 use Rattle.core_scopes.specs.Marks.{IsFrontOf, value_rows, env_of_made}
 use Rattle.core_scopes.proofs.Tables.{all_append, all_at_once}
 use Rattle.core_scopes.proofs.Scoping.{fronts_go_on}
-use Rattle.type_phrases.specs.Inferred.{Answers}
+use Rattle.type_phrases.specs.Inferred.{Answers, KeepsTypes}
 use Rattle.type_phrases.proofs.Steps.{still_refused}
 use Rattle.pattern_elab.specs.declared.own.OwnVariable.{OwnVariable}
 use Rattle.pattern_elab.specs.Scopes.{own_entry}
@@ -194,7 +195,7 @@ module _ {begun now : Moment} {phrases left rest : DecPhrases} {phrase : DecPhra
       ∙ ap (λ (z : DecPhrases). infer_decs depth (scope_at now) z (progress_at now) >>= wrapped s.wrap) is
 
   pub decs_next : {mid : Moment} {made new : Made OwnVariable} {s2 : Bindings OwnVariable} → IsKept now.table → IsKept mid.table
-      → IsDeclared now phrase mid (Ok made) → IsUnder mid.graph (made_at mid made) mid.scope s2
+      → IsDeclared now phrase mid (Ok made) → IsUnder mid.graph mid.table (made_at mid made) mid.scope s2
       → new ≡ joined all made → DecsSoFar begun (moment mid.graph mid.table s2) phrases rest new
   decs_next {mid} {made} {new} {s2} k1 k2 h u e =
       let next : Moment = moment mid.graph mid.table s2 in
@@ -221,7 +222,7 @@ module _ {begun now : Moment} {phrases left rest : DecPhrases} {phrase : DecPhra
             (envs_kept now.graph mid.graph all.structures h.elabs.goes.graph s.envs) b.envs);
         goes = passes_then {a = begun} {b = now} {c = next} s.goes (passes_scope {old = now} {new = mid} s2 h.elabs.goes);
         front = front_on s.front h.elabs.left u.front;
-        core = u.there mid.table h.elabs.core;
+        core = u.there mid.table (keeps_all mid.table) h.elabs.core;
         state = subst (λ sc. IsOfState sc (progress_at mid)) (sym u.seen) b.state;
       }
 
@@ -239,13 +240,14 @@ module _ {begun now : Moment} {phrases left rest : DecPhrases} {phrase : DecPhra
     front = front_at s.front h.elabs.left;
   }
 
-  pub decs_memory : {mid : Moment} {made new : Made OwnVariable} {s2 : Bindings OwnVariable} → IsDeclared now phrase mid (Ok made)
-      → s2 ≡ mid.scope → AreEntered begun phrases new (moment mid.graph mid.table s2) (Err fault.NoMemory)
-  decs_memory {mid} {made} {new} {s2} h e = record {
+  pub decs_memory : {mid : Moment} {made new : Made OwnVariable} {t2 : Table} {s2 : Bindings OwnVariable}
+      → KeepsTypes mid.table t2 → IsDeclared now phrase mid (Ok made) → s2 ≡ mid.scope
+      → AreEntered begun phrases new (moment mid.graph t2 s2) (Err fault.NoMemory)
+  decs_memory {mid} {made} {new} {t2} {s2} k h e = record {
     infers = tt;
     envs = tt;
-    goes = passes_then {a = begun} {b = now} {c = moment mid.graph mid.table s2} s.goes
-        (passes_scope {old = now} {new = mid} s2 h.elabs.goes);
+    goes = passes_then {a = begun} {b = now} {c = moment mid.graph t2 s2} s.goes
+        (passes_then {a = now} {b = mid} {c = moment mid.graph t2 s2} h.elabs.goes (passes_table mid t2 s2 k));
     front = front_at s.front (e ∙ h.elabs.left);
   }
 

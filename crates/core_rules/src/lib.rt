@@ -16,4 +16,4 @@ pub use matching::{RuleType, as_first, match_type, rule_pattern, to_of};
 pub use places::{place_of_exp, place_of_pat};
 pub use plain::{elab_char, elab_int, elab_long, elab_string};
 pub use rules::{applied, handled, joined, no_rules, raised};
-pub use sequence::{enter_behind, made_where, nothing_made};
+pub use sequence::{add_made, enter_behind, made_where, nothing_made};

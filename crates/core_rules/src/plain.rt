@@ -7,9 +7,8 @@ ghost use Rattle.bare_phrases.specs.Phrases.{ExpPhrase};
 ghost use Rattle.static_semantics.specs.BasicTypes.{int_ty, string_ty, char_ty};
 ghost use Rattle.static_semantics.specs.Inferring.{sized_exp};
 ghost use Rattle.static_semantics.specs.CoreInference.{infer_exp};
-ghost use Rattle.core_scopes.specs.Scopes.{IsScopeOf};
 ghost use Rattle.type_phrases.specs.Inferred.{Inferred, KeepsTypes, progress, home_scope};
-ghost use Rattle.pattern_elab.specs.Scopes.{scope_of};
+ghost use Rattle.pattern_elab.specs.Scopes.{scope_of, IsCoreScope};
 
 use cm_base::Fault;
 use pattern_elab::{CoreScope, char_type, instance, int_type, known_value, sized, string_type};
@@ -60,13 +59,13 @@ pub fn elab_long(
     long: &LongName,
     at: At,
 ) -> Result<TyId, Fault>
-    requires { IsScopeOf g.now scope.now }
+    requires { IsCoreScope g.now t.old scope.now }
     ensures infers { Inferred (infer_exp depth (scope_of g.now scope.now) (ExpPhrase.Long long.now at)
         (progress t.old g.now)) result t.new g.now }
     ensures has { IfOk result (Has t.new) }
     ensures ids { KeepsTypes t.old t.new }
 {
     let value = known_value(alloc, g, scope, long)?;
-    let named = instance(t, &value)?;
+    let named = instance(t, scope, long, &value)?;
     sized(alloc, g, t, at, named)
 }

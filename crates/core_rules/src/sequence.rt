@@ -2,7 +2,9 @@
 
 ghost use Rattle.std.specs.Prelude.{◌≡◌, ◌++◌, IfOk, OnOk, OnErr};
 ghost use Rattle.sml_modules.specs.Graphs.{Graph, HasEnvs};
+ghost use Rattle.type_nodes.specs.Tables.{state};
 ghost use Rattle.core_scopes.specs.Marks.{env_of_made};
+ghost use Rattle.type_phrases.specs.Inferred.{KeepsTypes};
 ghost use Rattle.pattern_elab.specs.Scopes.{own_entry};
 ghost use Rattle.value_closing.specs.Under.{IsUnder};
 ghost use Rattle.core_rules.specs.Joined.{IsNothing, joined, made_where};
@@ -12,6 +14,7 @@ use core_scopes::{Made, NamedInScope};
 use env_parts::copy_type;
 use pattern_elab::{CoreScope, OwnVariable};
 use sml_modules::{NamedEnv, NamedType};
+use sml_types::TypeTable;
 use std::alloc::Global;
 use value_closing::enter_made;
 
@@ -69,8 +72,8 @@ fn add_values(
     Ok(())
 }
 
-/// Adds a copy of what a declaration makes to what those before it make.
-fn add_made(
+/// Adds a copy of what a declaration makes to what those before it make. After want of memory some of it may be added.
+pub fn add_made(
     alloc: Global,
     all: &mut Made<OwnVariable>,
     made: &Made<OwnVariable>,
@@ -83,20 +86,25 @@ fn add_made(
 }
 
 /// Enters what a declaration makes into the scope in which the next one stands, and adds it to what those before it make.
-/// Want of memory leaves the scope as it was. The Definition of Standard ML (Revised), rule 24.
+/// The schemes of its values go into the table where that is asked for. Want of memory leaves the scope as it was. The
+/// Definition of Standard ML (Revised), rule 24.
 pub fn enter_behind(
     alloc: Global,
+    t: &mut TypeTable,
     scope: &mut CoreScope,
     all: &mut Made<OwnVariable>,
     made: Made<OwnVariable>,
+    with_schemes: bool,
 ) -> Result<(), NoMemory>
     ensures all { OnOk result (all.new ≡ joined all.old made) }
     ensures scope { OnOk result ((g : Graph) → HasEnvs g made.structures
-        → IsUnder g (env_of_made g own_entry made) scope.old scope.new) }
+        → IsUnder g t.new (env_of_made g own_entry made) scope.old scope.new) }
+    ensures state { OnOk result (state t.new ≡ state t.old) }
+    ensures kept { KeepsTypes t.old t.new }
     ensures err { OnErr result (scope.new ≡ scope.old) }
 {
     add_made(alloc, all, &made)?;
-    enter_made(scope, made)
+    enter_made(alloc, t, scope, made, with_schemes)
 }
 
 /// All that declarations make, where none of them was refused.

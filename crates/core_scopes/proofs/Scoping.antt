@@ -13,18 +13,22 @@ use Rattle.semantic_objects.specs.Environments.{Env, table_of, structures_of, en
 use Rattle.semantic_objects.proofs.Promised.{keeps_structures}
 use Rattle.sml_modules.specs.declared.id.EnvId.{EnvId}
 use Rattle.sml_modules.specs.declared.parts.NamedEnv.{NamedEnv}
+use Rattle.sml_modules.specs.declared.parts.NamedType.{NamedType}
 use Rattle.sml_modules.specs.Items.{map_rows}
 use Rattle.sml_modules.specs.Graphs.{Graph, env_at, HasEnv, HasEnvs, FindsEnv, Keeps, structure_rows, type_rows}
 use Rattle.name_trails.specs.Trails.{Rows, same, entry_after, last_entry}
 use Rattle.core_scopes.specs.declared.value.ValueInScope.{ValueInScope}
 use Rattle.core_scopes.specs.declared.value.ValueInScope.TheVariants as value
+use Rattle.core_scopes.specs.declared.value.BoundValue.{BoundValue}
+use Rattle.core_scopes.specs.declared.value.NamedBound.{NamedBound}
 use Rattle.core_scopes.specs.declared.made.Made.{Made}
+use Rattle.core_scopes.specs.declared.made.MadeBound.{MadeBound}
 use Rattle.core_scopes.specs.declared.made.NamedInScope.{NamedInScope}
 use Rattle.core_scopes.specs.declared.written.InScope.{InScope}
-use Rattle.core_scopes.specs.Scopes.{Bindings, entry_of, first_entry, written_rows, structures_seen, types_seen, values_seen, seen, written_of, AreEnvs, IsScopeOf}
-use Rattle.core_scopes.specs.Marks.{IsFrontOf, Becomes, value_rows, env_of_made, IsMadeSince}
+use Rattle.core_scopes.specs.Scopes.{Bindings, entry_of, value_of, bare, bound_entry, AreHeld, IsBare, AreBare, first_entry, written_rows, structures_seen, types_seen, values_seen, seen, written_of, AreEnvs, IsScopeOf}
+use Rattle.core_scopes.specs.Marks.{IsFrontOf, Becomes, value_rows, env_of_made, env_of_bound, AddsBare, AddsBound, IsMadeSince}
 use Rattle.core_scopes.specs.Opened.{Opens}
-use Rattle.core_scopes.specs.Listed.{env_rows, scope_rows, more_made}
+use Rattle.core_scopes.specs.Listed.{env_rows, scope_rows, bound_rows, more_made}
 use Rattle.core_scopes.specs.Promises.{StaysInScope, FrontsGoOn}
 use Rattle.core_scopes.proofs.Tables.{or_held, entry_or, entry_over, entry_under, all_append, all_at_once}
 
@@ -104,12 +108,12 @@ empty_seen g read sc s t v =
     ∙ ap (λ rows. env_of (structures (env_at g sc.below)) (with_all rows (types (env_at g sc.below)))
     (values_seen g read sc)) t
     ∙ ap (λ rows. env_of (structures (env_at g sc.below)) (types (env_at g sc.below))
-    (with_all (map_rows (entry_of read) rows) (values (env_at g sc.below)))) v
+    (with_all (map_rows (bound_entry read) rows) (values (env_at g sc.below)))) v
     ∙ env_again (env_at g sc.below)
 
 -- ---- a scope with more bindings
 
-pub record Grows {V : Type 0} (old new : Bindings V) (s : Rows EnvId) (t : Rows TypeStr) (v : Rows (ValueInScope V))
+pub record Grows {V : Type 0} (old new : Bindings V) (s : Rows EnvId) (t : Rows TypeStr) (v : Rows (BoundValue V))
     (w : Rows TyId) : Type 0 where
   pub below : new.below ≡ old.below
   pub structures : new.structures ≡ old.structures ++ s
@@ -117,7 +121,7 @@ pub record Grows {V : Type 0} (old new : Bindings V) (s : Rows EnvId) (t : Rows 
   pub values : new.values ≡ old.values ++ v
   pub written : new.written ≡ old.written ++ w
 
-module _ {V : Type 0} (old new : Bindings V) (s : Rows EnvId) (t : Rows TypeStr) (v : Rows (ValueInScope V))
+module _ {V : Type 0} (old new : Bindings V) (s : Rows EnvId) (t : Rows TypeStr) (v : Rows (BoundValue V))
     (w : Rows TyId) (h : Grows old new s t v w) where
   pub grown_front : old.hidden ≤ length old.written → IsFrontOf old new
   grown_front kept = record {
@@ -150,17 +154,17 @@ module _ {V : Type 0} (old new : Bindings V) (s : Rows EnvId) (t : Rows TypeStr)
       ∙ all_append old.types t (types (env_at g old.below))
 
   pub grown_values : (g : Graph) (read : V → ValueEntry)
-      → values_seen g read new ≡ with_all (map_rows (entry_of read) v) (values_seen g read old)
+      → values_seen g read new ≡ with_all (map_rows (bound_entry read) v) (values_seen g read old)
   grown_values g read =
-      ap (λ id. with_all (map_rows (entry_of read) new.values) (values (env_at g id))) h.below
-      ∙ ap (λ rows. with_all (map_rows (entry_of read) rows) (values (env_at g old.below))) h.values
-      ∙ ap (λ rows. with_all rows (values (env_at g old.below))) (map_append (entry_of read) old.values v)
-      ∙ all_append (map_rows (entry_of read) old.values) (map_rows (entry_of read) v) (values (env_at g old.below))
+      ap (λ id. with_all (map_rows (bound_entry read) new.values) (values (env_at g id))) h.below
+      ∙ ap (λ rows. with_all (map_rows (bound_entry read) rows) (values (env_at g old.below))) h.values
+      ∙ ap (λ rows. with_all rows (values (env_at g old.below))) (map_append (bound_entry read) old.values v)
+      ∙ all_append (map_rows (bound_entry read) old.values) (map_rows (bound_entry read) v) (values (env_at g old.below))
 
   pub grown_seen : (g : Graph) (read : V → ValueEntry) → seen g read new ≡ env_of
       (with_all (map_rows (env_at g) s) (structures_seen g old))
       (with_all t (types_seen g old))
-      (with_all (map_rows (entry_of read) v) (values_seen g read old))
+      (with_all (map_rows (bound_entry read) v) (values_seen g read old))
   grown_seen g read =
       ap (λ z. env_of z (types_seen g new) (values_seen g read new)) (grown_structures g)
       ∙ ap (λ z. env_of (with_all (map_rows (env_at g) s) (structures_seen g old)) z (values_seen g read new))
@@ -226,10 +230,10 @@ module _ {V : Type 0} (old new : Bindings V) (kept : old.hidden ≤ length old.w
       }
 
   pub value_bound : (name : List ℕ) (x : ValueInScope V) → new.structures ≡ old.structures
-      → new.types ≡ old.types → new.values ≡ old.values ++ (name, x) ∷ [] → (g : Graph) → Becomes g old new
+      → new.types ≡ old.types → new.values ≡ old.values ++ (name, bare x) ∷ [] → (g : Graph) → Becomes g old new
       (λ read. with_value name (entry_of read x) (seen g read old)) (written_of old)
   value_bound name x ss ts vs g =
-      let h : Grows old new [] [] ((name, x) ∷ []) [] = record {
+      let h : Grows old new [] [] ((name, bare x) ∷ []) [] = record {
         below = below;
         structures = nothing_more old.structures new.structures ss;
         types = nothing_more old.types new.types ts;
@@ -238,12 +242,12 @@ module _ {V : Type 0} (old new : Bindings V) (kept : old.hidden ≤ length old.w
       } in
       record {
         seen = λ read.
-            grown_seen old new [] [] ((name, x) ∷ []) [] h g read
+            grown_seen old new [] [] ((name, bare x) ∷ []) [] h g read
             ∙ env_by [] (structures_seen g old) (types_seen g old)
             (with_entry name (entry_of read x) (values_seen g read old));
         written = same_written;
-        front = grown_front old new [] [] ((name, x) ∷ []) [] h kept;
-        there = grown_there old new [] [] ((name, x) ∷ []) [] h g tt;
+        front = grown_front old new [] [] ((name, bare x) ∷ []) [] h kept;
+        there = grown_there old new [] [] ((name, bare x) ∷ []) [] h g tt;
       }
 
 -- ---- written type variables
@@ -338,11 +342,11 @@ first_is {A} (row ∷ rows) name =
 
 -- ---- leaving
 
-abbrev bindings : {V : Type 0} → EnvId → Rows EnvId → Rows TypeStr → Rows (ValueInScope V) → Rows TyId → ℕ → Bindings V
+abbrev bindings : {V : Type 0} → EnvId → Rows EnvId → Rows TypeStr → Rows (BoundValue V) → Rows TyId → ℕ → Bindings V
 bindings a ss ts vs xs m =
     record { below = a; structures = ss; types = ts; values = vs; written = xs; hidden = m }
 
-same_bindings : {V : Type 0} (a b : EnvId) (ss zs : Rows EnvId) (ts us : Rows TypeStr) (vs ws : Rows (ValueInScope V))
+same_bindings : {V : Type 0} (a b : EnvId) (ss zs : Rows EnvId) (ts us : Rows TypeStr) (vs ws : Rows (BoundValue V))
     (xs ys : Rows TyId) (m n : ℕ) → a ≡ b → ss ≡ zs → ts ≡ us → vs ≡ ws → xs ≡ ys → m ≡ n
     → bindings a ss ts vs xs m ≡ bindings b zs us ws ys n
 same_bindings a b ss zs ts us vs ws xs ys m n d e f g h i = cc
@@ -378,9 +382,9 @@ own_front sc kept = record {
 -- ---- an environment that is opened
 
 entries_read : {V : Type 0} (read : V → ValueEntry) (rows : Table ValueEntry)
-    → map_rows (entry_of read) (map_rows (λ (x : ValueEntry). value.Entry x) rows) ≡ rows
+    → map_rows (bound_entry read) (map_rows (λ (x : ValueEntry). bare (value.Entry x)) rows) ≡ rows
 entries_read read rows =
-    map_map (λ (x : ValueEntry). value.Entry x) (entry_of read) rows ∙ map_id rows
+    map_map (λ (x : ValueEntry). bare (value.Entry x)) (bound_entry read) rows ∙ map_id rows
 
 pub opened : {V : Type 0} (g : Graph) (env : EnvId) (old new : Bindings V) → old.hidden ≤ length old.written
     → Opens g env old new
@@ -398,7 +402,7 @@ opened {V} g env old new kept o = record {
     below = o.below;
     structures = o.front_structures;
     types = take_more old.types (types by) new.types o.types;
-    values = take_more old.values (map_rows (λ (x : ValueEntry). value.Entry x) (values by)) new.values o.values;
+    values = take_more old.values (map_rows (λ (x : ValueEntry). bare (value.Entry x)) (values by)) new.values o.values;
     written = ap (take (length old.written)) o.written ∙ take-length old.written;
     hidden = kept;
   };
@@ -425,12 +429,12 @@ opened {V} g env old new kept o = record {
 
     vs : (read : V → ValueEntry) → values_seen g read new ≡ with_all (values by) (values_seen g read old)
     vs read =
-        ap (λ id. with_all (map_rows (entry_of read) new.values) (values (env_at g id))) o.below
-        ∙ ap (λ rows. with_all (map_rows (entry_of read) rows) (values (env_at g old.below))) o.values
+        ap (λ id. with_all (map_rows (bound_entry read) new.values) (values (env_at g id))) o.below
+        ∙ ap (λ rows. with_all (map_rows (bound_entry read) rows) (values (env_at g old.below))) o.values
         ∙ ap (λ rows. with_all rows (values (env_at g old.below)))
-        (map_append (entry_of read) old.values (map_rows (λ (x : ValueEntry). value.Entry x) (values by))
-        ∙ ap (λ rows. map_rows (entry_of read) old.values ++ rows) (entries_read read (values by)))
-        ∙ all_append (map_rows (entry_of read) old.values) (values by) (values (env_at g old.below))
+        (map_append (bound_entry read) old.values (map_rows (λ (x : ValueEntry). bare (value.Entry x)) (values by))
+        ∙ ap (λ rows. map_rows (bound_entry read) old.values ++ rows) (entries_read read (values by)))
+        ∙ all_append (map_rows (bound_entry read) old.values) (values by) (values (env_at g old.below))
 
 -- ---- what was made
 
@@ -442,6 +446,15 @@ val_rows : {V : Type 0} (read : V → ValueEntry) (list : List (NamedInScope V))
     → value_rows read list ≡ map_rows (entry_of read) (scope_rows list)
 val_rows read [] = refl
 val_rows read (e ∷ es) = ap (λ z. (e.name, entry_of read e.entry) ∷ z) (val_rows read es)
+
+-- values as they are bound, read as entries
+read_rows : {V : Type 0} (read : V → ValueEntry) (rows : Rows (BoundValue V)) (list : List (NamedInScope V))
+    → scope_rows list ≡ map_rows value_of rows → map_rows (bound_entry read) rows ≡ value_rows read list
+read_rows read rows list h =
+    sym (map_map value_of (entry_of read) rows) ∙ ap (map_rows (entry_of read)) (sym h) ∙ sym (val_rows read list)
+
+bare_rows : {V : Type 0} (rows : Rows (ValueInScope V)) → map_rows value_of (map_rows bare rows) ≡ rows
+bare_rows rows = map_map bare value_of rows ∙ map_id rows
 
 has_envs : (g : Graph) (list : List NamedEnv) → AreEnvs g (env_rows list) → HasEnvs g list
 has_envs g [] h = tt
@@ -461,81 +474,86 @@ envs_of : (g : Graph) (list : List NamedEnv) → HasEnvs g list → AreEnvs g (e
 envs_of g [] h = tt
 envs_of g (e ∷ es) h = (h.0, envs_of g es h.1)
 
+-- the environment of rows
+abbrev env_of_rows : {V : Type 0} (g : Graph) (read : V → ValueEntry) (ss : List NamedEnv) (ts : List NamedType)
+    (v : Rows (BoundValue V)) → Env
+env_of_rows g read ss ts v = env_of (with_all (structure_rows g ss) []) (with_all (type_rows ts) [])
+    (with_all (map_rows (bound_entry read) v) [])
+
 -- lists behind what was bound before
-module _ {V : Type 0} (past now : Bindings V) (made : Made V) (w : Rows TyId)
-    (h : Grows past now (env_rows made.structures) (type_rows made.types) (scope_rows made.values) w) where
-  structs : (g : Graph) → with_all (map_rows (env_at g) (env_rows made.structures)) (structures_seen g past)
-      ≡ with_all (table_of (structures_of (with_all (structure_rows g made.structures) [])))
+module _ {V : Type 0} (past now : Bindings V) (ss : List NamedEnv) (ts : List NamedType) (v : Rows (BoundValue V)) (w : Rows TyId)
+    (h : Grows past now (env_rows ss) (type_rows ts) v w) where
+  structs : (g : Graph) → with_all (map_rows (env_at g) (env_rows ss)) (structures_seen g past)
+      ≡ with_all (table_of (structures_of (with_all (structure_rows g ss) [])))
       (table_of (structures_of (structures_seen g past)))
   structs g =
-      ap (λ rows. with_all rows (structures_seen g past)) (sym (struct_rows g made.structures))
-      ∙ at_once (structure_rows g made.structures) (structures_seen g past)
+      ap (λ rows. with_all rows (structures_seen g past)) (sym (struct_rows g ss))
+      ∙ at_once (structure_rows g ss) (structures_seen g past)
       ∙ ap (λ rows. with_all rows (structures_seen g past))
-      (sym (tables_back (with_all (structure_rows g made.structures) [])))
-      ∙ ap (with_all (table_of (structures_of (with_all (structure_rows g made.structures) []))))
+      (sym (tables_back (with_all (structure_rows g ss) [])))
+      ∙ ap (with_all (table_of (structures_of (with_all (structure_rows g ss) []))))
       (sym (tables_back (structures_seen g past)))
 
-  vals : (g : Graph) (read : V → ValueEntry)
-      → with_all (map_rows (entry_of read) (scope_rows made.values)) (values_seen g read past)
-      ≡ with_all (with_all (value_rows read made.values) []) (values_seen g read past)
-  vals g read =
-      ap (λ rows. with_all rows (values_seen g read past)) (sym (val_rows read made.values))
-      ∙ at_once (value_rows read made.values) (values_seen g read past)
-
   pub grown_made : (g : Graph) (read : V → ValueEntry)
-      → seen g read now ≡ modified_by (seen g read past) (env_of_made g read made)
+      → seen g read now ≡ modified_by (seen g read past) (env_of_rows g read ss ts v)
   grown_made g read =
-      grown_seen past now (env_rows made.structures) (type_rows made.types) (scope_rows made.values) w h g read
-      ∙ ap (λ z. env_of z (with_all (type_rows made.types) (types_seen g past))
-      (with_all (map_rows (entry_of read) (scope_rows made.values)) (values_seen g read past)))
+      grown_seen past now (env_rows ss) (type_rows ts) v w h g read
+      ∙ ap (λ z. env_of z (with_all (type_rows ts) (types_seen g past))
+      (with_all (map_rows (bound_entry read) v) (values_seen g read past)))
       (structs g)
-      ∙ ap (λ z. env_of (with_all (table_of (structures_of (with_all (structure_rows g made.structures) [])))
+      ∙ ap (λ z. env_of (with_all (table_of (structures_of (with_all (structure_rows g ss) [])))
       (table_of (structures_of (structures_seen g past)))) z
-      (with_all (map_rows (entry_of read) (scope_rows made.values)) (values_seen g read past)))
-      (at_once (type_rows made.types) (types_seen g past))
-      ∙ ap (λ z. env_of (with_all (table_of (structures_of (with_all (structure_rows g made.structures) [])))
+      (with_all (map_rows (bound_entry read) v) (values_seen g read past)))
+      (at_once (type_rows ts) (types_seen g past))
+      ∙ ap (λ z. env_of (with_all (table_of (structures_of (with_all (structure_rows g ss) [])))
       (table_of (structures_of (structures_seen g past))))
-      (with_all (with_all (type_rows made.types) []) (types_seen g past)) z) (vals g read)
+      (with_all (with_all (type_rows ts) []) (types_seen g past)) z)
+      (at_once (map_rows (bound_entry read) v) (values_seen g read past))
 
 pub made_is : {V : Type 0} (past now : Bindings V) (made : Made V) → IsFrontOf past now
     → env_rows made.structures ≡ drop (length past.structures) now.structures
     → type_rows made.types ≡ drop (length past.types) now.types
-    → scope_rows made.values ≡ drop (length past.values) now.values → IsMadeSince past now made
+    → scope_rows made.values ≡ map_rows value_of (drop (length past.values) now.values) → IsMadeSince past now made
 made_is {V} past now made front ss ts vs = record {
   structures = ss;
   types = ts;
   values = vs;
-  seen = λ g read. grown_made past now made w h g read;
+  seen = λ g read. grown_made past now made.structures made.types v w h g read
+      ∙ ap (λ rows. modified_by (seen g read past) (env_of (with_all (structure_rows g made.structures) [])
+      (with_all (type_rows made.types) []) (with_all rows []))) (read_rows read v made.values vs);
   there = λ g there. has_envs g made.structures
       (envs_behind g past.structures (env_rows made.structures) (subst (AreEnvs g) h.structures there.structures));
 }
   where
+    v : Rows (BoundValue V)
+    v = drop (length past.values) now.values
+
     w : Rows TyId
     w = drop (length past.written) now.written
 
-    h : Grows past now (env_rows made.structures) (type_rows made.types) (scope_rows made.values) w
+    h : Grows past now (env_rows made.structures) (type_rows made.types) v w
     h = record {
       below = front.below;
       structures = since past.structures now.structures front.structures ∙ ap (λ z. past.structures ++ z) (sym ss);
       types = since past.types now.types front.types ∙ ap (λ z. past.types ++ z) (sym ts);
-      values = since past.values now.values front.values ∙ ap (λ z. past.values ++ z) (sym vs);
+      values = since past.values now.values front.values;
       written = since past.written now.written front.written;
     }
 
 -- lists that are bound
-pub made_bound : {V : Type 0} (old new : Bindings V) (made : Made V) → old.hidden ≤ length old.written
+pub made_bound : {V : Type 0} (old new : Bindings V) (made : MadeBound V) → old.hidden ≤ length old.written
     → new ≡ more_made made old → (g : Graph) → HasEnvs g made.structures
-    → Becomes g old new (λ read. modified_by (seen g read old) (env_of_made g read made)) (written_of old)
+    → Becomes g old new (λ read. modified_by (seen g read old) (env_of_bound g read made)) (written_of old)
 made_bound {V} old new made kept is g there = record {
-  seen = λ read. grown_made old new made [] h g read;
+  seen = λ read. grown_made old new made.structures made.types (bound_rows made.values) [] h g read;
   written = same_written old new kept h.below (ap (λ (sc : Bindings V). sc.written) is)
       (ap (λ (sc : Bindings V). sc.hidden) is);
-  front = grown_front old new (env_rows made.structures) (type_rows made.types) (scope_rows made.values) [] h kept;
-  there = grown_there old new (env_rows made.structures) (type_rows made.types) (scope_rows made.values) [] h g
+  front = grown_front old new (env_rows made.structures) (type_rows made.types) (bound_rows made.values) [] h kept;
+  there = grown_there old new (env_rows made.structures) (type_rows made.types) (bound_rows made.values) [] h g
       (envs_of g made.structures there);
 }
   where
-    h : Grows old new (env_rows made.structures) (type_rows made.types) (scope_rows made.values) []
+    h : Grows old new (env_rows made.structures) (type_rows made.types) (bound_rows made.values) []
     h = record {
       below = ap (λ (sc : Bindings V). sc.below) is;
       structures = ap (λ (sc : Bindings V). sc.structures) is;
@@ -544,19 +562,75 @@ made_bound {V} old new made kept is g there = record {
       written = nothing_more old.written new.written (ap (λ (sc : Bindings V). sc.written) is);
     }
 
+-- the environment of what was made is the same, whatever a table has of it
+pub bound_is_made : {V : Type 0} (g : Graph) (read : V → ValueEntry) (made : Made V) (more : MadeBound V)
+    → more.structures ≡ made.structures → more.types ≡ made.types
+    → map_rows value_of (bound_rows more.values) ≡ scope_rows made.values → env_of_bound g read more ≡ env_of_made g read made
+bound_is_made g read made more ss ts vs =
+    ap (λ z. env_of (with_all (structure_rows g z) []) (with_all (type_rows more.types) [])
+    (with_all (map_rows (bound_entry read) (bound_rows more.values)) [])) ss
+    ∙ ap (λ z. env_of (with_all (structure_rows g made.structures) []) (with_all (type_rows z) [])
+    (with_all (map_rows (bound_entry read) (bound_rows more.values)) [])) ts
+    ∙ ap (λ z. env_of (with_all (structure_rows g made.structures) []) (with_all (type_rows made.types) []) (with_all z []))
+    (read_rows read (bound_rows more.values) made.values (sym vs))
+
+pub bare_bound : {V : Type 0} (old new : Bindings V) (made : Made V) (more : MadeBound V) → more.structures ≡ made.structures
+    → more.types ≡ made.types → bound_rows more.values ≡ map_rows bare (scope_rows made.values) → (g : Graph)
+    → Becomes g old new (λ read. modified_by (seen g read old) (env_of_bound g read more)) (written_of old)
+    → Becomes g old new (λ read. modified_by (seen g read old) (env_of_made g read made)) (written_of old)
+bare_bound old new made more ss ts vs g b = record {
+  seen = λ read. b.seen read ∙ ap (modified_by (seen g read old))
+      (bound_is_made g read made more ss ts (ap (map_rows value_of) vs ∙ bare_rows (scope_rows made.values)));
+  written = b.written;
+  front = b.front;
+  there = b.there;
+}
+
+-- ---- what holds of all that is bound
+
+pub held_append : {A : Type 0} (P : A → Type 0) (front back : Rows A) → AreHeld P front → AreHeld P back → AreHeld P (front ++ back)
+held_append P [] back h k = k
+held_append P (row ∷ rows) back h k = (h.0, held_append P rows back h.1 k)
+
+pub held_more : {V : Type 0} (P : BoundValue V → Type 0) (old new : Bindings V) (rows : Rows (BoundValue V)) → AddsBound rows old new
+    → AreHeld P rows → AreHeld P old.values → AreHeld P new.values
+held_more P old new rows e h k = subst (AreHeld P) (sym e) (held_append P old.values rows k h)
+
+bare_held : {V : Type 0} (P : BoundValue V → Type 0) (rows : Rows (ValueInScope V)) → ((x : ValueInScope V) → P (bare x))
+    → AreHeld P (map_rows bare rows)
+bare_held P [] h = tt
+bare_held P (row ∷ rows) h = (h row.1, bare_held P rows h)
+
+pub held_bare : {V : Type 0} (P : BoundValue V → Type 0) (old new : Bindings V) → ((x : ValueInScope V) → P (bare x))
+    → AddsBare old new → AreHeld P old.values → AreHeld P new.values
+held_bare P old new b adds k = held_more P old new (map_rows bare adds.0) adds.1 (bare_held P adds.0 b) k
+
+pub all_bare : {V : Type 0} (old new : Bindings V) → AddsBare old new → AreBare old → AreBare new
+all_bare old new adds k = held_bare IsBare old new (λ x. refl) adds k
+
+pub adds_nothing : {V : Type 0} (old new : Bindings V) → new.values ≡ old.values → AddsBare old new
+adds_nothing old new e = ([], nothing_more old.values new.values e)
+
+pub adds_entries : {V : Type 0} (old new : Bindings V) (rows : Table ValueEntry)
+    → new.values ≡ old.values ++ map_rows (λ (x : ValueEntry). bare (value.Entry x)) rows → AddsBare old new
+adds_entries {V} old new rows e = (
+  map_rows (λ (x : ValueEntry). value.Entry x) rows,
+  e ∙ ap (λ (z : Rows (BoundValue V)). old.values ++ z) (sym (map_map (λ (x : ValueEntry). value.Entry x) bare rows)),
+)
+
 -- ---- what is looked up
 
 pub value_found : {V : Type 0} (g : Graph) (sc : Bindings V) (name : List ℕ) (read : V → ValueEntry)
-    (x : ValueInScope V) → last_entry sc.values name ≡ Some x
-    → Some (entry_of read x) ≡ entry name (values (seen g read sc))
-value_found g sc name read x h = sym (entry_over (entry_of read) sc.values (values (env_at g sc.below)) name
-    ∙ ap (λ o. or_held (option_map (entry_of read) o) (entry name (values (env_at g sc.below)))) h)
+    (x : BoundValue V) → last_entry sc.values name ≡ Some x
+    → Some (bound_entry read x) ≡ entry name (values (seen g read sc))
+value_found g sc name read x h = sym (entry_over (bound_entry read) sc.values (values (env_at g sc.below)) name
+    ∙ ap (λ o. or_held (option_map (bound_entry read) o) (entry name (values (env_at g sc.below)))) h)
 
 pub value_below : {V : Type 0} (g : Graph) (sc : Bindings V) (name : List ℕ) (read : V → ValueEntry)
     → last_entry sc.values name ≡ None
     → entry name (values (env_at g sc.below)) ≡ entry name (values (seen g read sc))
-value_below g sc name read h = sym (entry_over (entry_of read) sc.values (values (env_at g sc.below)) name
-    ∙ ap (λ o. or_held (option_map (entry_of read) o) (entry name (values (env_at g sc.below)))) h)
+value_below g sc name read h = sym (entry_over (bound_entry read) sc.values (values (env_at g sc.below)) name
+    ∙ ap (λ o. or_held (option_map (bound_entry read) o) (entry name (values (env_at g sc.below)))) h)
 
 pub type_found : {V : Type 0} (g : Graph) (sc : Bindings V) (name : List ℕ) (read : V → ValueEntry)
     (x : TypeStr) → last_entry sc.types name ≡ Some x → Some x ≡ entry name (types (seen g read sc))
@@ -631,10 +705,10 @@ module _ (old new : Graph) (keeps : Keeps old new) where
   scope_seen read sc there =
       ap (λ rows. env_of (with_all rows (structures (env_at new sc.below)))
       (with_all sc.types (types (env_at new sc.below)))
-      (with_all (map_rows (entry_of read) sc.values) (values (env_at new sc.below))))
+      (with_all (map_rows (bound_entry read) sc.values) (values (env_at new sc.below))))
       (rows_stay sc.structures there.structures)
       ∙ ap (λ env. env_of (with_all (map_rows (env_at old) sc.structures) (structures env))
-      (with_all sc.types (types env)) (with_all (map_rows (entry_of read) sc.values) (values env)))
+      (with_all sc.types (types env)) (with_all (map_rows (bound_entry read) sc.values) (values env)))
       (keeps.env sc.below there.below)
 
 pub stays_in_scope : (V : Type 0) → StaysInScope V

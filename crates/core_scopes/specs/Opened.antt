@@ -6,9 +6,9 @@ use Rattle.sml_modules.specs.declared.id.EnvId.{EnvId}
 use Rattle.sml_modules.specs.Items.{map_rows}
 use Rattle.sml_modules.specs.Graphs.{Graph, env_at}
 use Rattle.name_trails.specs.Trails.{Rows}
-use Rattle.core_scopes.specs.declared.value.ValueInScope.{ValueInScope}
+use Rattle.core_scopes.specs.declared.value.BoundValue.{BoundValue}
 use Rattle.core_scopes.specs.declared.value.ValueInScope.TheVariants as value
-use Rattle.core_scopes.specs.Scopes.{Bindings, AreEnvs}
+use Rattle.core_scopes.specs.Scopes.{Bindings, AreEnvs, bare}
 
 -- ids that stand for the structures of an environment, behind others
 pub record OpensStructures (g : Graph) (env : Env) (old new : Rows EnvId) : Type 0 where
@@ -16,8 +16,8 @@ pub record OpensStructures (g : Graph) (env : Env) (old new : Rows EnvId) : Type
   pub there : AreEnvs g old → AreEnvs g new
 
 -- the values of an environment behind others
-abbrev pub OpensValues : {V : Type 0} → Env → Rows (ValueInScope V) → Rows (ValueInScope V) → Type 0
-OpensValues env old new = new ≡ old ++ map_rows (λ (entry : ValueEntry). value.Entry entry) (values env)
+abbrev pub OpensValues : {V : Type 0} → Env → Rows (BoundValue V) → Rows (BoundValue V) → Type 0
+OpensValues env old new = new ≡ old ++ map_rows (λ (entry : ValueEntry). bare (value.Entry entry)) (values env)
 
 -- all of an environment over a scope
 pub record Opens {V : Type 0} (g : Graph) (env : EnvId) (old new : Bindings V) : Type 0 where

@@ -13,8 +13,8 @@ mod value;
 mod written;
 
 pub use laws::{fronts_go_on, scopes_stay};
-pub use made::{Made, NamedInScope};
+pub use made::{Made, MadeBound, NamedInScope};
 pub use mark::ScopeMark;
 pub use scope::Scope;
-pub use value::ValueInScope;
+pub use value::{BoundValue, NamedBound, ValueInScope};
 pub use written::InScope;

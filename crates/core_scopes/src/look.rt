@@ -1,7 +1,7 @@
 //! What the names in scope stand for.
 
 ghost use Rattle.std.specs.Prelude.{◌≡◌, IfOk};
-ghost use Rattle.std.specs.Option.{option_map};
+ghost use Rattle.std.specs.Option.{option_copied, option_map};
 ghost use Rattle.semantic_objects.specs.declared.entry.ValueEntry.{ValueEntry};
 ghost use Rattle.semantic_objects.specs.Tables.{entry};
 ghost use Rattle.semantic_objects.specs.Environments.{structures, types, values};
@@ -11,7 +11,7 @@ ghost use Rattle.name_trails.specs.Trails.{last_entry};
 ghost use Rattle.core_scopes.specs.Scopes.{seen, entry_of, IsScopeOf};
 
 use crate::scope::Scope;
-use crate::value::ValueInScope;
+use crate::value::{BoundValue, ValueInScope};
 use cm_base::{NoMemory, Text};
 use env_parts::copy_type;
 use semantic_objects::{TypeFn, TypeStr};
@@ -64,6 +64,13 @@ impl<V: Copy + Drop> Scope<V> {
         }
     }
 
+    /// What was bound last under a name over the environment. It takes no memory.
+    pub fn bound_value(&self, name: &Text) -> Option<&BoundValue<V>>
+        ensures { option_copied result ≡ last_entry self.now.values name.now }
+    {
+        self.values.find(name)
+    }
+
     /// The value of that name.
     pub fn find_value(&self, g: &EnvGraph, name: &Text) -> Result<Option<ValueInScope<V>>, NoMemory>
         requires { IsScopeOf g.now self.now }
@@ -71,7 +78,7 @@ impl<V: Copy + Drop> Scope<V> {
             → option_map (entry_of read) found ≡ entry name.now (values (seen g.now read self.now))) }
     {
         match self.values.find(name) {
-            Some(entry) => Ok(Some(entry.copy(self.alloc)?)),
+            Some(bound) => Ok(Some(bound.value.copy(self.alloc)?)),
             None => value_of_env(g, self.below, name),
         }
     }

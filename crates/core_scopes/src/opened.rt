@@ -4,11 +4,11 @@ ghost use Rattle.std.specs.Prelude.{◌≡◌, ◌++◌, length, take, OnOk, OnE
 ghost use Rattle.semantic_objects.specs.Environments.{modified_by, types};
 ghost use Rattle.sml_modules.specs.Graphs.{env_at, HasEnv};
 ghost use Rattle.core_scopes.specs.Scopes.{seen, written_of};
-ghost use Rattle.core_scopes.specs.Marks.{Becomes, IsFrontOf};
+ghost use Rattle.core_scopes.specs.Marks.{AddsBare, Becomes, IsFrontOf};
 ghost use Rattle.core_scopes.specs.Opened.{OpensStructures, OpensValues, Opens};
 
 use crate::scope::Scope;
-use crate::value::ValueInScope;
+use crate::value::{BoundValue, ValueInScope};
 use cm_base::{NoMemory, Text};
 use name_trails::NameTrail;
 use semantic_objects::TypeStr;
@@ -48,7 +48,7 @@ fn open_types(g: &EnvGraph, env: EnvId, trail: &mut NameTrail<TypeStr>) -> Resul
 fn open_values<V: Copy + Drop>(
     g: &EnvGraph,
     env: EnvId,
-    trail: &mut NameTrail<ValueInScope<V>>,
+    trail: &mut NameTrail<BoundValue<V>>,
 ) -> Result<(), NoMemory>
     requires { HasEnv g.now env }
     ensures ok { OnOk result (OpensValues (env_at g.now env) trail.old trail.new) }
@@ -57,7 +57,11 @@ fn open_values<V: Copy + Drop>(
     let names = g.names_value(env)?;
     for name in names.into_vec() {
         if let Some(entry) = g.find_value(env, &name)? {
-            trail.bind(name, ValueInScope::Entry(entry))?;
+            let bound = BoundValue {
+                value: ValueInScope::Entry(entry),
+                scheme: None,
+            };
+            trail.bind(name, bound)?;
         }
     }
     Ok(())
@@ -81,6 +85,7 @@ impl<V: Copy + Drop> Scope<V> {
         requires { HasEnv g.now env }
         ensures ok { OnOk result (Becomes g.now self.old self.new
             (λ read. modified_by (seen g.now read self.old) (env_at g.now env)) (written_of self.old)) }
+        ensures bare { OnOk result (AddsBare self.old self.new) }
         ensures err { OnErr result (self.new ≡ self.old) }
     {
         let before = self.mark();

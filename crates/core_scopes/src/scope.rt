@@ -5,10 +5,10 @@ ghost use Rattle.semantic_objects.specs.declared.entry.ValueEntry.{ValueEntry};
 ghost use Rattle.semantic_objects.specs.Environments.{with_structure, with_type, with_value};
 ghost use Rattle.sml_modules.specs.Graphs.{Graph, env_at, HasEnv};
 ghost use Rattle.core_scopes.specs.Scopes.{Bindings, seen, written_of, entry_of, AreEnvs, IsScopeOf};
-ghost use Rattle.core_scopes.specs.Marks.{outermost, mark_of, IsFrontOf, Becomes};
+ghost use Rattle.core_scopes.specs.Marks.{outermost, mark_of, AddsBare, IsFrontOf, Becomes};
 
 use crate::mark::ScopeMark;
-use crate::value::ValueInScope;
+use crate::value::{BoundValue, ValueInScope};
 use cm_base::{NoMemory, Text};
 use name_trails::NameTrail;
 use semantic_objects::{TyId, TypeStr};
@@ -24,7 +24,7 @@ pub struct Scope<V> {
     pub(crate) below: EnvId,
     pub(crate) structures: NameTrail<EnvId>,
     pub(crate) types: NameTrail<TypeStr>,
-    pub(crate) values: NameTrail<ValueInScope<V>>,
+    pub(crate) values: NameTrail<BoundValue<V>>,
     pub(crate) written: NameTrail<TyId>,
     pub(crate) hidden: usize,
 }
@@ -117,6 +117,7 @@ impl<V: Copy + Drop> Scope<V> {
     pub fn bind_structure(&mut self, name: Text, env: EnvId) -> Result<(), NoMemory>
         ensures ok { OnOk result ((g : Graph) → HasEnv g env → Becomes g self.old self.new
             (λ read. with_structure name (env_at g env) (seen g read self.old)) (written_of self.old)) }
+        ensures bare { OnOk result (AddsBare self.old self.new) }
         ensures err { OnErr result (self.new ≡ self.old) }
     {
         self.structures.bind(name, env)?;
@@ -127,6 +128,7 @@ impl<V: Copy + Drop> Scope<V> {
     pub fn bind_type(&mut self, name: Text, entry: TypeStr) -> Result<(), NoMemory>
         ensures ok { OnOk result ((g : Graph) → Becomes g self.old self.new
             (λ read. with_type name entry (seen g read self.old)) (written_of self.old)) }
+        ensures bare { OnOk result (AddsBare self.old self.new) }
         ensures err { OnErr result (self.new ≡ self.old) }
     {
         self.types.bind(name, entry)?;
@@ -137,9 +139,14 @@ impl<V: Copy + Drop> Scope<V> {
     pub fn bind_value(&mut self, name: Text, entry: ValueInScope<V>) -> Result<(), NoMemory>
         ensures ok { OnOk result ((g : Graph) → Becomes g self.old self.new
             (λ read. with_value name (entry_of read entry) (seen g read self.old)) (written_of self.old)) }
+        ensures bare { OnOk result (AddsBare self.old self.new) }
         ensures err { OnErr result (self.new ≡ self.old) }
     {
-        self.values.bind(name, entry)?;
+        let bound = BoundValue {
+            value: entry,
+            scheme: None,
+        };
+        self.values.bind(name, bound)?;
         Ok(())
     }
 }

@@ -2,10 +2,11 @@
 
 ghost use Rattle.std.specs.Prelude.{◌≡◌, IfOk};
 
-use cm_base::NoMemory;
+use cm_base::{NoMemory, Text};
 use env_parts::copy_value;
 use semantic_objects::ValueEntry;
 use std::alloc::Global;
+use table_schemes::TableScheme;
 
 /// A value in scope: an entry of an environment, or one that the unit itself made and whose scheme is still one of the
 /// table of types. Of which form that is, is left to who elaborates.
@@ -13,6 +14,20 @@ use std::alloc::Global;
 pub enum ValueInScope<V> {
     Entry(ValueEntry),
     Own(V),
+}
+
+/// A value as it is bound: with what a table of types has of its scheme, if it has that.
+#[derive(Drop)]
+pub struct BoundValue<V> {
+    pub value: ValueInScope<V>,
+    pub scheme: Option<TableScheme>,
+}
+
+/// A value that is to be bound, and its name.
+#[derive(Drop)]
+pub struct NamedBound<V> {
+    pub name: Text,
+    pub bound: BoundValue<V>,
 }
 
 impl<V: Copy + Drop> ValueInScope<V> {

@@ -3,7 +3,7 @@
 ghost use Rattle.std.specs.Prelude.{◌≡◌, ◌≤◌, ◌++◌, length, take, reverse, OnOk, OnErr};
 ghost use Rattle.sml_modules.specs.Graphs.{Graph};
 ghost use Rattle.core_scopes.specs.Scopes.{seen, written_of, written_rows, first_entry};
-ghost use Rattle.core_scopes.specs.Marks.{Becomes};
+ghost use Rattle.core_scopes.specs.Marks.{AddsBare, Becomes};
 ghost use Rattle.core_scopes.specs.Listed.{more_written};
 
 use crate::scope::Scope;
@@ -51,6 +51,7 @@ impl<V: Copy + Drop> Scope<V> {
     pub fn bind_written(&mut self, rows: &List<InScope>) -> Result<(), NoMemory>
         ensures ok { OnOk result ((g : Graph) → Becomes g self.old self.new
             (λ read. seen g read self.old) (written_rows rows.now ++ written_of self.old)) }
+        ensures bare { OnOk result (AddsBare self.old self.new) }
         ensures err { OnErr result (self.new ≡ self.old) }
     {
         self.add_written(rows)?;
@@ -61,6 +62,7 @@ impl<V: Copy + Drop> Scope<V> {
     pub fn bind_written_alone(&mut self, rows: &List<InScope>) -> Result<(), NoMemory>
         ensures ok { OnOk result ((g : Graph) → Becomes g self.old self.new
             (λ read. seen g read self.old) (written_rows rows.now)) }
+        ensures bare { OnOk result (AddsBare self.old self.new) }
         ensures err { OnErr result (self.new ≡ self.old) }
     {
         let before = self.written.len();

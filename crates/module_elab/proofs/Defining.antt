@@ -9,6 +9,8 @@ use Rattle.type_nodes.specs.Keeping.{IsKept}
 use Rattle.type_nodes.specs.Tables.{Table}
 use Rattle.sml_modules.specs.Graphs.{Graph}
 use Rattle.static_semantics.specs.Inferring.{Progress, Answer, ◌>>=◌, gives}
+use Rattle.core_scopes.specs.Scopes.{AreBare}
+use Rattle.core_scopes.proofs.Scoping.{all_bare}
 use Rattle.type_phrases.specs.Inferred.{Answers}
 use Rattle.core_rules.proofs.Chains.{answers_stop}
 use Rattle.unit_semantics.specs.UnitPhrases.{TopPhrase}
@@ -59,6 +61,7 @@ pub record TopsSoFar (begun now : Moment) (phrases left : List TopPhrase) : Type
   pub goes : Passes begun now
   pub there : IsTopScope now.graph now.top
   pub at : IsAtTop every now.graph.home (seen_at now) (progress_at now)
+  pub bare : AreBare now.top.core
 
 pub tops_begin : (m : Moment) (phrases : List TopPhrase) → IsReadyTop m → defined_top m.graph m.top.defined ≡ empty_top
     → TopsSoFar m m phrases phrases
@@ -70,11 +73,12 @@ tops_begin m phrases r e = record {
   goes = passes_top m m.top;
   there = r.there;
   at = r.at;
+  bare = r.bare;
 }
 
 pub tops_ready : {begun now : Moment} {phrases left : List TopPhrase} → TopsSoFar begun now phrases left
     → IsKept now.table → IsReadyTop now
-tops_ready s k = record { there = s.there; kept = k; at = s.at }
+tops_ready s k = record { there = s.there; kept = k; at = s.at; bare = s.bare }
 
 abbrev rest_of : List ℕ → Top → List TopPhrase → Top × Progress → Answer (Top × Progress)
 rest_of home top rest r = infer_tops depth home (top_with top r.0) rest r.1 >>= λ q. gives (top_with r.0 q.0, q.1)
@@ -123,6 +127,7 @@ module _ {begun now : Moment} {phrases left rest : List TopPhrase} {phrase : Top
         there = h.defines.there (tops_stay.scope now.graph mid.graph now.top h.goes.graph s.there);
         at = subst (λ home. IsAtTop every home (seen_at mid) (progress_at mid)) (sym h.goes.home)
             (subst (λ (z : Top). IsAtTop every now.graph.home z (progress_at mid)) (sym here) at_now);
+        bare = all_bare now.top.core mid.top.core h.defines.bare s.bare;
       }
 
   pub tops_fail : {mid : Moment} {e : Fault} → IsDefined now phrase mid (Err e) → AreDefined begun phrases mid (Err e)

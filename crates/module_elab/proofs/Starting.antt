@@ -7,6 +7,7 @@ use Rattle.type_nodes.specs.Tables.{Table, state}
 use Rattle.sml_modules.specs.declared.id.EnvId.{EnvId}
 use Rattle.sml_modules.specs.declared.id.TopId.{TopId}
 use Rattle.sml_modules.specs.Graphs.{Graph, env_at, top_at, HasTop, GivesTop, IsIdOf}
+use Rattle.core_scopes.specs.Scopes.{AreBare}
 use Rattle.std.specs.Prelude.{Result}
 use Rattle.cm_base.specs.declared.fault.Fault.{Fault}
 use Rattle.unification.specs.Unification.{depth}
@@ -65,8 +66,8 @@ seen_first g h basis top given env scope has b e s =
 pub ready_first : (g h : Graph) (t : Table) (nobasis : Bool) (top given : TopId) (env : EnvId) (scope : TopScope)
     → MayBeGiven g.home (top_at g given) (progress t g) → HasTop g given → GivesTop g h (basis_top nobasis) top
     → IsIdOf h (top_at h top).env env → top_seen h scope ≡ with_given (env_at h env) (top_at h given)
-    → IsTopScope h scope → IsKept t → IsReadyTop (moment h t scope)
-ready_first g h t nobasis top given env scope may has b e s there k = record {
+    → AreBare scope.core → IsTopScope h scope → IsKept t → IsReadyTop (moment h t scope)
+ready_first g h t nobasis top given env scope may has b e s bare there k = record {
   there = there;
   kept = k;
   at = subst (λ home. IsAtTop every home (top_seen h scope) (progress t h)) (sym b.home)
@@ -76,6 +77,7 @@ ready_first g h t nobasis top given env scope may has b e s there k = record {
       (let st : Progress = record { types = state t; names = n } in st)) (sym (ap length b.made))
       (at_beginning g.home (basis_env nobasis) (top_at g given) (progress t g)
       (units_begin_with_the_basis.given g.home nobasis (top_at g given) (progress t g) may k.fit))));
+  bare = bare;
 }
 
 -- what declarations answer from the beginning, the unit answers

@@ -129,3 +129,7 @@ place_next {A} place made i row old new name h r n o e =
 pub on_ok : {A E P Q : Type 0} (r : Result A E) → OnOk r P → (P → Q) → OnOk r Q
 on_ok (Ok x) h f = f h
 on_ok (Err e) h f = tt
+
+pub on_both : {A E P Q R : Type 0} (r : Result A E) → OnOk r P → OnOk r Q → (P → Q → R) → OnOk r R
+on_both (Ok x) h k f = f h k
+on_both (Err e) h k f = tt

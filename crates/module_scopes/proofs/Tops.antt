@@ -13,9 +13,10 @@ use Rattle.sml_modules.specs.Items.{map_rows}
 use Rattle.sml_modules.specs.Graphs.{Graph, env_at, signature_at, functor_at, top_at, HasEnv, HasSignature, HasFunctor, Keeps}
 use Rattle.name_trails.specs.Trails.{Rows}
 use Rattle.static_semantics.specs.Inferring.{Scope, outermost}
-use Rattle.core_scopes.specs.Scopes.{Bindings, seen, written_of, AreEnvs}
-use Rattle.core_scopes.specs.Marks.{Becomes}
-use Rattle.core_scopes.proofs.Scoping.{envs_append, stays_in_scope}
+use Rattle.core_scopes.specs.Scopes.{Bindings, seen, written_of, AreEnvs, AreBare}
+use Rattle.core_scopes.specs.Marks as marks
+use Rattle.core_scopes.specs.Marks.{AddsBare, Becomes}
+use Rattle.core_scopes.proofs.Scoping.{envs_append, stays_in_scope, all_bare, adds_nothing}
 use Rattle.pattern_elab.specs.declared.own.OwnVariable.{OwnVariable}
 use Rattle.pattern_elab.specs.Scopes.{own_entry, variable_of, scope_of}
 use Rattle.unit_semantics.specs.UnitInference.{with_given, top_of_env, top_of_signatures, top_of_functors, top_of_funsigs}
@@ -69,13 +70,14 @@ structures_more g rows more new e =
 
 pub goes_under : (g : Graph) (old new : Bindings OwnVariable) (env : (OwnVariable → ValueEntry) → Env) (made : Env)
     → Becomes g old new env (written_of old) → env own_entry ≡ modified_by (seen g own_entry old) made
-    → GoesUnder g made old new
-goes_under g old new env made b e = record {
+    → AddsBare old new → GoesUnder g made old new
+goes_under g old new env made b e adds = record {
   seen = scope_same (seen g own_entry new) (modified_by (seen g own_entry old) made)
       (map_rows variable_of (written_of new)) (map_rows variable_of (written_of old)) g.home
       (b.seen own_entry ∙ e) (ap (map_rows variable_of) b.written);
   written = b.written;
   front = b.front;
+  bare = adds;
   there = b.there;
 }
 
@@ -102,6 +104,12 @@ top_begins g core given defined env e s f k = top_same
     (ap (λ (rows : Rows FunId). functors_over g rows (top_at g given).functors) f)
     (ap (λ (rows : Rows FunId). functors_over g rows (top_at g given).funsigs) k)
 
+-- a table has nothing of an environment that was opened first
+pub begins_bare : (below : EnvId) (first core : Bindings OwnVariable) → first ≡ marks.outermost below → AddsBare first core
+    → AreBare core
+begins_bare below first core e adds =
+    all_bare first core adds (subst (λ (sc : Bindings OwnVariable). AreBare sc) (sym e) tt)
+
 -- ---- what declarations define
 
 pub defines_structures : (g : Graph) (made new : Rows EnvId) (old : TopScope) (core : Bindings OwnVariable)
@@ -121,6 +129,7 @@ defines_structures g made new old core e h u = record {
     functors = (defined_top g old.defined).functors;
     funsigs = (defined_top g old.defined).funsigs;
   } in a) (structures_more g old.defined.structures made new e);
+  bare = u.bare;
   there = λ t. record {
     core = u.there t.core;
     written = u.written ∙ t.written;
@@ -146,6 +155,7 @@ defines_signatures g made new old e h = record {
       (all_more (signature_at g) old.defined.signatures made new (top_at g old.given).signatures e) refl refl;
   defined = top_same _ _ _ _ _ _ _ _ (sym (nothing_behind (defined_top g old.defined).env))
       (all_more (signature_at g) old.defined.signatures made new [] e) refl refl;
+  bare = adds_nothing old.core old.core refl;
   there = λ t. record {
     core = t.core;
     written = t.written;
@@ -168,6 +178,7 @@ defines_functors g made new old e h = record {
       (all_more (functor_at g) old.defined.functors made new (top_at g old.given).functors e) refl;
   defined = top_same _ _ _ _ _ _ _ _ (sym (nothing_behind (defined_top g old.defined).env)) refl
       (all_more (functor_at g) old.defined.functors made new [] e) refl;
+  bare = adds_nothing old.core old.core refl;
   there = λ t. record {
     core = t.core;
     written = t.written;
@@ -190,6 +201,7 @@ defines_funsigs g made new old e h = record {
       (all_more (functor_at g) old.defined.funsigs made new (top_at g old.given).funsigs e);
   defined = top_same _ _ _ _ _ _ _ _ (sym (nothing_behind (defined_top g old.defined).env)) refl refl
       (all_more (functor_at g) old.defined.funsigs made new [] e);
+  bare = adds_nothing old.core old.core refl;
   there = λ t. record {
     core = t.core;
     written = t.written;

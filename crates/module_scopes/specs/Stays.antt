@@ -3,7 +3,7 @@ use Rattle.std.specs.Prelude.{◌≡◌}
 use Rattle.semantic_objects.specs.Environments.{Env, Top}
 use Rattle.sml_modules.specs.Graphs.{Graph, Keeps}
 use Rattle.core_scopes.specs.Scopes.{Bindings, written_of}
-use Rattle.core_scopes.specs.Marks.{IsFrontOf}
+use Rattle.core_scopes.specs.Marks.{IsFrontOf, AddsBare}
 use Rattle.core_scopes.specs.Scopes as scopes
 use Rattle.static_semantics.specs.Inferring.{under}
 use Rattle.pattern_elab.specs.declared.own.OwnVariable.{OwnVariable}
@@ -23,15 +23,19 @@ pub record TopsStay : Type 0 where
   pub defined : (old new : Graph) (defined : Defined) → Keeps old new → IsDefinedIn old defined
       → defined_top new defined ≡ defined_top old defined
 
--- a scope of the core went under an environment; a mark from before leaves it again
+-- a scope of the core went under an environment, and a table has nothing of what was bound; a mark from before leaves it
+-- again
 pub record GoesUnder (g : Graph) (made : Env) (old new : Bindings OwnVariable) : Type 0 where
   pub seen : scope_of g new ≡ under made (scope_of g old)
   pub written : written_of new ≡ written_of old
   pub front : IsFrontOf old new
+  pub bare : AddsBare old new
   pub there : scopes.IsScopeOf g old → scopes.IsScopeOf g new
 
--- a declaration defined this: it is in scope behind what was, and stands behind what was defined before
+-- a declaration defined this: it is in scope behind what was, and stands behind what was defined before; a table has
+-- nothing of it
 pub record Defines (g : Graph) (made : Top) (old new : TopScope) : Type 0 where
   pub seen : top_seen g new ≡ top_with (top_seen g old) made
   pub defined : defined_top g new.defined ≡ top_with (defined_top g old.defined) made
+  pub bare : AddsBare old.core new.core
   pub there : IsTopScope g old → IsTopScope g new

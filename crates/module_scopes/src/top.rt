@@ -5,6 +5,7 @@ ghost use Rattle.semantic_objects.specs.Tables.{entry};
 ghost use Rattle.semantic_objects.specs.Environments.{empty_top};
 ghost use Rattle.sml_modules.specs.Graphs.{env_at, top_at, HasEnv, HasTop, FindsSignature, FindsFunctor};
 ghost use Rattle.name_trails.specs.Trails.{last_entry};
+ghost use Rattle.core_scopes.specs.Scopes.{AreBare};
 ghost use Rattle.pattern_elab.specs.Scopes.{scope_of};
 ghost use Rattle.unit_semantics.specs.StructureInference.{core_scope};
 ghost use Rattle.unit_semantics.specs.UnitInference.{with_given};
@@ -28,7 +29,7 @@ pub struct TopScope {
 }
 
 impl TopScope {
-    /// What is in scope at a unit's beginning: the basis with what is given in front.
+    /// What is in scope at a unit's beginning: the basis with what is given in front. No table has anything of it.
     pub fn new(
         alloc: Global,
         g: &EnvGraph,
@@ -42,6 +43,7 @@ impl TopScope {
         ensures core { IfOk result (λ top.
             scope_of g.now top.core ≡ core_scope g.now.home (with_given (env_at g.now basis) (top_at g.now given))) }
         ensures defined { IfOk result (λ top. defined_top g.now top.defined ≡ empty_top) }
+        ensures bare { IfOk result (λ top. AreBare top.core) }
         ensures there { IfOk result (IsTopScope g.now) }
     {
         let env = g.env_of(given)?;

@@ -1,17 +1,24 @@
 -- What is in scope where a phrase of the core is elaborated, and the variables that a pattern binds.
 -- The Definition of Standard ML (Revised), sections 4.2 and 4.3.
-use Rattle.std.specs.Prelude.{◌<◌, [], ◌∷◌, length}
+use Rattle.std.specs.Prelude.{◌≡◌, ◌<◌, ℕ, List, [], ◌∷◌, length, Option, Some, None}
 use Rattle.semantic_objects.specs.declared.name.TyId.{TyId}
 use Rattle.semantic_objects.specs.declared.name.TyId.TheVariants as id
 use Rattle.semantic_objects.specs.declared.entry.ValueEntry.{ValueEntry}
+use Rattle.semantic_objects.specs.Trees.{TypeScheme}
+use Rattle.semantic_objects.specs.Environments.{values}
+use Rattle.sml_trees.specs.declared.name.LongName.{LongName}
 use Rattle.unification.specs.Types.{Ty}
 use Rattle.type_nodes.specs.Tables.{Table}
 use Rattle.sml_modules.specs.Items.{map_rows}
 use Rattle.sml_modules.specs.Graphs.{Graph}
-use Rattle.name_trails.specs.Trails.{Rows}
+use Rattle.name_trails.specs.Trails.{Rows, last_entry}
 use Rattle.static_semantics.specs.BasicTypes.{unit_ty}
-use Rattle.static_semantics.specs.Inferring.{Scope, Bound, variable_entry}
-use Rattle.core_scopes.specs.Scopes.{Bindings, seen, written_of, IsScopeOf}
+use Rattle.static_semantics.specs.Inferring.{Scope, Bound, variable_entry, found_at}
+use Rattle.table_schemes.specs.declared.scheme.TableScheme.{TableScheme}
+use Rattle.table_schemes.specs.Meaning.{IsTableScheme}
+use Rattle.core_scopes.specs.declared.value.BoundValue.{BoundValue}
+use Rattle.core_scopes.specs.declared.value.ValueInScope.{ValueInScope}
+use Rattle.core_scopes.specs.Scopes.{Bindings, entry_of, seen, written_of, AreHeld, IsScopeOf}
 use Rattle.pattern_elab.specs.declared.own.OwnVariable.{OwnVariable}
 
 -- the type of a variable that a pattern bound
@@ -45,7 +52,26 @@ abbrev pub AreVariables : Table → Rows TyId → Type 0
 AreVariables t [] = Unit {0}
 AreVariables t (row ∷ rows) = IsVariableOf t row.1 × AreVariables t rows
 
--- a scope of a graph in which each written type variable stands for a variable of a table
+-- what a table is said to have of a scheme it has: nothing, or its type
+abbrev pub MayBeEntered : Table → TypeScheme → Option TableScheme → Type 0
+MayBeEntered t σ None = Unit {0}
+MayBeEntered t σ (Some scheme) = IsTableScheme t σ scheme
+
+-- .. of the scheme of a value
+abbrev pub IsEnteredIn : Table → BoundValue OwnVariable → Type 0
+IsEnteredIn t bound = MayBeEntered t (entry_of own_entry bound.value).scheme bound.scheme
+
+-- a scope of a graph in which each written type variable stands for a variable of a table, and the table has what it is
+-- said to have
 pub record IsCoreScope (g : Graph) (t : Table) (sc : Bindings OwnVariable) : Type 0 where
   pub there : IsScopeOf g sc
   pub written : AreVariables t (written_of sc)
+  pub entered : AreHeld (IsEnteredIn t) sc.values
+
+-- a long name stands for a value in some graph: what is bound under one part hangs on none
+abbrev pub StandsFor : Bindings OwnVariable → LongName → ValueInScope OwnVariable → Type 0
+StandsFor sc long value = (g : Graph) × (found_at values long.parts (scope_of g sc).env ≡ Some (entry_of own_entry value))
+
+-- what a long name of one part was bound to last
+abbrev pub IsLastUnder : Bindings OwnVariable → LongName → BoundValue OwnVariable → Type 0
+IsLastUnder sc long bound = (name : List ℕ) × (long.parts ≡ name ∷ []) × (last_entry sc.values name ≡ Some bound)

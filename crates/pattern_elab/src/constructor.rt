@@ -5,19 +5,19 @@ ghost use Rattle.unification.specs.Instances as schemes;
 ghost use Rattle.type_nodes.specs.Tables.{Has, state};
 ghost use Rattle.static_semantics.specs.Inferring.{refuses_where};
 ghost use Rattle.static_semantics.specs.PatternInference as inference;
-ghost use Rattle.core_scopes.specs.Scopes.{entry_of};
+ghost use Rattle.core_scopes.specs.Scopes.{entry_of, AreHeld};
 ghost use Rattle.type_phrases.specs.Inferred.{Answers, KeepsTypes, home_scope};
-ghost use Rattle.pattern_elab.specs.Scopes.{own_entry};
+ghost use Rattle.pattern_elab.specs.Scopes.{own_entry, IsEnteredIn, StandsFor};
 ghost use Rattle.pattern_elab.specs.Steps.{FindsSides};
 
-use crate::own::OwnVariable;
+use crate::own::{CoreScope, OwnVariable};
 use crate::steps::refuse;
 use crate::value::{has_con_status, instance};
 use cm_base::Fault;
 use core_scopes::ValueInScope;
 use semantic_objects::{Symbol, TyId, TypeNode, TypeTree};
 use sml_modules::EnvGraph;
-use sml_trees::At;
+use sml_trees::{At, LongName};
 use sml_types::TypeTable;
 use std::alloc::Global;
 
@@ -95,8 +95,12 @@ pub(crate) fn sides_of(
     g: &EnvGraph,
     t: &mut TypeTable,
     at: At,
+    scope: &CoreScope,
+    long: &LongName,
     value: &ValueInScope<OwnVariable>,
 ) -> Result<(TyId, TyId), Fault>
+    requires entered { AreHeld (IsEnteredIn t.old) scope.now.values }
+    requires named { StandsFor scope.now long.now value.now }
     ensures finds { FindsSides g.now at
         (inference.arrow_in (entry_of own_entry value.now).scheme.body
         (schemes.instance (entry_of own_entry value.now).scheme (state t.old)).0) result t.new }
@@ -106,7 +110,7 @@ pub(crate) fn sides_of(
     ensures second { IfOk result (λ sides. Has t.new sides.1) }
     ensures ids { KeepsTypes t.old t.new }
 {
-    let id = instance(t, value)?;
+    let id = instance(t, scope, long, value)?;
     match t.sides(id) {
         Some(sides) => Ok(sides),
         None => Err(refuse(alloc, g, 34, at)),

@@ -8,9 +8,8 @@ ghost use Rattle.type_nodes.specs.Tables.{Has};
 ghost use Rattle.bare_phrases.specs.Phrases.{PatPhrase};
 ghost use Rattle.static_semantics.specs.Inferring as inferring;
 ghost use Rattle.static_semantics.specs.PatternInference as inference;
-ghost use Rattle.core_scopes.specs.Scopes.{IsScopeOf};
 ghost use Rattle.type_phrases.specs.Inferred.{KeepsTypes, progress};
-ghost use Rattle.pattern_elab.specs.Scopes.{scope_of, bound_of};
+ghost use Rattle.pattern_elab.specs.Scopes.{scope_of, bound_of, IsCoreScope};
 ghost use Rattle.pattern_elab.specs.Steps.{InferredPlain, InferredPat, BindsOn};
 
 use crate::constructor::{check_con, check_none};
@@ -36,7 +35,7 @@ fn elab_con(
     long: &LongName,
     at: At,
 ) -> Result<TyId, Fault>
-    requires { IsScopeOf g.now scope.now }
+    requires { IsCoreScope g.now t.old scope.now }
     ensures infers { InferredPlain
         (λ bound. inference.known_pat (scope_of g.now scope.now) long.now at bound (progress t.old g.now))
         result t.new g.now }
@@ -46,7 +45,7 @@ fn elab_con(
     let value = known_value(alloc, g, scope, long)?;
     check_con(alloc, g, at, &value)?;
     check_none(alloc, g, at, &value)?;
-    Ok(instance(t, &value)?)
+    Ok(instance(t, scope, long, &value)?)
 }
 
 /// A name of one part: a variable where it doesn't stand for a constructor or an exception.
@@ -61,7 +60,7 @@ fn elab_lone(
     at: At,
     bound: &mut NameTrail<OwnVariable>,
 ) -> Result<TyId, Fault>
-    requires { IsScopeOf g.now scope.now }
+    requires { IsCoreScope g.now t.old scope.now }
     ensures infers { InferredPat (inference.name_by (scope_of g.now scope.now) at
         (inferring.stands_for_con (entry name.now (values (scope_of g.now scope.now).env))) name.now long.now
         (bound_of bound.old) (progress t.old g.now)) result t.new bound.new g.now }
@@ -86,7 +85,7 @@ fn elab_name(
     at: At,
     bound: &mut NameTrail<OwnVariable>,
 ) -> Result<TyId, Fault>
-    requires { IsScopeOf g.now scope.now }
+    requires { IsCoreScope g.now t.old scope.now }
     ensures infers { InferredPat (inference.name_pat (scope_of g.now scope.now) long.now at long.now.parts
         (bound_of bound.old) (progress t.old g.now)) result t.new bound.new g.now }
     ensures has { IfOk result (Has t.new) }
@@ -112,7 +111,7 @@ pub(crate) fn elab_long(
     at: At,
     bound: &mut NameTrail<OwnVariable>,
 ) -> Result<TyId, Fault>
-    requires { IsScopeOf g.now scope.now }
+    requires { IsCoreScope g.now t.old scope.now }
     ensures infers { InferredPat (inference.infer_pat depth (scope_of g.now scope.now) (PatPhrase.Long long.now at)
         (bound_of bound.old) (progress t.old g.now)) result t.new bound.new g.now }
     ensures has { IfOk result (Has t.new) }

@@ -78,7 +78,7 @@ fn elab_applied(
     let value = known_value(alloc, g, scope, long)?;
     let id = elab_pat(alloc, g, t, scope, arg, bound)?;
     check_con(alloc, g, at, &value)?;
-    let sides = sides_of(alloc, g, t, at, &value)?;
+    let sides = sides_of(alloc, g, t, at, scope, long, &value)?;
     unify_at(alloc, g, t, at, sides.0, id)?;
     sized(alloc, g, t, at, sides.1)
 }

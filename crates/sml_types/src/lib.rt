@@ -21,4 +21,5 @@ pub use fault::TypeFault;
 pub use look::{Look, LookField};
 pub use semantic_objects::TyId;
 pub use table::TypeTable;
+pub use table_schemes::TableScheme;
 pub use type_nodes::Mark;

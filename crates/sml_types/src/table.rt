@@ -1,6 +1,6 @@
 //! The table of types.
 
-ghost use Rattle.std.specs.Prelude.{◌≡◌, ◌↔◌, ◌∷◌, ◌++◌, [], length, true, false, IsTrue, IfOk, OnErr};
+ghost use Rattle.std.specs.Prelude.{◌≡◌, ◌↔◌, ◌∷◌, ◌++◌, [], length, true, false, IsTrue, IfOk, OnOk, OnErr};
 ghost use Rattle.semantic_objects.specs.declared.symbol.Symbol.TheVariants as symbol;
 ghost use Rattle.semantic_objects.specs.Symbols.{AreDiffering};
 ghost use Rattle.unification.specs.Types.{Ty, size};
@@ -13,6 +13,7 @@ ghost use Rattle.type_nodes.specs.Tables.{Has, store_of, state, whole, type_of, 
 ghost use Rattle.type_nodes.specs.Facts.{capped};
 ghost use Rattle.type_schemes.specs.Instances.{Extends, births_of};
 ghost use Rattle.type_schemes.specs.Schemes.{HaveAll, closed_scheme, schemes_since, is_left, MayBeFirstOf, AreSchemesOf};
+ghost use Rattle.table_schemes.specs.Meaning.{IsTableScheme};
 ghost use Rattle.sml_types.specs.Covering.{CoversIn};
 ghost use Rattle.sml_types.specs.Looking.{IsLook, IsRecordType};
 ghost use Rattle.sml_types.specs.Unifying.{Grown, Sought, NamesOwn, IsMostGeneralFor};
@@ -28,6 +29,7 @@ use cm_base::{List, NoMemory, Text};
 use semantic_objects::{Scheme, Symbol, TyId, TyName};
 use std::alloc::Global;
 use std::marker::Model;
+use table_schemes::{TableScheme, enter, instance};
 use type_nodes::{Birth, Mark, Node, TypeBindings};
 use type_schemes::{generalise, generalise_since, instantiate, left_since};
 
@@ -275,6 +277,33 @@ impl TypeTable {
         ensures refused { OnErr result (self.new ≡ self.old) }
     {
         instantiate(&mut self.bindings, self.alloc, scheme)
+    }
+
+    /// The type of a scheme as the table has it, so that an instance copies only what a variable of the scheme stands in.
+    /// It takes as many steps as the scheme has nodes, and makes no variable. A scheme in which a variable is free that
+    /// the table doesn't have is refused as want of memory is.
+    pub fn enter(&mut self, scheme: &Scheme) -> Result<TableScheme, NoMemory>
+        ensures entered { IfOk result (IsTableScheme self.new scheme.now) }
+        ensures births { self.new.births ≡ self.old.births }
+        ensures state { OnOk result (state self.new ≡ state self.old) }
+        ensures extends { OnOk result (Extends self.old self.new) }
+        ensures refused { OnErr result (self.new ≡ self.old) }
+    {
+        enter(&mut self.bindings, self.alloc, scheme)
+    }
+
+    /// An instance of a scheme that the table has, as `instantiate` makes one. It is refused for want of memory alone,
+    /// and the table is as before then.
+    pub fn instance(&mut self, scheme: &Scheme, entered: &TableScheme) -> Result<TyId, NoMemory>
+        requires { IsTableScheme self.old scheme.now entered.now }
+        ensures made { IfOk result (λ id. type_of self.new id ≡ (instance scheme.now (state self.old)).0) }
+        ensures has { IfOk result (Has self.new) }
+        ensures births { IfOk result (λ id. self.new.births ≡ self.old.births ++ births_of scheme.now.marks) }
+        ensures state { IfOk result (λ id. state self.new ≡ (instance scheme.now (state self.old)).1) }
+        ensures extends { IfOk result (λ id. Extends self.old self.new) }
+        ensures refused { OnErr result (self.new ≡ self.old) }
+    {
+        instance(&mut self.bindings, self.alloc, scheme, entered)
     }
 
     /// Whether every instance of the second scheme is one of the first, where variables that are free in them stand for

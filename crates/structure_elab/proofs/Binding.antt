@@ -15,7 +15,7 @@ use Rattle.name_trails.specs.Trails.{Rows}
 use Rattle.static_semantics.specs.Inferring.{Progress, Scope, Answer, ◌>>=◌, gives, sized_dec}
 use Rattle.static_semantics.specs.TypeInference.{new_label}
 use Rattle.core_scopes.specs.declared.made.Made.{Made}
-use Rattle.core_scopes.specs.Scopes.{AreEnvs}
+use Rattle.core_scopes.specs.Scopes.{AreEnvs, AreBare}
 use Rattle.type_phrases.specs.Inferred.{Answers, home_scope}
 use Rattle.pattern_elab.specs.declared.own.OwnVariable.{OwnVariable}
 use Rattle.core_rules.proofs.Chains.{answers_stop}
@@ -42,7 +42,7 @@ use Rattle.unit_semantics.proofs.Answers.{always}
 use Rattle.module_scopes.specs.declared.defined.Defined.{Defined}
 use Rattle.module_scopes.proofs.Tops.{tops_stay}
 use Rattle.structure_elab.specs.Phrases.{bind_phrase}
-use Rattle.structure_elab.proofs.Chains.{goes_on, stops, same_left}
+use Rattle.structure_elab.proofs.Chains.{goes_on, stops, same_left, bare_kept}
 use Rattle.structure_elab.proofs.Readying.{module_stays, inside_seen}
 use Rattle.structure_elab.proofs.Steps.{same_table}
 
@@ -194,6 +194,7 @@ pub record BindsSoFar (begun now : Moment) (binds left : ModuleBinds) (before ro
   pub stays : now.top ≡ begun.top
   pub there : IsTopScope now.graph now.top
   pub inside : IsInside every now.graph.home (seen_at now) (progress_at now)
+  pub bare : AreBare now.top.core
 
 pub binds_begin : (m : Moment) (binds : ModuleBinds) (before : Rows EnvId) → IsReadyAt m → AreEnvs m.graph before
     → BindsSoFar m m binds binds before before
@@ -204,11 +205,12 @@ binds_begin m binds before r envs = record {
   stays = refl;
   there = r.there;
   inside = r.inside;
+  bare = r.bare;
 }
 
 pub binds_ready : {begun now : Moment} {binds left : ModuleBinds} {before rows : Rows EnvId}
     → BindsSoFar begun now binds left before rows → IsKept now.table → IsReadyAt now
-binds_ready s k = record { there = s.there; kept = k; inside = s.inside }
+binds_ready s k = record { there = s.there; kept = k; inside = s.inside; bare = s.bare }
 
 module _ {begun now : Moment} {binds left rest : ModuleBinds} {bind : Name × ModulePhrase} {before rows : Rows EnvId}
     (s : BindsSoFar begun now binds left before rows) (is : left ≡ ModuleBinds.Bind bind.0 bind.1 rest) where
@@ -237,6 +239,7 @@ module _ {begun now : Moment} {binds left rest : ModuleBinds} {bind : Name × Mo
     inside = inside_seen {old = now} {new = mid} s.there h.goes h.left
         (subst (Given _) h.infers
         (bind_stays bind (structures_env now.graph rows) now.graph.home (seen_at now) (progress_at now) s.inside));
+    bare = bare_kept {old = now.top} {new = mid.top} s.bare h.left;
   }
 
   pub binds_fail : {mid : Moment} {more : Rows EnvId} {e : Fault} → IsBind now bind rows more mid (Err e)

@@ -8,6 +8,7 @@ use Rattle.type_nodes.specs.Tables.{Table}
 use Rattle.sml_modules.specs.Graphs.{Graph, Keeps}
 use Rattle.sml_modules.proofs.Keeping.{keeps, extends_self}
 use Rattle.static_semantics.specs.Inferring.{Answer, ◌>>=◌, gives}
+use Rattle.core_scopes.specs.Scopes.{AreBare}
 use Rattle.type_phrases.specs.Inferred.{Answers}
 use Rattle.type_phrases.proofs.Keeping.{keeps_all, keeps_later}
 use Rattle.core_rules.proofs.Chains.{graph_then, answers_stop}
@@ -47,6 +48,9 @@ pub there_kept : {old new : Moment} → IsTopScope old.graph old.top → Passes 
     → IsTopScope new.graph new.top
 there_kept {old} {new} there p e = subst (λ (top : TopScope). IsTopScope new.graph top) (sym e)
     (tops_stay.scope old.graph new.graph old.top p.graph there)
+
+pub bare_kept : {old new : TopScope} → AreBare old.core → new ≡ old → AreBare new.core
+bare_kept {old} {new} h e = subst (λ (top : TopScope). AreBare top.core) (sym e) h
 
 -- ---- chains
 

@@ -1,26 +1,19 @@
 -- What is in scope is entered and left.
-use Rattle.std.proofs.Common.{◌≡◌, ℕ, List, [], ◌∷◌, refl, sym, ap, ◌∙◌, subst}
-use Rattle.semantic_objects.specs.declared.name.TyId.{TyId}
+use Rattle.std.proofs.Common.{◌≡◌, refl, sym, ap, ◌∙◌, subst}
 use Rattle.semantic_objects.specs.Environments.{Env, Top, modified_by}
-use Rattle.unification.specs.Types.{Ty}
-use Rattle.type_nodes.specs.Tables.{Table}
-use Rattle.sml_modules.specs.Items.{map_rows}
 use Rattle.sml_modules.specs.Graphs.{Graph, HasEnvs}
-use Rattle.name_trails.specs.Trails.{Rows}
 use Rattle.static_semantics.specs.Inferring.{Scope}
-use Rattle.core_scopes.specs.declared.mark.ScopeMark.{ScopeMark}
 use Rattle.core_scopes.specs.declared.made.Made.{Made}
 use Rattle.core_scopes.specs.Scopes.{Bindings, seen, written_of}
-use Rattle.core_scopes.specs.Marks.{mark_of, IsFrontOf, Becomes, env_of_made}
+use Rattle.core_scopes.specs.Marks.{IsFrontOf, AddsBare, Becomes, env_of_made}
 use Rattle.core_scopes.proofs.Scoping.{fronts_go_on}
 use Rattle.pattern_elab.specs.declared.own.OwnVariable.{OwnVariable}
-use Rattle.pattern_elab.specs.Scopes.{own_entry, variable_of, scope_of, AreVariables, IsCoreScope}
-use Rattle.value_closing.specs.Under.{IsUnder}
+use Rattle.pattern_elab.specs.Scopes.{own_entry, scope_of}
 use Rattle.unit_semantics.specs.StructureInference.{top_under}
 use Rattle.sml_modules.specs.declared.id.TopId.{TopId}
 use Rattle.module_scopes.specs.declared.defined.Defined.{Defined}
 use Rattle.module_scopes.specs.declared.top.TopScope.{TopScope}
-use Rattle.module_scopes.specs.Tops.{top_seen, IsTopScope}
+use Rattle.module_scopes.specs.Tops.{top_seen}
 use Rattle.module_scopes.specs.Stays.{GoesUnder}
 use Rattle.module_scopes.proofs.Tops.{goes_under}
 use Rattle.structure_elab.specs.Moments.{GoesInto, IsOver}
@@ -47,32 +40,12 @@ pub goes_into : (g : Graph) (made : Env) (old : TopScope) (core : Bindings OwnVa
 goes_into g made old core u = record {
   seen = env_under g old core made (ap (λ (sc : Scope). sc.env) u.seen);
   over = record { front = u.front; given = refl; defined = refl };
+  bare = u.bare;
   there = λ t. record {
     core = u.there t.core;
     written = u.written ∙ t.written;
     given = t.given;
     defined = t.defined;
-  };
-}
-
-no_rows : {A B : Type 0} (f : A → B) (rows : Rows A) → map_rows f rows ≡ [] → rows ≡ []
-no_rows f [] e = refl
-no_rows f (row ∷ rows) e = absurd (cc)
-
-pub into_by_table : (g : Graph) (t : Table) (made : Env) (old : TopScope) (core : Bindings OwnVariable)
-    → IsUnder g made old.core core → GoesInto g made old (with_core core old)
-into_by_table g t made old core u = record {
-  seen = env_under g old core made (ap (λ (sc : Scope). sc.env) u.seen);
-  over = record { front = u.front; given = refl; defined = refl };
-  there = λ h. record {
-    core = (u.there t (record {
-      there = h.core;
-      written = subst (AreVariables t) (sym h.written) tt;
-    })).there;
-    written = no_rows variable_of (written_of core) (ap (λ (sc : Scope). sc.written) u.seen
-        ∙ ap (λ (w : Rows TyId). map_rows variable_of w) h.written);
-    given = h.given;
-    defined = h.defined;
   };
 }
 
@@ -102,8 +75,8 @@ left_again past now new core e f h =
 -- what was made is entered
 pub enters : (made : Made OwnVariable) (old : TopScope) (core : Bindings OwnVariable)
     → ((g : Graph) → HasEnvs g made.structures → Becomes g old.core core
-    (λ read. modified_by (seen g read old.core) (env_of_made g read made)) (written_of old.core))
+    (λ read. modified_by (seen g read old.core) (env_of_made g read made)) (written_of old.core)) → AddsBare old.core core
     → (g : Graph) → HasEnvs g made.structures → GoesInto g (env_of_made g own_entry made) old (with_core core old)
-enters made old core b g h = goes_into g (env_of_made g own_entry made) old core
+enters made old core b adds g h = goes_into g (env_of_made g own_entry made) old core
     (goes_under g old.core core (λ read. modified_by (seen g read old.core) (env_of_made g read made))
-    (env_of_made g own_entry made) (b g h) refl)
+    (env_of_made g own_entry made) (b g h) refl adds)

@@ -18,7 +18,7 @@ use Rattle.sml_modules.proofs.Keeping.{keeps, extends_self}
 use Rattle.static_semantics.specs.Inferring.{Progress, Answer, ◌>>=◌, gives}
 use Rattle.core_scopes.specs.declared.made.Made.{Made}
 use Rattle.core_scopes.specs.declared.made.NamedInScope.{NamedInScope}
-use Rattle.core_scopes.specs.Scopes.{entry_of}
+use Rattle.core_scopes.specs.Scopes.{entry_of, AreBare}
 use Rattle.core_scopes.specs.Marks.{value_rows, env_of_made}
 use Rattle.core_scopes.proofs.Tables.{all_append, all_at_once}
 use Rattle.type_phrases.specs.Inferred.{Answers}
@@ -137,6 +137,7 @@ pub record DecsSoFar (begun now : Moment) (phrases left : ModuleDecs) (all : Mad
   pub over : IsOver begun.top now.top
   pub there : IsTopScope now.graph now.top
   pub inside : IsInside every now.graph.home (seen_at now) (progress_at now)
+  pub bare : AreBare now.top.core
 
 pub decs_begin : (m : Moment) (phrases : ModuleDecs) (all : Made OwnVariable) → IsReadyAt m → IsOver m.top m.top
     → IsNothing all → DecsSoFar m m phrases phrases all
@@ -149,12 +150,13 @@ decs_begin m phrases all r over n = record {
   over = over;
   there = r.there;
   inside = r.inside;
+  bare = r.bare;
 }
 
 -- before the next declaration
 pub decs_ready : {begun now : Moment} {phrases left : ModuleDecs} {all : Made OwnVariable}
     → DecsSoFar begun now phrases left all → IsKept now.table → IsReadyAt now
-decs_ready s k = record { there = s.there; kept = k; inside = s.inside }
+decs_ready s k = record { there = s.there; kept = k; inside = s.inside; bare = s.bare }
 
 abbrev rest_of : List ℕ → Top → ModuleDecs → Env × Progress → Answer (Env × Progress)
 rest_of home top rest r =
@@ -204,6 +206,7 @@ module _ {begun now : Moment} {phrases left rest : ModuleDecs} {phrase : ModuleD
         over = over_then s.over h.left u.over;
         there = ready.there;
         inside = ready.inside;
+        bare = ready.bare;
       }
 
   pub decs_fail : {mid : Moment} {new : Made OwnVariable} {e : Fault} → IsDeclared now phrase mid (Err e)

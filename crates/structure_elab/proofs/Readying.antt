@@ -15,8 +15,10 @@ use Rattle.static_semantics.specs.Inferring.{Progress, Scope, gives}
 use Rattle.static_semantics.specs.Holding.{Given}
 use Rattle.core_scopes.specs.declared.made.Made.{Made}
 use Rattle.core_scopes.specs.Scopes.{seen, written_of}
+use Rattle.core_scopes.proofs.Scoping.{all_bare}
 use Rattle.pattern_elab.specs.declared.own.OwnVariable.{OwnVariable}
 use Rattle.pattern_elab.specs.Scopes.{own_entry, variable_of, scope_of, AreVariables, IsCoreScope}
+use Rattle.pattern_elab.proofs.Scoping.{bare_entered}
 use Rattle.closing_laws.specs.Promises.{IsOfState}
 use Rattle.static_semantics.proofs.TypesGrow.{given_more}
 use Rattle.inference_laws.proofs.Making.{given_both}
@@ -34,7 +36,7 @@ use Rattle.module_scopes.specs.Tops.{top_seen, IsTopScope}
 use Rattle.structure_elab.specs.Moments.{Moment, moment, seen_at, progress_at, read_env, read_made, made_at, Passes, GoesInto}
 use Rattle.structure_elab.specs.Ready.{IsReadyAt, IsReadyBehind}
 use Rattle.structure_elab.specs.Phrases.{IsModule, IsDeclared}
-use Rattle.structure_elab.proofs.Chains.{seen_kept, there_kept}
+use Rattle.structure_elab.proofs.Chains.{seen_kept, there_kept, bare_kept}
 
 -- ---- every phrase is spelt with good names where all names are good
 
@@ -104,6 +106,7 @@ module_later {m0} {m1} str id r k h = record {
   kept = k;
   inside = inside_seen {old = m0} {new = m1} r.there h.goes h.left
       (subst (Given _) h.infers (module_stays m0.graph.home (seen_at m0) str (progress_at m0) r.inside));
+  bare = bare_kept {old = m0.top} {new = m1.top} r.bare h.left;
 }
 
 -- behind a declaration, under what it made
@@ -117,6 +120,7 @@ behind {m0} {m1} dec made r k h = record {
       (inside_at {old = m0} {new = m1} (top_under (made_at m1 made) (seen_at m0)) h.goes
       (dec_inside m0.graph.home (seen_at m0) dec (progress_at m0) (read_made m1 made) r.inside h.infers));
   envs = h.has;
+  bare = bare_kept {old = m0.top} {new = m1.top} r.bare h.left;
 }
 
 -- behind what was entered
@@ -126,6 +130,7 @@ entered {m} made top r g = record {
   there = g.there r.there;
   kept = r.kept;
   inside = subst (λ (z : Top). IsInside every m.graph.home z (progress_at m)) (sym g.seen) r.inside;
+  bare = all_bare m.top.core top.core g.bare r.bare;
 }
 
 -- ---- for declarations of the core
@@ -134,6 +139,7 @@ pub core_there : {m : Moment} → IsReadyAt m → IsCoreScope m.graph m.table m.
 core_there {m} r = record {
   there = r.there.core;
   written = subst (AreVariables m.table) (sym r.there.written) tt;
+  entered = bare_entered m.table m.top.core.values r.bare;
 }
 
 pub core_seen : (g : Graph) (top : TopScope) → IsTopScope g top

@@ -8,7 +8,7 @@ use Rattle.sml_modules.specs.Graphs.{Graph, env_at, HasEnvs, Keeps}
 use Rattle.static_semantics.specs.Inferring.{Progress, Answer}
 use Rattle.core_scopes.specs.declared.made.Made.{Made}
 use Rattle.core_scopes.specs.Scopes.{Bindings}
-use Rattle.core_scopes.specs.Marks.{env_of_made, IsFrontOf}
+use Rattle.core_scopes.specs.Marks.{env_of_made, IsFrontOf, AddsBare}
 use Rattle.type_phrases.specs.Inferred.{Answers, KeepsTypes, progress}
 use Rattle.pattern_elab.specs.declared.own.OwnVariable.{OwnVariable}
 use Rattle.pattern_elab.specs.Scopes.{own_entry}
@@ -66,8 +66,9 @@ pub record IsOver (old new : TopScope) : Type 0 where
   pub given : new.given ≡ old.given
   pub defined : new.defined ≡ old.defined
 
--- an environment went into scope
+-- an environment went into scope, and a table has nothing of it
 pub record GoesInto (g : Graph) (made : Env) (old new : TopScope) : Type 0 where
   pub seen : top_seen g new ≡ top_under made (top_seen g old)
   pub over : IsOver old new
+  pub bare : AddsBare old.core new.core
   pub there : IsTopScope g old → IsTopScope g new

@@ -202,7 +202,7 @@ fn elab_each(
         is_ready(g, t, top);
         let made = elab_str_dec(alloc, g, t, top, dec)?;
         t.is_kept();
-        enter_next(alloc, t, top, all, made)?;
+        enter_next(alloc, top, all, made)?;
     }
     Ok(())
 }

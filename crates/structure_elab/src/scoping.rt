@@ -9,11 +9,10 @@ ghost use Rattle.module_scopes.specs.declared.top.TopScope.{TopScope};
 ghost use Rattle.structure_elab.specs.Moments.{GoesInto, IsOver};
 
 use cm_base::NoMemory;
-use core_rules::enter_behind;
+use core_rules::add_made;
 use core_scopes::{Made, ScopeMark};
 use module_scopes::TopScope;
 use pattern_elab::OwnVariable;
-use sml_types::TypeTable;
 use std::alloc::Global;
 
 /// Enters what a declaration makes. A mark from before leaves it again. Want of memory leaves what is in scope as it was.
@@ -25,10 +24,9 @@ pub(crate) fn enter(top: &mut TopScope, made: Made<OwnVariable>) -> Result<(), N
     Ok(())
 }
 
-/// .. and adds it to what the declarations before it make. The table is for the proof alone.
+/// .. and adds a copy to what the declarations before it make.
 pub(crate) fn enter_next(
     alloc: Global,
-    t: &TypeTable,
     top: &mut TopScope,
     all: &mut Made<OwnVariable>,
     made: Made<OwnVariable>,
@@ -37,8 +35,8 @@ pub(crate) fn enter_next(
     ensures ok { OnOk result ((g : Graph) → HasEnvs g made.structures
         → GoesInto g (env_of_made g own_entry made) top.old top.new) }
 {
-    enter_behind(alloc, &mut top.core, all, made)?;
-    Ok(())
+    add_made(alloc, all, &made)?;
+    enter(top, made)
 }
 
 /// Makes what is in scope again what a mark remembers.

@@ -10,6 +10,7 @@ use crate::names::name_of;
 use crate::scene::{TableScene, bytes_line, id_of, number_line};
 use case_files::{Part, number_of, push_parts};
 use cm_base::{List, NoMemory, Text};
+use semantic_objects::Scheme;
 use sml_types::{TyId, TypeTable};
 use std::alloc::Global;
 
@@ -87,6 +88,20 @@ fn instances_of(alloc: Global, table: &mut TypeTable, ty: TyId) -> Result<TyId, 
     let left = table.instantiate(&scheme)?;
     let right = table.instantiate(&scheme)?;
     pair_of(alloc, table, left, right)
+}
+
+/// So many instances of a scheme that is entered into the table first, of which the last is answered.
+fn entered_instances(
+    table: &mut TypeTable,
+    scheme: &Scheme,
+    count: u32,
+) -> Result<Option<TyId>, NoMemory> {
+    let entered = table.enter(scheme)?;
+    let mut last = None;
+    for _ in 0..count {
+        last = Some(table.instance(scheme, &entered)?);
+    }
+    Ok(last)
 }
 
 /// One more of this form around a type.
@@ -252,6 +267,20 @@ impl TableScene {
         }
     }
 
+    /// Instances of a scheme that the table has.
+    fn entered(&mut self, number: &Text, count: u32) -> Result<Option<Vec<u8>>, NoMemory> {
+        let Some(number) = number_of(number.as_bytes()) else {
+            return Ok(None);
+        };
+        let Some(scheme) = self.schemes.get(number as usize) else {
+            return Ok(None);
+        };
+        match entered_instances(&mut self.table, scheme, count)? {
+            Some(id) => self.keep(id),
+            None => Ok(None),
+        }
+    }
+
     /// What is answered to a step of this kind.
     pub fn growing_step(
         &mut self,
@@ -268,6 +297,7 @@ impl TableScene {
             (b"wide", []) => self.wide(count),
             (b"unify-times", [left, right]) => self.often(left, right, count),
             (b"sizes", [ty]) => self.sizes(ty, count),
+            (b"entered", [scheme]) => self.entered(scheme, count),
             (b"declare-times", [first, second]) => self.declare_times(first, second, count),
             (form, [ty]) => match form_of(form) {
                 Some(form) => self.deep(form, ty, count),

@@ -16,7 +16,8 @@ pub enum Kind {
     /// (a pair of two instances of the scheme of the type before) with `ID COUNT` make a deep type, `wide COUNT` a
     /// record of so many variables, and `unify-times ID ID COUNT` and `declare-times ID ID COUNT` do these steps so
     /// often. `sizes ID COUNT` puts a type in for a new variable so often, each time with a look at its size, of which
-    /// it answers the last.
+    /// it answers the last. `entered NUMBER COUNT` enters a scheme into the table and makes so many instances of what the
+    /// table has then, of which it keeps the last.
     Table,
 }
 

@@ -42,7 +42,7 @@ use Rattle.module_scopes.specs.Stays.{GoesUnder}
 use Rattle.structure_elab.specs.Moments.{Moment, moment, seen_at, progress_at, read_env, Passes, Elabs, GoesInto}
 use Rattle.structure_elab.proofs.Entering.{with_core, goes_into}
 use Rattle.structure_elab.specs.Phrases.{IsModule, IsSignature, read_signature}
-use Rattle.structure_elab.proofs.Chains.{passes_top, passes_then, seen_kept, there_kept, seen_before, stops, goes_on, same_left}
+use Rattle.structure_elab.proofs.Chains.{passes_top, passes_then, seen_kept, there_kept, bare_kept, seen_before, stops, goes_on, same_left}
 use Rattle.structure_elab.proofs.Steps.{changes_graph}
 use Rattle.top_bindings.specs.Ready.{IsReadyTop, IsReadyWith}
 use Rattle.top_bindings.specs.Bindings.{read_functor, IsModuleWith, IsSignatureWith, IsBody, IsResult, infer_functor, infer_funsig, IsFunctorBound, IsFunsigBound, IsStructureBound, table_at}
@@ -301,6 +301,7 @@ ready_with {m0} {m1} {id} name sig inside g r h o k =
       inside = subst (λ (z : Top). IsInside every g.home (top_with_param name (env_at g inside.env) z)
           (progress m1.table g)) (sym (seen_kept {old = m0} {new = m2} r.there all h.left))
           (inside_top every g.home (top_with_param name (env_at g inside.env) (seen_at m0)) (progress m1.table g) third);
+      bare = bare_kept {old = m0.top} {new = m2.top} r.bare h.left;
     }
 
 -- what is in scope is of a graph that grew twice

@@ -16,6 +16,7 @@ use Rattle.static_semantics.specs.Holding.{Given}
 use Rattle.static_semantics.proofs.Holding.{given_then}
 use Rattle.type_phrases.specs.Inferred.{Answers}
 use Rattle.type_phrases.proofs.Steps.{still_refused}
+use Rattle.core_scopes.specs.Scopes.{AreBare}
 use Rattle.core_rules.proofs.Chains.{answers_stop}
 use Rattle.unit_semantics.specs.StructureInference.{core_scope}
 use Rattle.unit_semantics.proofs.Answers.{always}
@@ -24,7 +25,7 @@ use Rattle.unit_derivations.specs.Promises.{every}
 use Rattle.module_scopes.specs.Tops.{IsTopScope, AllRows}
 use Rattle.module_scopes.proofs.Rows.{one_more, rows_more, rows_read, rows_hold}
 use Rattle.structure_elab.specs.Moments.{Moment, moment, seen_at, progress_at, Passes, Elabs}
-use Rattle.structure_elab.proofs.Chains.{passes_top, passes_then, seen_kept, there_kept, seen_before, stops, goes_on, same_left}
+use Rattle.structure_elab.proofs.Chains.{passes_top, passes_then, seen_kept, there_kept, bare_kept, seen_before, stops, goes_on, same_left}
 use Rattle.top_bindings.specs.Ready.{IsReadyTop}
 use Rattle.top_bindings.specs.Bindings.{Inferring, infer_bound, infer_row, table_at, BindsRows, RowBound, RowsBound}
 
@@ -188,6 +189,7 @@ module _ {B Id V : Type 0} (name : B → Name) (one : Inferring B V) (value : Gr
     pub stays : now.top ≡ begun.top
     pub there : IsTopScope now.graph now.top
     pub at : IsAtTop every now.graph.home (seen_at now) (progress_at now)
+    pub bare : AreBare now.top.core
 
   pub rows_begin : (m : Moment) (binds : List B) (before : Rows Id) → IsReadyTop m → AllRows (has m.graph) before
       → RowsSoFar m m binds binds before before
@@ -198,11 +200,12 @@ module _ {B Id V : Type 0} (name : B → Name) (one : Inferring B V) (value : Gr
     stays = refl;
     there = r.there;
     at = r.at;
+    bare = r.bare;
   }
 
   pub rows_ready : {begun now : Moment} {binds left : List B} {before rows : Rows Id}
       → RowsSoFar begun now binds left before rows → IsKept now.table → IsReadyTop now
-  rows_ready s k = record { there = s.there; kept = k; at = s.at }
+  rows_ready s k = record { there = s.there; kept = k; at = s.at; bare = s.bare }
 
   module _ {begun now : Moment} {binds left rest : List B} {bind : B} {before rows : Rows Id}
       (s : RowsSoFar begun now binds left before rows) (is : left ≡ bind ∷ rest) where
@@ -231,6 +234,7 @@ module _ {B Id V : Type 0} (name : B → Name) (one : Inferring B V) (value : Gr
       at = top_inside {old = now} {new = mid} s.there h.goes h.left
           (subst (Given (λ q. IsAtTop every now.graph.home (seen_at now) q.1)) h.infers
           (one_stays bind (table_at value now.graph rows) now.graph.home (seen_at now) (progress_at now) s.at));
+      bare = bare_kept {old = now.top} {new = mid.top} s.bare h.left;
     }
 
     pub rows_fail : {mid : Moment} {more : Rows Id} {e : Fault} → IsBound now bind rows more mid (Err e)

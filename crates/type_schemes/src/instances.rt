@@ -11,8 +11,8 @@ use semantic_objects::{Scheme, TyId, TypeNode};
 use std::alloc::Global;
 use type_nodes::{Birth, Node, TypeBindings};
 
-/// New variables, one for each mark in their order.
-fn add_variables(table: &mut TypeBindings, marks: &[bool]) -> Result<(), NoMemory>
+/// New variables, one for each mark in their order. After want of memory some of them may have been made.
+pub fn add_variables(table: &mut TypeBindings, marks: &[bool]) -> Result<(), NoMemory>
     ensures births { OnOk result (table.new.births ≡ table.old.births ++ births_of marks.now) }
     ensures state { OnOk result (state table.new ≡ with_variables false marks.now (state table.old)) }
     ensures added { Adds table.old table.new }
@@ -27,7 +27,7 @@ fn add_variables(table: &mut TypeBindings, marks: &[bool]) -> Result<(), NoMemor
 }
 
 /// The variable with this number, if the table has one.
-fn variable(table: &TypeBindings, number: usize) -> Option<TyId>
+pub fn variable(table: &TypeBindings, number: usize) -> Option<TyId>
     ensures { (id : TyId) → result ≡ Some id → (number < length table.now.births) × (id ≡ TyId.Variable number) }
 {
     if number < table.variables() {

@@ -14,5 +14,5 @@ mod reach;
 mod young;
 
 pub use close::{generalise, generalise_since, left_since};
-pub use instances::instantiate;
+pub use instances::{add_variables, instantiate, variable};
 pub use number::variables_in;

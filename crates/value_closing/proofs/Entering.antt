@@ -22,15 +22,19 @@ use Rattle.static_semantics.specs.Inferring.{Progress, Scope, Answer, ◌>>=◌,
 use Rattle.static_semantics.specs.TypeInference.{listed, new_rigid, as_written}
 use Rattle.static_semantics.specs.WrittenVariables.{written_in}
 use Rattle.static_semantics.specs.CoreInference.{implicit, own_variables}
-use Rattle.core_scopes.specs.Scopes.{Bindings, seen, written_of, first_entry}
-use Rattle.core_scopes.specs.Marks.{Becomes}
-use Rattle.core_scopes.proofs.Scoping.{map_append}
+use Rattle.core_scopes.specs.declared.made.Made.{Made}
+use Rattle.core_scopes.specs.declared.made.MadeBound.{MadeBound}
+use Rattle.core_scopes.specs.Scopes.{Bindings, value_of, seen, written_of, first_entry, AreHeld}
+use Rattle.core_scopes.specs.Marks.{Becomes, AddsBare, AddsBound, env_of_made, env_of_bound}
+use Rattle.core_scopes.specs.Listed.{bound_rows, scope_rows}
+use Rattle.core_scopes.proofs.Scoping.{map_append, held_bare, held_more, bound_is_made}
 use Rattle.type_phrases.specs.Inferred.{Answers, KeepsTypes, progress}
 use Rattle.type_phrases.proofs.Keeping.{keeps_all, keeps_later}
 use Rattle.type_phrases.proofs.Steps.{failed}
 use Rattle.type_bindings.specs.Listing.{AreMade}
 use Rattle.pattern_elab.specs.declared.own.OwnVariable.{OwnVariable}
-use Rattle.pattern_elab.specs.Scopes.{own_entry, variable_of, scope_of, AreVariables}
+use Rattle.pattern_elab.specs.Scopes.{own_entry, variable_of, scope_of, AreVariables, IsEnteredIn}
+use Rattle.pattern_elab.proofs.Scoping.{values_later}
 use Rattle.value_closing.specs.Under.{IsUnder}
 use Rattle.value_closing.specs.OwnVariables.{id_rows, AddsImplicit, EntersOwn}
 
@@ -173,8 +177,8 @@ scope_made g old new rows e f =
     ap₂ (λ (z : Env) (w : Rows TyId). record { env = z; written = map_rows variable_of w; home = g.home }) e f
 
 pub entered : (g : Graph) (own : Rows ℕ) (rows : Rows TyId) (old new : Bindings OwnVariable) → rows ≡ id_rows own
-    → Becomes g old new (λ read. seen g read old) (rows ++ written_of old) → EntersOwn g own old new
-entered g own rows old new e b =
+    → AddsBare old new → Becomes g old new (λ read. seen g read old) (rows ++ written_of old) → EntersOwn g own old new
+entered g own rows old new e bare b =
     let written : written_of new ≡ id_rows own ++ written_of old =
     b.written ∙ ap (λ (z : Rows TyId). z ++ written_of old) e in
     record {
@@ -187,21 +191,33 @@ entered g own rows old new e b =
         there = b.there k.there;
         written = subst (AreVariables t) (sym written)
             (both_variables t (id_rows own) (written_of old) (own_variables_are t own h) k.written);
+        entered = held_bare (IsEnteredIn t) old new (λ x. tt) bare k.entered;
       };
     }
 
 -- ---- what a declaration makes
 
-pub entered_made : (g : Graph) (env : Env) (old new : Bindings OwnVariable) (made : (OwnVariable → ValueEntry) → Env)
-    → made own_entry ≡ env
-    → Becomes g old new (λ read. modified_by (seen g read old) (made read)) (written_of old) → IsUnder g env old new
-entered_made g env old new made e b = record {
+-- what was made is bound with what the table has of it
+env_same : (g : Graph) (made : Made OwnVariable) (more : MadeBound OwnVariable) → more.structures ≡ made.structures
+    → more.types ≡ made.types → map_rows value_of (bound_rows more.values) ≡ scope_rows made.values
+    → env_of_bound g own_entry more ≡ env_of_made g own_entry made
+env_same g made more ss ts vs = bound_is_made g own_entry made more ss ts vs
+
+pub entered_made : (g : Graph) (since : Table) (old new : Bindings OwnVariable) (made : Made OwnVariable)
+    (more : MadeBound OwnVariable) → more.structures ≡ made.structures → more.types ≡ made.types
+    → map_rows value_of (bound_rows more.values) ≡ scope_rows made.values
+    → AreHeld (IsEnteredIn since) (bound_rows more.values) → AddsBound (bound_rows more.values) old new
+    → Becomes g old new (λ read. modified_by (seen g read old) (env_of_bound g read more)) (written_of old)
+    → IsUnder g since (env_of_made g own_entry made) old new
+entered_made g since old new made more ss ts vs held adds b = record {
   seen = ap₂ (λ (z : Env) (w : Rows TyId). record { env = z; written = map_rows variable_of w; home = g.home })
-      (b.seen own_entry ∙ ap (modified_by (seen g own_entry old)) e) b.written;
+      (b.seen own_entry ∙ ap (modified_by (seen g own_entry old)) (env_same g made more ss ts vs)) b.written;
   front = b.front;
-  there = λ t k. record {
+  there = λ t keeps k. record {
     there = b.there k.there;
     written = subst (AreVariables t) (sym b.written) k.written;
+    entered = held_more (IsEnteredIn t) old new (bound_rows more.values) adds
+        (values_later since t (bound_rows more.values) keeps held) k.entered;
   };
 }
 

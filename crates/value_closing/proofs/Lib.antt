@@ -3,3 +3,4 @@ pub mod Entering
 pub mod Staying
 pub mod Grouping
 pub mod RecPats
+pub mod Bounding

@@ -6,11 +6,13 @@ use Rattle.sml_modules.specs.Graphs.{Graph}
 use Rattle.static_semantics.specs.Inferring.{under}
 use Rattle.core_scopes.specs.Scopes.{Bindings}
 use Rattle.core_scopes.specs.Marks.{IsFrontOf}
+use Rattle.type_phrases.specs.Inferred.{KeepsTypes}
 use Rattle.pattern_elab.specs.declared.own.OwnVariable.{OwnVariable}
 use Rattle.pattern_elab.specs.Scopes.{scope_of, IsCoreScope}
 
--- what is in scope is what was, under what was made; marks of the scope before stay good
-pub record IsUnder (g : Graph) (made : Env) (old new : Bindings OwnVariable) : Type 0 where
+-- what is in scope is what was, under what was made; marks of the scope before stay good, and so does the scope, as long
+-- as a table keeps what it had then
+pub record IsUnder (g : Graph) (since : Table) (made : Env) (old new : Bindings OwnVariable) : Type 0 where
   pub seen : scope_of g new ≡ under made (scope_of g old)
   pub front : IsFrontOf old new
-  pub there : (t : Table) → IsCoreScope g t old → IsCoreScope g t new
+  pub there : (t : Table) → KeepsTypes since t → IsCoreScope g t old → IsCoreScope g t new

@@ -11,6 +11,7 @@ mod made;
 mod own;
 mod rec_pats;
 mod recursive;
+mod schemes;
 mod sizes;
 mod val;
 mod values;

@@ -1,22 +1,48 @@
-//! Scopes that what a declaration makes is entered into.
+//! What a declaration makes is entered into a scope.
 
 ghost use Rattle.std.specs.Prelude.{◌≡◌, OnOk, OnErr};
+ghost use Rattle.type_nodes.specs.Tables.{state};
 ghost use Rattle.sml_modules.specs.Graphs.{Graph, HasEnvs};
 ghost use Rattle.core_scopes.specs.Marks.{env_of_made};
+ghost use Rattle.type_phrases.specs.Inferred.{KeepsTypes};
 ghost use Rattle.pattern_elab.specs.Scopes.{own_entry};
 ghost use Rattle.value_closing.specs.Under.{IsUnder};
 
+use crate::schemes::bound_values;
 use cm_base::NoMemory;
-use core_scopes::Made;
+use core_scopes::{Made, MadeBound};
 use pattern_elab::{CoreScope, OwnVariable};
+use sml_types::TypeTable;
+use std::alloc::Global;
 
-/// Enters what a declaration makes into the scope in which it stands. A mark from before leaves it again. Want of memory
-/// leaves the scope as it was. The Definition of Standard ML (Revised), section 4.3.
-pub fn enter_made(scope: &mut CoreScope, made: Made<OwnVariable>) -> Result<(), NoMemory>
+/// Enters what a declaration makes into the scope in which it stands; with the schemes of its values into the table, so
+/// that a use of a value copies no more of its type than what the scheme's variables stand in. Where there is no memory
+/// for that, or it isn't asked for, since most of what an `open` brings is never used, each use copies the whole type. A
+/// mark from before leaves the scope again. Want of memory leaves the scope as it was. The Definition of Standard ML
+/// (Revised), section 4.3.
+pub fn enter_made(
+    alloc: Global,
+    t: &mut TypeTable,
+    scope: &mut CoreScope,
+    made: Made<OwnVariable>,
+    with_schemes: bool,
+) -> Result<(), NoMemory>
     ensures ok { OnOk result ((g : Graph) → HasEnvs g made.structures
-        → IsUnder g (env_of_made g own_entry made) scope.old scope.new) }
+        → IsUnder g t.new (env_of_made g own_entry made) scope.old scope.new) }
+    ensures state { OnOk result (state t.new ≡ state t.old) }
+    ensures kept { KeepsTypes t.old t.new }
     ensures err { OnErr result (scope.new ≡ scope.old) }
 {
-    scope.bind_made(made)?;
+    let Made {
+        structures,
+        types,
+        values,
+    } = made;
+    let values = bound_values(alloc, t, values, with_schemes)?;
+    scope.bind_entered(MadeBound {
+        structures,
+        types,
+        values,
+    })?;
     Ok(())
 }

@@ -10,7 +10,7 @@ use Rattle.core_rules.proofs.MatchSteps.{rule_first, rule_second, rule_third, ru
 use Rattle.core_rules.proofs.Parted.{as_phrase, plain, app_first, app_second, app_done, typed_first, typed_done, handle_first, handle_second, handle_done, raise_first, raise_done, fn_first, fn_done, record_first, record_done, under_done}
 use Rattle.core_rules.proofs.Joining.{decs_begin, decs_ready, decs_next, decs_fail, decs_memory, decs_end, decs_all}
 use Rattle.core_rules.proofs.Readying.{later, table_later, entered, behind, own_ready, recs_ready}
-use Rattle.core_rules.proofs.Declaring.{as_dec, dec_passed, dec_memory, val_declared, local_first, local_second, local_done, shown_done, body_done, let_first, let_second, let_numbered}
+use Rattle.core_rules.proofs.Declaring.{as_dec, dec_passed, dec_memory, val_declared, local_first, local_second, local_done, shown_done, body_done, let_first, let_second, let_numbered, declared_before, typed_before, made_after, behind_after}
 use Rattle.core_rules.specs.Ready.{made_at}
 use Rattle.static_semantics.specs.Inferring.{under, under_bound}
 use Rattle.core_rules.proofs.RecBinding.{rec_first, rec_second, rec_done, rec_of, recs_begin, recs_next, recs_fail, recs_stop, recs_end, has_first}
@@ -19,6 +19,7 @@ use Rattle.core_rules.proofs.WholeVal.{val_stops, val_whole, under_as}
 use Rattle.core_rules.specs.Bindings.{IsBind, AreBinds}
 use Rattle.core_rules.specs.Joined.{AreEntered}
 use Rattle.core_rules.specs.Moments.{moment, scope_at}
+use Rattle.type_phrases.proofs.Keeping.{keeps_all}
 use Rattle.pattern_elab.proofs.Scoping.{core_later}
 use Rattle.pattern_elab.specs.Scopes.{scope_of, bound_of}
 use Rattle.sml_trees.specs.declared.exp.Dec.{Dec}
@@ -29,7 +30,7 @@ use Rattle.sml_types.proofs.Frames.{drop_past}
 use Rattle.type_phrases.proofs.PartsRead.{drop_item}
 use Rattle.value_closing.specs.Groups.{groups_of}
 use Rattle.core_elab.specs.Vals.{binds_of}
-use Rattle.core_elab.proofs.Vals.{val_phrase, of_val, as_under, of_values, of_recs, as_recs_under, at_once, behind_phrase, of_rows}
+use Rattle.core_elab.proofs.Vals.{val_phrase, of_val, as_under, of_values, of_recs, as_recs_under, at_once, at_entering, behind_phrase, of_rows}
 use Rattle.core_elab.proofs.+elab_in_scope.Goals as goal
 
 pub exp::elab_in_scope-returns-in-Int : goal.exp::elab_in_scope-returns-in-Int
@@ -521,21 +522,37 @@ val::elab_val-returns-in_ok-own-in-Val t c =
 
 pub exp::elab_body-returns : goal.exp::elab_body-returns
 exp::elab_body-returns t c =
-    body_done c.args.made (exp_phrase c.args.exp.now) c.requires.core
+    typed_before c.args.made (exp_phrase c.args.exp.now) c.enter_made.ensures.kept c.in_ok-enter_made.ensures.state
+    (body_done c.args.made (exp_phrase c.args.exp.now)
+    (core_later c.args.g.now c.args.t.now c.enter_made.new.t c.args.scope.now c.enter_made.ensures.kept c.requires.core)
     (c.in_ok-enter_made.ensures.ok c.args.g.now c.requires.envs)
     c.elab_in_scope-result.ensures
     (c.leave.ensures c.args.scope.now c.mark-before.ensures.is
     (front_same c.args.scope.now c.enter_made.new.scope c.elab_in_scope-result.new.scope
-    (c.in_ok-enter_made.ensures.ok c.args.g.now c.requires.envs).front c.elab_in_scope-result.ensures.left))
+    (c.in_ok-enter_made.ensures.ok c.args.g.now c.requires.envs).front c.elab_in_scope-result.ensures.left)))
+
+pub exp::elab_body-returns-in_err-enter_made : goal.exp::elab_body-returns-in_err-enter_made
+exp::elab_body-returns-in_err-enter_made t c =
+    passed c.from_residual.result fault.NoMemory c.from_residual.ensures.1
+    (at_entering c.enter_made.ensures.kept c.in_err-enter_made.ensures.err c.requires.core)
+
+pub declared::elab_shown-returns-in_err-enter_made : goal.declared::elab_shown-returns-in_err-enter_made
+declared::elab_shown-returns-in_err-enter_made t c =
+    dec_passed c.from_residual.result fault.NoMemory c.from_residual.ensures.1 (record {
+      elabs = at_entering c.enter_made.ensures.kept c.in_err-enter_made.ensures.err c.requires.core;
+      envs = tt;
+    })
 
 pub declared::elab_shown-returns : goal.declared::elab_shown-returns
 declared::elab_shown-returns t c =
-    shown_done c.args.made (dec_phrase c.args.dec.now) c.requires.core
+    declared_before c.args.made (dec_phrase c.args.dec.now) c.enter_made.ensures.kept c.in_ok-enter_made.ensures.state
+    (shown_done c.args.made (dec_phrase c.args.dec.now)
+    (core_later c.args.g.now c.args.t.now c.enter_made.new.t c.args.scope.now c.enter_made.ensures.kept c.requires.core)
     (c.in_ok-enter_made.ensures.ok c.args.g.now c.requires.envs)
     c.elab_declared-result.ensures
     (c.leave.ensures c.args.scope.now c.mark-before.ensures.is
     (front_same c.args.scope.now c.enter_made.new.scope c.elab_declared-result.new.scope
-    (c.in_ok-enter_made.ensures.ok c.args.g.now c.requires.envs).front c.elab_declared-result.ensures.elabs.left))
+    (c.in_ok-enter_made.ensures.ok c.args.g.now c.requires.envs).front c.elab_declared-result.ensures.elabs.left)))
 
 pub exp::elab_let-returns-in_default : goal.exp::elab_let-returns-in_default
 exp::elab_let-returns-in_default t c = at_once c.requires.core
@@ -606,7 +623,9 @@ declared::elab_each-loop-dec-preserved t c =
     decs_next c.loop-dec.invariant
     (ap (λ (decs : List Dec). dec_phrases (map dec_phrase decs))
     (drop_item c.args.decs.now c.loop-dec.dec-index c.dec-item.result c.loop-dec-test.true c.dec-item.is))
-    c.is_ready.ensures.kept c.is_kept.ensures c.in_ok-made.ensures
+    c.is_ready.ensures.kept c.is_kept.ensures
+    (made_after c.in_ok-made.made (dec_phrase c.dec-item.result) c.enter_behind.ensures.kept
+    c.in_ok-enter_behind.ensures.state c.in_ok-made.ensures)
     (c.in_ok-enter_behind.ensures.scope c.elab_declared.new.g c.in_ok-made.ensures.envs) c.in_ok-enter_behind.ensures.all
 
 pub declared::elab_each-returns-in_err-made : goal.declared::elab_each-returns-in_err-made
@@ -624,12 +643,11 @@ pub declared::elab_each-returns-in_err-enter_behind : goal.declared::elab_each-r
 declared::elab_each-returns-in_err-enter_behind t c =
     passed_on (AreEntered (moment c.args.g.now c.args.t.now c.args.scope.now)
     (dec_phrases (map dec_phrase c.args.decs.now)) c.enter_behind.new.all
-    (moment c.elab_declared.new.g c.elab_declared.new.t c.enter_behind.new.scope))
+    (moment c.elab_declared.new.g c.enter_behind.new.t c.enter_behind.new.scope))
     c.from_residual-in_err-enter_behind.result fault.NoMemory c.from_residual-in_err-enter_behind.ensures.1
-    (decs_memory c.loop-dec.invariant
-    (ap (λ (decs : List Dec). dec_phrases (map dec_phrase decs))
+    (decs_memory c.loop-dec.invariant (ap (λ (decs : List Dec). dec_phrases (map dec_phrase decs))
     (drop_item c.args.decs.now c.loop-dec.dec-index c.dec-item.result c.loop-dec-test.true c.dec-item.is))
-    c.in_ok-made.ensures c.in_err-enter_behind.ensures.err)
+    c.enter_behind.ensures.kept c.in_ok-made.ensures c.in_err-enter_behind.ensures.err)
 
 pub declared::elab_each-returns : goal.declared::elab_each-returns
 declared::elab_each-returns t c =
@@ -752,23 +770,27 @@ val::elab_recs_under-is_ready-requires t c =
 
 pub exp::elab_body-is_ready-requires : goal.exp::elab_body-is_ready-requires
 exp::elab_body-is_ready-requires t c =
-    λ k. entered (moment c.args.g.now c.args.t.now c.args.scope.now)
-    (moment c.args.g.now c.args.t.now c.enter_made.new.scope)
-    (under (made_at (moment c.args.g.now c.args.t.now c.args.scope.now) c.args.made)
-    (scope_at (moment c.args.g.now c.args.t.now c.args.scope.now)))
+    λ k.
+    let ready = behind_after c.args.made c.enter_made.ensures.kept c.in_ok-enter_made.ensures.state k c.requires in
+    entered (moment c.args.g.now c.enter_made.new.t c.args.scope.now)
+    (moment c.args.g.now c.enter_made.new.t c.enter_made.new.scope)
+    (under (made_at (moment c.args.g.now c.enter_made.new.t c.args.scope.now) c.args.made)
+    (scope_at (moment c.args.g.now c.enter_made.new.t c.args.scope.now)))
     (c.in_ok-enter_made.ensures.ok c.args.g.now c.requires.envs).seen
-    ((c.in_ok-enter_made.ensures.ok c.args.g.now c.requires.envs).there c.args.t.now c.requires.core) k
-    c.requires.state
+    ((c.in_ok-enter_made.ensures.ok c.args.g.now c.requires.envs).there c.enter_made.new.t
+    (keeps_all c.enter_made.new.t) ready.core) k ready.state
 
 pub declared::elab_shown-is_ready-requires : goal.declared::elab_shown-is_ready-requires
 declared::elab_shown-is_ready-requires t c =
-    λ k. entered (moment c.args.g.now c.args.t.now c.args.scope.now)
-    (moment c.args.g.now c.args.t.now c.enter_made.new.scope)
-    (under (made_at (moment c.args.g.now c.args.t.now c.args.scope.now) c.args.made)
-    (scope_at (moment c.args.g.now c.args.t.now c.args.scope.now)))
+    λ k.
+    let ready = behind_after c.args.made c.enter_made.ensures.kept c.in_ok-enter_made.ensures.state k c.requires in
+    entered (moment c.args.g.now c.enter_made.new.t c.args.scope.now)
+    (moment c.args.g.now c.enter_made.new.t c.enter_made.new.scope)
+    (under (made_at (moment c.args.g.now c.enter_made.new.t c.args.scope.now) c.args.made)
+    (scope_at (moment c.args.g.now c.enter_made.new.t c.args.scope.now)))
     (c.in_ok-enter_made.ensures.ok c.args.g.now c.requires.envs).seen
-    ((c.in_ok-enter_made.ensures.ok c.args.g.now c.requires.envs).there c.args.t.now c.requires.core) k
-    c.requires.state
+    ((c.in_ok-enter_made.ensures.ok c.args.g.now c.requires.envs).there c.enter_made.new.t
+    (keeps_all c.enter_made.new.t) ready.core) k ready.state
 
 pub declared::elab_declared-is_ready_behind-requires : goal.declared::elab_declared-is_ready_behind-requires
 declared::elab_declared-is_ready_behind-requires t c =

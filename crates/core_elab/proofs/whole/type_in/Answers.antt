@@ -1,5 +1,8 @@
 use Rattle.bare_phrases.specs.PhraseOf.{exp_phrase}
-use Rattle.pattern_elab.specs.Scopes.{own_entry}
+use Rattle.std.proofs.Common.{sym, subst}
+use Rattle.core_scopes.specs.Scopes.{Bindings, AreHeld}
+use Rattle.pattern_elab.specs.declared.own.OwnVariable.{OwnVariable}
+use Rattle.pattern_elab.specs.Scopes.{own_entry, IsEnteredIn}
 use Rattle.core_elab.proofs.Beginning.{whole, begun}
 use Rattle.core_elab.proofs.whole.type_in.Goals as goal
 
@@ -7,6 +10,7 @@ pub elab_in_scope-requires : goal.elab_in_scope-requires
 elab_in_scope-requires c =
     begun c.args.g.now c.args.t.now c.new-scope.result c.args.env
     (c.new-scope.ensures.there c.args.g.now c.requires.env) c.is_kept.ensures
+    (subst (λ (sc : Bindings OwnVariable). AreHeld (IsEnteredIn c.args.t.now) sc.values) (sym c.new-scope.ensures.empty) tt)
     (c.new-scope.ensures.seen c.args.g.now own_entry) c.new-scope.ensures.written c.requires.ready
 
 pub returns-clause-infers : goal.returns-clause-infers

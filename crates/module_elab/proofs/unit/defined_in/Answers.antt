@@ -68,7 +68,7 @@ pub is_ready_top-requires : goal.is_ready_top-requires
 is_ready_top-requires c = λ k.
     ready_first c.args.g.now c.basis.new.g c.args.t.now c.args.options.nobasis c.in_ok-top.top c.args.given c.in_ok-env.env
     c.in_ok-scope.scope c.requires.fit c.requires.given c.in_ok-top.ensures.ok c.in_ok-env.ensures
-    c.in_ok-scope.ensures.seen c.in_ok-scope.ensures.there k
+    c.in_ok-scope.ensures.seen c.in_ok-scope.ensures.bare c.in_ok-scope.ensures.there k
 
 pub elab_tops-requires-clause-ready : goal.elab_tops-requires-clause-ready
 elab_tops-requires-clause-ready c = c.is_ready_top.ensures

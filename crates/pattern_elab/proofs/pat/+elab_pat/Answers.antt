@@ -13,7 +13,7 @@ use Rattle.type_phrases.proofs.Keeping.{keeps_extended}
 use Rattle.pattern_elab.specs.Scopes.{own_entry, scope_of, bound_of}
 use Rattle.pattern_elab.specs.Steps.{InferredPat, BindsOn, IsPat, AreFields, IsField}
 use Rattle.pattern_elab.proofs.Stepping.{passed_on}
-use Rattle.pattern_elab.proofs.Scoping.{core_later}
+use Rattle.pattern_elab.proofs.Scoping.{core_later, values_later}
 use Rattle.pattern_elab.proofs.Done.{plain_done, phrase_done, typed_done, typed_stops_first, typed_stops_second, typed_stops_third, con_finds, con_stops_first, con_stops_second, con_stops_third, con_stops_fourth, con_stops_fifth, as_done, as_stops_first, as_stops_second, as_stops_third, as_stops_fourth, as_stops_fifth, record_done, record_stops, no_memory, field_is, field_stops_first, field_stops_second, field_no_memory, fields_stop, fields_done}
 use Rattle.pattern_elab.proofs.Fields.{fields_begin, fields_next}
 use Rattle.pattern_elab.proofs.pat.+elab_pat.Goals as goal
@@ -154,7 +154,7 @@ elab_applied-returns-in_err-value t c =
     c.args.arg.now) c.args.at) c.args.t.now c.args.bound.now c.args.bound.now r) c.from_residual.result
     c.in_err-value.field-0.0 c.from_residual.ensures.1
     (con_stops_first c.args.g.now c.args.scope.now c.args.long.now (pat_phrase c.args.arg.now) c.args.at c.args.t.now
-    c.args.bound.now (entry_of own_entry) c.in_err-value.field-0.0 c.in_err-value.ensures)
+    c.args.bound.now (entry_of own_entry) c.in_err-value.field-0.0 c.in_err-value.ensures.answer)
 
 pub elab_applied-returns-in_err-id : goal.elab_applied-returns-in_err-id
 elab_applied-returns-in_err-id t c =
@@ -164,7 +164,7 @@ elab_applied-returns-in_err-id t c =
     c.from_residual-in_err-id.ensures.1
     (con_stops_second c.args.g.now c.args.scope.now c.args.long.now (pat_phrase c.args.arg.now) c.args.at
     c.args.t.now c.elab_pat.new.t c.args.bound.now c.elab_pat.new.bound (entry_of own_entry c.in_ok-value.value)
-    c.in_err-id.field-0.0 c.in_ok-value.ensures
+    c.in_err-id.field-0.0 c.in_ok-value.ensures.answer
     c.in_err-id.ensures)
 
 pub elab_applied-returns-in_err-check_con : goal.elab_applied-returns-in_err-check_con
@@ -176,7 +176,7 @@ elab_applied-returns-in_err-check_con t c =
     (con_stops_third c.args.g.now c.args.scope.now c.args.long.now (pat_phrase c.args.arg.now) c.args.at c.args.t.now
     c.elab_pat.new.t c.args.bound.now c.elab_pat.new.bound (entry_of own_entry c.in_ok-value.value) c.in_ok-id.id
     c.in_err-check_con.field-0.0
-    c.in_ok-value.ensures c.in_ok-id.ensures c.in_err-check_con.ensures)
+    c.in_ok-value.ensures.answer c.in_ok-id.ensures c.in_err-check_con.ensures)
 
 pub elab_applied-returns-in_err-sides : goal.elab_applied-returns-in_err-sides
 elab_applied-returns-in_err-sides t c =
@@ -187,7 +187,7 @@ elab_applied-returns-in_err-sides t c =
     (con_stops_fourth c.args.g.now c.args.scope.now c.args.long.now (pat_phrase c.args.arg.now) c.args.at
     c.args.t.now c.elab_pat.new.t c.sides_of.new.t c.args.bound.now c.elab_pat.new.bound (entry_of own_entry
     c.in_ok-value.value) c.in_ok-id.id
-    c.in_err-sides.field-0.0 c.in_ok-value.ensures c.in_ok-id.ensures c.in_ok-check_con.ensures
+    c.in_err-sides.field-0.0 c.in_ok-value.ensures.answer c.in_ok-id.ensures c.in_ok-check_con.ensures
     c.in_err-sides.ensures.finds
     c.in_err-sides.ensures.ids)
 
@@ -200,7 +200,7 @@ elab_applied-returns-in_err-unify_at t c =
     (con_stops_fifth c.args.g.now c.args.scope.now c.args.long.now (pat_phrase c.args.arg.now) c.args.at c.args.t.now
     c.elab_pat.new.t c.sides_of.new.t c.unify_at.new.t c.args.bound.now c.elab_pat.new.bound (entry_of own_entry
     c.in_ok-value.value) c.in_ok-id.id
-    c.in_ok-sides.sides.0 c.in_ok-sides.sides.1 c.in_err-unify_at.field-0.0 c.in_ok-value.ensures c.in_ok-id.ensures
+    c.in_ok-sides.sides.0 c.in_ok-sides.sides.1 c.in_err-unify_at.field-0.0 c.in_ok-value.ensures.answer c.in_ok-id.ensures
     c.in_ok-check_con.ensures c.in_ok-sides.ensures.finds c.in_ok-sides.ensures.state c.in_ok-sides.ensures.ids
     c.in_err-unify_at.ensures.answer c.in_err-unify_at.ensures.ids)
 
@@ -210,7 +210,7 @@ elab_applied-returns t c =
     (con_finds c.args.g.now c.args.scope.now c.args.long.now (pat_phrase c.args.arg.now) c.args.at c.args.t.now
     c.elab_pat.new.t c.sides_of.new.t c.unify_at.new.t c.args.bound.now c.elab_pat.new.bound (entry_of own_entry
     c.in_ok-value.value) c.in_ok-id.id
-    c.in_ok-sides.sides.0 c.in_ok-sides.sides.1 c.sized.result c.in_ok-value.ensures c.in_ok-id.ensures
+    c.in_ok-sides.sides.0 c.in_ok-sides.sides.1 c.sized.result c.in_ok-value.ensures.answer c.in_ok-id.ensures
     c.in_ok-check_con.ensures c.in_ok-sides.ensures.finds c.in_ok-sides.ensures.state c.in_ok-sides.ensures.ids
     c.in_ok-unify_at.ensures.answer c.in_ok-unify_at.ensures.ids c.in_ok-sides.ensures.second c.sized.ensures.answer
     c.sized.ensures.same)
@@ -450,3 +450,7 @@ elab_field-returns t c =
     c.in_ok-check_label.ensures.free c.requires.have
     c.requires.differing c.in_ok-id.ensures
     (c.in_ok-bind.ensures.ok ∙ ap (λ n. c.args.rows.now ++ (n, c.in_ok-id.id) ∷ []) c.in_ok-copy.ensures)
+
+pub elab_applied-sides_of-requires-clause-entered : goal.elab_applied-sides_of-requires-clause-entered
+elab_applied-sides_of-requires-clause-entered t c =
+    values_later c.args.t.now c.elab_pat.new.t c.args.scope.now.values c.in_ok-id.ensures.goes.ids c.requires.entered

@@ -4,6 +4,7 @@ use Rattle.semantic_objects.specs.Environments.{empty_env, with_structure}
 use Rattle.unification.specs.Unification.{depth}
 use Rattle.sml_modules.specs.Graphs.{env_at}
 use Rattle.bare_phrases.specs.PhraseOf.{str_phrase}
+use Rattle.core_scopes.proofs.Scoping.{all_bare}
 use Rattle.unit_semantics.specs.UnitPhrases.{module_phrase}
 use Rattle.unit_semantics.specs.StructureInference.{infer_module}
 use Rattle.module_growth.specs.Grown.{IsInside}
@@ -21,6 +22,8 @@ is_ready-requires c = λ k. record {
   inside = subst (λ top. IsInside every c.args.g.now.home top
       (progress_at (moment c.args.g.now c.args.t.now c.args.top.now)))
       (sym (c.in_ok-enter.ensures c.args.g.now c.requires.env).seen) c.requires.ready.inside;
+  bare = all_bare c.args.top.now.core c.enter.new.top.core (c.in_ok-enter.ensures c.args.g.now c.requires.env).bare
+      c.requires.ready.bare;
 }
 
 pub returns-in_err-enter : goal.returns-in_err-enter

@@ -17,6 +17,7 @@ is_ready-requires c = λ k. record {
   kept = k;
   inside = inside_top every c.args.g.now.home (seen_at (moment c.args.g.now c.args.t.now c.args.top.now))
       (progress_at (moment c.args.g.now c.args.t.now c.args.top.now)) c.requires.at;
+  bare = c.requires.bare;
 }
 
 pub without_variables-requires : goal.without_variables-requires

@@ -12,7 +12,7 @@ use Rattle.core_scopes.proofs.scope.Scope.find_value.Goals as goal
 pub returns-in_ok-copy-in-Some : goal.returns-in_ok-copy-in-Some
 returns-in_ok-copy-in-Some g c = λ read.
     ap (λ (x : ValueInScope g.row.V.Denot). Some (entry_of read x)) c.in_ok-copy-in-Some.ensures
-    ∙ value_found c.args.g.now c.args.self.now c.args.name.now read c.in-Some.entry.now
+    ∙ value_found c.args.g.now c.args.self.now c.args.name.now read c.in-Some.bound.now
     (sym (c.in-Some.ensures
     ∙ ap (λ (sc : Bindings g.row.V.Denot). last_entry sc.values c.args.name.now) c.self.view_is))
 

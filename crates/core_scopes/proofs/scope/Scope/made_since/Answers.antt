@@ -2,9 +2,10 @@ use Rattle.std.proofs.Common.{ap, ◌∙◌, drop, length}
 use Rattle.name_trails.specs.Trails.{Rows}
 use Rattle.semantic_objects.specs.declared.entry.TypeStr.{TypeStr}
 use Rattle.sml_modules.specs.declared.id.EnvId.{EnvId}
+use Rattle.sml_modules.specs.Items.{map_rows}
 use Rattle.core_scopes.specs.declared.mark.ScopeMark.{ScopeMark}
-use Rattle.core_scopes.specs.declared.value.ValueInScope.{ValueInScope}
-use Rattle.core_scopes.specs.Scopes.{Bindings}
+use Rattle.core_scopes.specs.declared.value.BoundValue.{BoundValue}
+use Rattle.core_scopes.specs.Scopes.{Bindings, value_of}
 use Rattle.core_scopes.proofs.Scoping.{made_is}
 use Rattle.core_scopes.proofs.scope.Scope.made_since.Goals as goal
 
@@ -22,7 +23,8 @@ returns g c = λ past is front. made_is past c.args.self.now (record {
     ∙ ap (λ (rows : Rows TypeStr). drop c.args.since.types rows) c.rows-2.ensures
     ∙ ap (λ (mark : ScopeMark). drop mark.types c.self.inside.types) is
     ∙ ap (λ (sc : Bindings g.row.V.Denot). drop (length past.types) sc.types) c.self.view_is)
-    (c.in_ok-list_values.ensures ∙ c.rows_since-values.ensures
-    ∙ ap (λ (rows : Rows (ValueInScope g.row.V.Denot)). drop c.args.since.values rows) c.rows-3.ensures
+    (c.in_ok-list_values.ensures
+    ∙ ap (λ (rows : Rows (BoundValue g.row.V.Denot)). map_rows value_of rows) (c.rows_since-values.ensures
+    ∙ ap (λ (rows : Rows (BoundValue g.row.V.Denot)). drop c.args.since.values rows) c.rows-3.ensures
     ∙ ap (λ (mark : ScopeMark). drop mark.values c.self.inside.values) is
-    ∙ ap (λ (sc : Bindings g.row.V.Denot). drop (length past.values) sc.values) c.self.view_is)
+    ∙ ap (λ (sc : Bindings g.row.V.Denot). drop (length past.values) sc.values) c.self.view_is))

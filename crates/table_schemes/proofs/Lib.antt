@@ -1,0 +1,4 @@
+pub mod Unfolding
+pub mod Later
+pub mod Entering
+pub mod Instances
