@@ -1,12 +1,12 @@
 //! What declarations make, one after another.
 
-ghost use Rattle.std.specs.Prelude.{◌≡◌, ◌++◌, IfOk, OnOk, OnErr};
+ghost use Rattle.std.specs.Prelude.{◌≡◌, ◌++◌, IfOk, IsTrue, OnOk, OnErr};
 ghost use Rattle.sml_modules.specs.Graphs.{Graph, HasEnvs};
 ghost use Rattle.type_nodes.specs.Tables.{state};
 ghost use Rattle.core_scopes.specs.Marks.{env_of_made};
 ghost use Rattle.type_phrases.specs.Inferred.{KeepsTypes};
 ghost use Rattle.pattern_elab.specs.Scopes.{own_entry};
-ghost use Rattle.value_closing.specs.Under.{IsUnder};
+ghost use Rattle.value_closing.specs.Under.{BindsGiven, IsUnder};
 ghost use Rattle.core_rules.specs.Joined.{IsNothing, joined, made_where};
 
 use cm_base::{Fault, List, NoMemory};
@@ -86,8 +86,8 @@ pub fn add_made(
 }
 
 /// Enters what a declaration makes into the scope in which the next one stands, and adds it to what those before it make.
-/// The schemes of its values go into the table where that is asked for. Want of memory leaves the scope as it was. The
-/// Definition of Standard ML (Revised), rule 24.
+/// The schemes of its values go into the table where that is asked for. Want of memory leaves the scope as it was, and so
+/// does a scheme that isn't one of this table. The Definition of Standard ML (Revised), rule 24.
 pub fn enter_behind(
     alloc: Global,
     t: &mut TypeTable,
@@ -99,6 +99,7 @@ pub fn enter_behind(
     ensures all { OnOk result (all.new ≡ joined all.old made) }
     ensures scope { OnOk result ((g : Graph) → HasEnvs g made.structures
         → IsUnder g t.new (env_of_made g own_entry made) scope.old scope.new) }
+    ensures given { IsTrue with_schemes → OnOk result (BindsGiven scope.old scope.new) }
     ensures state { OnOk result (state t.new ≡ state t.old) }
     ensures kept { KeepsTypes t.old t.new }
     ensures err { OnErr result (scope.new ≡ scope.old) }

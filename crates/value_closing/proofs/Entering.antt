@@ -6,7 +6,6 @@ use Rattle.std.specs.Cmp.Lexicographic.{nat_list_eq_equiv, same_text as same_byt
 use Rattle.cm_base.specs.declared.fault.Fault.{Fault}
 use Rattle.sml_trees.specs.declared.name.Name.{Name}
 use Rattle.semantic_objects.specs.declared.name.TyId.{TyId}
-use Rattle.semantic_objects.specs.declared.entry.ValueEntry.{ValueEntry}
 use Rattle.semantic_objects.specs.Environments.{Env, modified_by}
 use Rattle.semantic_objects.specs.Symbols.{same_text}
 use Rattle.semantic_objects.proofs.Same.{text_is, text_same}

@@ -1,11 +1,16 @@
 -- Scopes that what a declaration makes was entered into. The Definition of Standard ML (Revised), sections 4.2 and 4.3.
-use Rattle.std.specs.Prelude.{◌≡◌}
+use Rattle.std.specs.Prelude.{◌≡◌, Option, Some, None}
 use Rattle.semantic_objects.specs.Environments.{Env}
 use Rattle.type_nodes.specs.Tables.{Table}
 use Rattle.sml_modules.specs.Graphs.{Graph}
 use Rattle.static_semantics.specs.Inferring.{under}
-use Rattle.core_scopes.specs.Scopes.{Bindings}
-use Rattle.core_scopes.specs.Marks.{IsFrontOf}
+use Rattle.name_trails.specs.Trails.{Rows}
+use Rattle.table_schemes.specs.declared.scheme.TableScheme.{TableScheme}
+use Rattle.core_scopes.specs.declared.value.BoundValue.{BoundValue}
+use Rattle.core_scopes.specs.declared.value.ValueInScope.{ValueInScope}
+use Rattle.core_scopes.specs.declared.value.ValueInScope.TheVariants as value
+use Rattle.core_scopes.specs.Scopes.{Bindings, AreHeld}
+use Rattle.core_scopes.specs.Marks.{IsFrontOf, AddsBound}
 use Rattle.type_phrases.specs.Inferred.{KeepsTypes}
 use Rattle.pattern_elab.specs.declared.own.OwnVariable.{OwnVariable}
 use Rattle.pattern_elab.specs.Scopes.{scope_of, IsCoreScope}
@@ -16,3 +21,16 @@ pub record IsUnder (g : Graph) (since : Table) (made : Env) (old new : Bindings 
   pub seen : scope_of g new ≡ under made (scope_of g old)
   pub front : IsFrontOf old new
   pub there : (t : Table) → KeepsTypes since t → IsCoreScope g t old → IsCoreScope g t new
+
+-- a table has the scheme of a value: a variable that a pattern bound has none
+abbrev pub HasScheme : ValueInScope OwnVariable → Option TableScheme → Type 0
+HasScheme (value.Entry entry) (Some scheme) = Unit {0}
+HasScheme (value.Entry entry) None = ⊥
+HasScheme (value.Own own) scheme = Unit {0}
+
+abbrev pub IsGiven : BoundValue OwnVariable → Type 0
+IsGiven bound = HasScheme bound.value bound.scheme
+
+-- values were bound, each with its scheme
+abbrev pub BindsGiven : Bindings OwnVariable → Bindings OwnVariable → Type 0
+BindsGiven old new = (rows : Rows (BoundValue OwnVariable)) × AddsBound rows old new × AreHeld IsGiven rows
