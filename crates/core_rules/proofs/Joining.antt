@@ -7,7 +7,7 @@ use Rattle.cm_base.specs.declared.fault.Fault.TheVariants as fault
 use Rattle.semantic_objects.specs.declared.entry.TypeStr.{TypeStr}
 use Rattle.semantic_objects.specs.declared.entry.ValueEntry.{ValueEntry}
 use Rattle.semantic_objects.specs.Tables.{Table as Named, with_all}
-use Rattle.semantic_objects.specs.Environments.{Env, env_of, table_of, structures_of, empty_env, modified_by}
+use Rattle.semantic_objects.specs.Environments.{Env, Structures, env_of, table_of, structures_of, structures, types, values, empty_env, modified_by}
 use Rattle.unification.specs.Unification.{depth}
 use Rattle.type_nodes.specs.Keeping.{IsKept}
 use Rattle.type_nodes.specs.Tables.{Table}
@@ -29,6 +29,7 @@ use Rattle.type_phrases.specs.Inferred.{Answers, KeepsTypes}
 use Rattle.type_phrases.proofs.Steps.{still_refused}
 use Rattle.pattern_elab.specs.declared.own.OwnVariable.{OwnVariable}
 use Rattle.pattern_elab.specs.Scopes.{own_entry}
+use Rattle.pattern_elab.proofs.Scoping.{core_later}
 use Rattle.closing_laws.specs.Promises.{IsOfState}
 use Rattle.value_closing.specs.Under.{IsUnder}
 use Rattle.core_rules.specs.Moments.{Moment, moment, scope_at, progress_at, IsCoreAt, Passes}
@@ -60,7 +61,7 @@ joined_more all made m = one_made _ _ _ _ _ _
 joined_none : (all : Made OwnVariable) → joined all (made_of [] [] []) ≡ all
 joined_none all = one_made _ _ _ _ _ _ (append-nil all.structures) (append-nil all.types) (append-nil all.values)
 
-joined_first : (all m : Made OwnVariable) → IsNothing all → m ≡ joined all m
+pub joined_first : (all m : Made OwnVariable) → IsNothing all → m ≡ joined all m
 joined_first all m n = one_made _ _ _ _ _ _
     (ap (λ (z : List NamedEnv). z ++ m.structures) (sym n.structures))
     (ap (λ (z : List NamedType). z ++ m.types) (sym n.types))
@@ -101,6 +102,60 @@ made_joined g a b = one_env _ _ _ _ _ _
     (both_rows (value_rows own_entry a.values) (value_rows own_entry b.values)
     (value_rows own_entry (a.values ++ b.values))
     (map_both (λ (e : NamedInScope OwnVariable). (e.name, entry_of own_entry e.entry)) a.values b.values))
+
+-- ---- more and more behind an environment
+
+structures_back : (ss : Structures) → structures_of (table_of ss) ≡ ss
+structures_back Structures.Nil = refl
+structures_back (Structures.Cons name env rest) =
+    ap (λ (z : Structures). Structures.Cons name env z) (structures_back rest)
+
+nothing_behind : (env : Env) → modified_by env empty_env ≡ env
+nothing_behind (Env.MakeEnv ss ts vs) = ap (λ (z : Structures). Env.MakeEnv z ts vs) (structures_back ss)
+
+rows_behind : {A : Type 0} (front back whole t : Named A) → whole ≡ front ++ back
+    → with_all (with_all back []) (with_all (with_all front []) t) ≡ with_all (with_all whole []) t
+rows_behind {A} front back whole t e =
+    sym (at_once back (with_all (with_all front []) t))
+    ∙ ap (λ (z : Named A). with_all back z) (sym (at_once front t))
+    ∙ sym (all_append front back t)
+    ∙ ap (λ (z : Named A). with_all z t) (sym e)
+    ∙ at_once whole t
+
+env_joined : (g : Graph) (a b : Made OwnVariable) (env : Env)
+    → modified_by (modified_by env (env_of_made g own_entry a)) (env_of_made g own_entry b)
+    ≡ modified_by env (env_of_made g own_entry (joined a b))
+env_joined g a b env =
+    let sa : Named Env = structure_rows g a.structures in
+    let sb : Named Env = structure_rows g b.structures in
+    let sj : Named Env = structure_rows g (a.structures ++ b.structures) in
+    one_env _ _ _ _ _ _
+    (ap₂ (λ (x y : Named Env). with_all x y) (tables_back (with_all sb []))
+    (tables_back (with_all (structures (env_of_made g own_entry a)) (structures env))
+    ∙ ap (λ (x : Named Env). with_all x (structures env)) (tables_back (with_all sa [])))
+    ∙ rows_behind sa sb sj (structures env)
+    (map_both (λ (e : NamedEnv). (e.name, env_at g e.env)) a.structures b.structures)
+    ∙ ap (λ (x : Named Env). with_all x (structures env)) (sym (tables_back (with_all sj []))))
+    (rows_behind (type_rows a.types) (type_rows b.types) (type_rows (a.types ++ b.types)) (types env)
+    (map_both (λ (e : NamedType). (e.name, e.entry)) a.types b.types))
+    (rows_behind (value_rows own_entry a.values) (value_rows own_entry b.values)
+    (value_rows own_entry (a.values ++ b.values)) (values env)
+    (map_both (λ (e : NamedInScope OwnVariable). (e.name, entry_of own_entry e.entry)) a.values b.values))
+
+abbrev scope_over : Scope → Env → Scope
+scope_over sc env = record { env = env; written = sc.written; home = sc.home }
+
+under_joined : (g : Graph) (a b : Made OwnVariable) (sc : Scope)
+    → under (env_of_made g own_entry b) (under (env_of_made g own_entry a) sc)
+    ≡ under (env_of_made g own_entry (joined a b)) sc
+under_joined g a b sc = ap (scope_over sc) (env_joined g a b sc.env)
+
+under_nothing : (g : Graph) (all : Made OwnVariable) (sc : Scope) → IsNothing all
+    → sc ≡ under (env_of_made g own_entry all) sc
+under_nothing g all sc n =
+    let none : all ≡ made_of [] [] [] = one_made _ _ _ _ _ _ n.structures n.types n.values in
+    sym (ap (λ (x : Made OwnVariable). under (env_of_made g own_entry x) sc) none
+    ∙ ap (scope_over sc) (nothing_behind sc.env))
 
 rows_kept : (g h : Graph) (entries : List NamedEnv) → Keeps g h → HasEnvs g entries
     → structure_rows h entries ≡ structure_rows g entries
@@ -152,6 +207,8 @@ pub record DecsSoFar (begun now : Moment) (phrases left : DecPhrases) (all : Mad
   pub front : IsFrontOf begun.scope now.scope
   pub core : IsCoreAt now
   pub state : IsOfState (scope_at now) (progress_at now)
+  pub begins : IsCoreAt begun
+  pub under_all : scope_at now ≡ under (made_at now all) (scope_at begun)
 
 pub decs_begin : (m : Moment) (phrases : DecPhrases) (all : Made OwnVariable) → IsReadyAt m
     → IsFrontOf m.scope m.scope → IsNothing all → DecsSoFar m m phrases phrases all
@@ -164,6 +221,8 @@ decs_begin m phrases all r front n = record {
   front = front;
   core = r.core;
   state = r.state;
+  begins = r.core;
+  under_all = under_nothing m.graph all (scope_at m) n;
 }
 
 -- before the next declaration
@@ -224,6 +283,13 @@ module _ {begun now : Moment} {phrases left rest : DecPhrases} {phrase : DecPhra
         front = front_on s.front h.elabs.left u.front;
         core = u.there mid.table (keeps_all mid.table) h.elabs.core;
         state = subst (λ sc. IsOfState sc (progress_at mid)) (sym u.seen) b.state;
+        begins = s.begins;
+        under_all = here
+            ∙ ap (under (made_at mid made)) (s.under_all
+            ∙ ap (λ (x : Env). under x (scope_at begun))
+            (sym (made_kept now.graph mid.graph all h.elabs.goes.graph s.envs)))
+            ∙ under_joined mid.graph all made (scope_at begun)
+            ∙ ap (λ (x : Made OwnVariable). under (env_of_made mid.graph own_entry x) (scope_at begun)) (sym e);
       }
 
   pub decs_fail : {mid : Moment} {new : Made OwnVariable} {e : Fault} → IsDeclared now phrase mid (Err e)
@@ -238,6 +304,7 @@ module _ {begun now : Moment} {phrases left rest : DecPhrases} {phrase : DecPhra
     envs = tt;
     goes = passes_then s.goes h.elabs.goes;
     front = front_at s.front h.elabs.left;
+    under = tt;
   }
 
   pub decs_memory : {mid : Moment} {made new : Made OwnVariable} {t2 : Table} {s2 : Bindings OwnVariable}
@@ -249,6 +316,7 @@ module _ {begun now : Moment} {phrases left rest : DecPhrases} {phrase : DecPhra
     goes = passes_then {a = begun} {b = now} {c = moment mid.graph t2 s2} s.goes
         (passes_then {a = now} {b = mid} {c = moment mid.graph t2 s2} h.elabs.goes (passes_table mid t2 s2 k));
     front = front_at s.front (e ∙ h.elabs.left);
+    under = tt;
   }
 
 pub decs_end : {begun now : Moment} {phrases left : DecPhrases} {all : Made OwnVariable}
@@ -262,6 +330,13 @@ decs_end {begun} {now} {phrases} {left} {all} s is = record {
   envs = s.envs;
   goes = s.goes;
   front = s.front;
+  under = record {
+    seen = s.under_all ∙ ap (under (made_at now all))
+        (sym (scope_kept {old = begun} {new = moment now.graph now.table begun.scope} s.begins
+        (passes_scope {old = begun} {new = now} begun.scope s.goes) refl));
+    front = s.front;
+    there = λ t k h. core_later now.graph now.table t now.scope k s.core;
+  };
 }
 
 -- ---- all of them, when the scope is left

@@ -11,6 +11,7 @@ use Rattle.core_scopes.specs.declared.made.Made.{Made}
 use Rattle.core_scopes.specs.Marks.{IsFrontOf}
 use Rattle.type_phrases.specs.Inferred.{Answers}
 use Rattle.pattern_elab.specs.declared.own.OwnVariable.{OwnVariable}
+use Rattle.value_closing.specs.Under.{IsUnder}
 use Rattle.core_rules.specs.Moments.{Moment, scope_at, progress_at, Passes}
 use Rattle.core_rules.specs.Ready.{made_at}
 use Rattle.core_rules.specs.Declarations.{Declares}
@@ -38,7 +39,8 @@ made_where all (Err e) = Err e
 abbrev pub AreDeclared : Moment → DecPhrases → Moment → Result (Made OwnVariable) Fault → Type 0
 AreDeclared old phrases new result = Declares old (λ sc. infer_decs depth sc phrases (progress_at old)) new result
 
--- .. and each was entered into the scope of the next one. Marks of the scope before stay good
+-- .. and each was entered into the scope of the next one, which is in the end the one before under all that was made.
+-- Marks of the scope before stay good
 pub record AreEntered (old : Moment) (phrases : DecPhrases) (all : Made OwnVariable) (new : Moment)
     (result : Result (Unit {0}) Fault) : Type 0 where
   pub infers : Answers (infer_decs depth (scope_at old) phrases (progress_at old))
@@ -46,3 +48,4 @@ pub record AreEntered (old : Moment) (phrases : DecPhrases) (all : Made OwnVaria
   pub envs : IfOk result (λ (u : Unit {0}). HasEnvs new.graph all.structures)
   pub goes : Passes old new
   pub front : IsFrontOf old.scope new.scope
+  pub under : IfOk result (λ (u : Unit {0}). IsUnder new.graph new.table (made_at new all) old.scope new.scope)
