@@ -1,36 +1,35 @@
 -- Declarations: what a call answers of each, from what it answers of its parts.
-use Rattle.std.proofs.Common.{◌≡◌, ℕ, List, [], ◌∷◌, length, false, refl, sym, ap, ◌∙◌, subst, map}
+use Rattle.std.proofs.Common.{◌≡◌, ℕ, List, [], length, refl, sym, ap, ◌∙◌, subst}
 use Rattle.std.specs.Prelude.{Result, Ok, Err, IfOk, IsErrAnd}
 use Rattle.cm_base.specs.declared.fault.Fault.{Fault}
 use Rattle.cm_base.specs.declared.fault.Fault.TheVariants as fault
 use Rattle.sml_trees.specs.declared.name.At.{At}
 use Rattle.semantic_objects.specs.declared.name.TyId.{TyId}
-use Rattle.semantic_objects.specs.declared.entry.ValueEntry.{ValueEntry}
 use Rattle.semantic_objects.specs.Environments.{Env}
 use Rattle.unification.specs.Types.{Ty, State}
 use Rattle.unification.specs.Unification.{depth}
-use Rattle.type_nodes.specs.Tables.{Table, Has, state}
+use Rattle.type_nodes.specs.Tables.{Table, state}
 use Rattle.type_nodes.specs.Keeping.{IsKept}
 use Rattle.closing_laws.specs.Promises.{IsOfState}
 use Rattle.sml_modules.specs.declared.parts.NamedEnv.{NamedEnv}
 use Rattle.sml_modules.specs.Graphs.{Graph, HasEnvs}
-use Rattle.bare_phrases.specs.Phrases.{ExpPhrase, DecPhrase, ExPhrase}
+use Rattle.bare_phrases.specs.Phrases.{ExpPhrase, DecPhrase}
 use Rattle.static_semantics.specs.Inferring.{Progress, Scope, Answer, ◌>>=◌, gives, under, sized_dec}
 use Rattle.static_semantics.specs.CoreInference.{infer_exp, infer_dec, within_let}
 use Rattle.core_scopes.specs.declared.made.Made.{Made}
 use Rattle.core_scopes.specs.Scopes.{Bindings}
 use Rattle.core_scopes.specs.Marks.{env_of_made}
-use Rattle.type_phrases.specs.Inferred.{Answers, KeepsTypes, home_scope, progress, scope_in}
+use Rattle.type_phrases.specs.Inferred.{Answers, KeepsTypes, home_scope, progress}
 use Rattle.type_phrases.proofs.Keeping.{keeps_all, keeps_later}
 use Rattle.pattern_elab.specs.declared.own.OwnVariable.{OwnVariable}
-use Rattle.pattern_elab.specs.Scopes.{own_entry, scope_of, IsCoreScope}
+use Rattle.pattern_elab.specs.Scopes.{own_entry, scope_of}
 use Rattle.value_closing.specs.Under.{IsUnder}
 use Rattle.core_rules.specs.Rules.{IsRule}
-use Rattle.core_rules.specs.Moments.{Moment, moment, scope_at, progress_at, IsCoreAt, typed_as, Passes, Elabs}
+use Rattle.core_rules.specs.Moments.{Moment, moment, progress_at, IsCoreAt, typed_as, Passes, Elabs}
 use Rattle.core_rules.specs.Expressions.{IsExp, ends_sized}
 use Rattle.core_rules.specs.Ready.{made_at, IsReadyBehind}
 use Rattle.pattern_elab.proofs.Scoping.{core_later}
-use Rattle.core_rules.specs.Values.{read_made, IsVal}
+use Rattle.core_rules.specs.Values.{read_made}
 use Rattle.core_rules.specs.Declarations.{Declares, IsDeclared, IsDeclaredBehind, IsBehind, Whatever, dec_sized}
 use Rattle.core_rules.proofs.Chains.{passes_table, core_kept, stops, goes_on, ruled}
 

@@ -1,10 +1,8 @@
 -- What is in scope stays of what the table knows from call to call.
-use Rattle.std.proofs.Common.{◌≡◌, ℕ, List, [], refl, sym, ap, ◌∙◌, subst, drop, length}
-use Rattle.std.specs.Prelude.{Result, Ok, Err}
-use Rattle.cm_base.specs.declared.fault.Fault.{Fault}
+use Rattle.std.proofs.Common.{◌≡◌, ℕ, List, [], refl, sym, subst, drop, length}
+use Rattle.std.specs.Prelude.{Ok}
 use Rattle.sml_trees.specs.declared.name.Name.{Name}
 use Rattle.semantic_objects.specs.declared.name.TyId.{TyId}
-use Rattle.semantic_objects.specs.Environments.{Env}
 use Rattle.unification.specs.Unification.{depth}
 use Rattle.type_nodes.specs.Keeping.{IsKept}
 use Rattle.type_nodes.specs.Tables.{Table}
@@ -12,14 +10,11 @@ use Rattle.sml_modules.specs.Graphs.{Graph}
 use Rattle.name_trails.specs.Trails.{Rows}
 use Rattle.bare_phrases.specs.Phrases.{PatPhrase, ExpPhrase, DecPhrase}
 use Rattle.bare_phrases.specs.PhraseOf.{rules_of}
-use Rattle.static_semantics.specs.Inferring.{Scope, Progress, Answer, gives, under, under_bound, with_written, Bound}
+use Rattle.static_semantics.specs.Inferring.{Scope, Answer, gives, under, under_bound, Bound}
 use Rattle.static_semantics.specs.Holding.{Given, AllRows}
 use Rattle.static_semantics.specs.Growing.{TyIn}
-use Rattle.static_semantics.specs.PatternInference.{infer_pat}
-use Rattle.static_semantics.specs.TypeInference.{as_written}
-use Rattle.static_semantics.specs.CoreInference.{RecPats, Group, rec_bound, infer_binds, infer_rec_pats, infer_dec, own_variables}
+use Rattle.static_semantics.specs.CoreInference.{Group, rec_bound, own_variables}
 use Rattle.static_semantics.proofs.CoreGrow.{ready_bound, binds_grow, rec_pats_grow, rec_bound_in}
-use Rattle.static_semantics.proofs.Growing.{ready_later}
 use Rattle.core_scopes.specs.declared.made.Made.{Made}
 use Rattle.core_scopes.specs.Scopes.{Bindings}
 use Rattle.type_phrases.specs.Inferred.{KeepsTypes, Answers, progress}

@@ -1,6 +1,6 @@
 -- What a call answers for a declaration in a scope, and for a phrase under what a declaration made. Only private functions
 -- cite this file.
-use Rattle.std.specs.Prelude.{◌≡◌, Result, IfOk}
+use Rattle.std.specs.Prelude.{Result, IfOk}
 use Rattle.cm_base.specs.declared.fault.Fault.{Fault}
 use Rattle.sml_trees.specs.declared.name.At.{At}
 use Rattle.semantic_objects.specs.declared.name.TyId.{TyId}

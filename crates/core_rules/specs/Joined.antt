@@ -1,11 +1,9 @@
 -- What declarations make, one after another.
 use Rattle.std.specs.Prelude.{◌≡◌, [], ◌++◌, Result, Ok, Err, IfOk}
 use Rattle.cm_base.specs.declared.fault.Fault.{Fault}
-use Rattle.semantic_objects.specs.Environments.{Env}
 use Rattle.unification.specs.Unification.{depth}
 use Rattle.sml_modules.specs.Graphs.{HasEnvs}
 use Rattle.bare_phrases.specs.Phrases.{DecPhrases}
-use Rattle.static_semantics.specs.Inferring.{Progress}
 use Rattle.static_semantics.specs.CoreInference.{infer_decs}
 use Rattle.core_scopes.specs.declared.made.Made.{Made}
 use Rattle.core_scopes.specs.Marks.{IsFrontOf}

@@ -1,6 +1,5 @@
 -- What is asked of a moment before a phrase is elaborated: everything in scope is of what the table knows, so that closing
 -- by the age of variables is what inference gives.
-use Rattle.unification.specs.Types.{Ty}
 use Rattle.type_nodes.specs.Keeping.{IsKept}
 use Rattle.name_trails.specs.Trails.{Rows}
 use Rattle.semantic_objects.specs.Environments.{Env}
