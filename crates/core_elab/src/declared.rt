@@ -4,12 +4,13 @@ ghost use Rattle.std.specs.Prelude.{map};
 ghost use Rattle.bare_phrases.specs.PhraseOf.{dec_phrase, dec_phrases};
 ghost use Rattle.core_scopes.specs.Marks.{IsFrontOf};
 ghost use Rattle.core_rules.specs.Moments.{moment};
-ghost use Rattle.core_rules.specs.Ready.{IsReadyAt, IsReadyBehind};
-ghost use Rattle.core_rules.specs.Declarations.{IsDeclared, IsDeclaredBehind};
+ghost use Rattle.core_rules.specs.Ready.{IsReadyAt};
+ghost use Rattle.core_rules.specs.Declarations.{IsDeclared};
 ghost use Rattle.core_rules.specs.Joined.{IsNothing, AreDeclared, AreEntered};
+ghost use Rattle.core_elab.specs.Inside.{Enters, IsShown};
 
-use crate::opening::{opens, opens_inside};
-use crate::ready::{is_ready, is_ready_behind};
+use crate::opening::opens;
+use crate::ready::is_ready;
 use crate::val::elab_val;
 use cm_base::Fault;
 use core_rules::{enter_behind, made_where, nothing_made};
@@ -22,7 +23,6 @@ use sml_modules::EnvGraph;
 use sml_trees::Dec;
 use sml_types::TypeTable;
 use std::alloc::Global;
-use value_closing::enter_made;
 
 /// What a declaration binds in a scope, which is left as it was. The first of 30 to 35, 37, 38, 40 and 41 is answered, and
 /// then some of it may be known. Declarations of structures are answered as want of memory is. The Definition of Standard
@@ -46,18 +46,11 @@ pub(crate) fn elab_declared(
         Dec::Exceptions(binds, at) => {
             declare_exceptions(alloc, g, t, scope, binds.as_slice(), *at)
         }
-        Dec::Local(hidden, shown, at) => {
-            let before = elab_declared(alloc, g, t, scope, hidden.get())?;
-            is_ready_behind(g, t, scope, &before);
-            let made = elab_shown(
-                alloc,
-                g,
-                t,
-                scope,
-                before,
-                !opens_inside(hidden),
-                shown.get(),
-            )?;
+        Dec::Local(_, _, at) => {
+            let before = scope.mark();
+            let result = elab_shown(alloc, g, t, scope, dec);
+            scope.leave(before);
+            let made = result?;
             check_made(alloc, g, t, *at, made)
         }
         Dec::Open(longs, at) => declare_open(alloc, g, t, scope, longs.as_slice(), *at),
@@ -66,27 +59,56 @@ pub(crate) fn elab_declared(
     }
 }
 
-/// A declaration under what the one before it made, which is left again.
+/// The shown declaration of a `local` behind the hidden one. What that made stays in scope. Another declaration is answered
+/// as want of memory is.
 #[cycle(elab_in_scope)]
 fn elab_shown(
     alloc: Global,
     g: &mut EnvGraph,
     t: &mut TypeTable,
     scope: &mut CoreScope,
-    made: Made<OwnVariable>,
-    with_schemes: bool,
     dec: &Dec,
 ) -> Result<Made<OwnVariable>, Fault>
-    requires { IsReadyBehind (moment g.old t.old scope.old) made }
-    ensures { IsDeclaredBehind (moment g.old t.old scope.old) made (dec_phrase dec.now) (moment g.new t.new scope.new)
-        result }
+    requires scope { IsReadyAt (moment g.old t.old scope.old) }
+    requires front { IsFrontOf scope.old scope.old }
+    ensures { IsShown (moment g.old t.old scope.old) (dec_phrase dec.now) (moment g.new t.new scope.new) result }
 {
-    let before = scope.mark();
-    enter_made(alloc, t, scope, made, with_schemes)?;
-    is_ready(g, t, scope);
-    let result = elab_declared(alloc, g, t, scope, dec);
-    scope.leave(before);
-    result
+    match dec {
+        Dec::Local(hidden, shown, _) => {
+            let mut made = nothing_made(alloc);
+            elab_entered(alloc, g, t, scope, hidden.get(), &mut made)?;
+            is_ready(g, t, scope);
+            elab_declared(alloc, g, t, scope, shown.get())
+        }
+        _ => Err(Fault::NoMemory),
+    }
+}
+
+/// A declaration that is entered into the scope in which it stands, each of a sequence behind those before it. What it
+/// makes is added to nothing. What an `open` brings is bound without its schemes in the table, since most of it is never
+/// used.
+#[cycle(elab_in_scope)]
+pub(crate) fn elab_entered(
+    alloc: Global,
+    g: &mut EnvGraph,
+    t: &mut TypeTable,
+    scope: &mut CoreScope,
+    dec: &Dec,
+    all: &mut Made<OwnVariable>,
+) -> Result<(), Fault>
+    requires scope { IsReadyAt (moment g.old t.old scope.old) }
+    requires front { IsFrontOf scope.old scope.old }
+    requires all { IsNothing all.old }
+    ensures { Enters (moment g.old t.old scope.old) (dec_phrase dec.now) all.new (moment g.new t.new scope.new) result }
+{
+    match dec {
+        Dec::Sequence(decs, _) => elab_each(alloc, g, t, scope, decs.as_slice(), all),
+        _ => {
+            let made = elab_declared(alloc, g, t, scope, dec)?;
+            enter_behind(alloc, t, scope, all, made, !opens(dec))?;
+            Ok(())
+        }
+    }
 }
 
 /// Declarations, each under what those before it made, which is left again.

@@ -3,19 +3,19 @@
 ghost use Rattle.std.specs.Prelude.{map};
 ghost use Rattle.bare_phrases.specs.PhraseOf.{exp_phrase, exp_field_phrase, exp_fields, rule_phrase, rules_of};
 ghost use Rattle.core_rules.specs.Moments.{moment};
-ghost use Rattle.core_rules.specs.Ready.{IsReadyAt, IsReadyUnder, IsReadyBehind};
-ghost use Rattle.core_rules.specs.Declarations.{IsBehind};
+ghost use Rattle.core_rules.specs.Ready.{IsReadyAt, IsReadyUnder};
+ghost use Rattle.core_scopes.specs.Marks.{IsFrontOf};
+ghost use Rattle.core_elab.specs.Inside.{IsInside};
 ghost use Rattle.core_rules.specs.Expressions.{IsExp, IsUnder, IsMatch, IsTypedRule, HasFirst, AreExpFields, IsExpField, AreLabelled};
 
-use crate::declared::elab_declared;
-use crate::opening::opens_inside;
-use crate::ready::{is_ready, is_ready_behind};
+use crate::declared::elab_entered;
+use crate::ready::is_ready;
 use cm_base::Fault;
 use core_rules::{
     RuleType, apply, as_first, constrain, elab_char, elab_int, elab_long, elab_string,
-    enter_variables, handle, make_record, match_type, place_of_exp, raise, rule_pattern, to_of,
+    enter_variables, handle, make_record, match_type, nothing_made, place_of_exp, raise,
+    rule_pattern, to_of,
 };
-use core_scopes::Made;
 use declaration_forms::end_let;
 use name_trails::NameTrail;
 use pattern_elab::{CoreScope, OwnVariable, sized};
@@ -25,7 +25,13 @@ use sml_trees::{Exp, ExpField, Rule};
 use sml_types::TypeTable;
 use std::alloc::Global;
 use type_phrases::check_label;
-use value_closing::enter_made;
+
+/// The body of a `let`: how many type names the unit had made before it, and its type.
+#[derive(Clone, Copy)]
+pub(crate) struct LetBody {
+    pub(crate) to: u64,
+    pub(crate) id: TyId,
+}
 
 /// The type of an expression in a scope, which is left as it was. The first of 30 to 35, 37, 38, 40 and 41 is answered,
 /// and then some of it may be known. The Definition of Standard ML (Revised), rules 1 to 14.
@@ -91,13 +97,13 @@ fn elab_let(
     ensures { IsExp (moment g.old t.old scope.old) (exp_phrase exp.now) (moment g.new t.new scope.new) result }
 {
     match exp {
-        Exp::Let(dec, body, at) => {
+        Exp::Let(_, _, at) => {
             let from = g.made();
-            let made = elab_declared(alloc, g, t, scope, dec.get())?;
-            is_ready_behind(g, t, scope, &made);
-            let to = g.made();
-            let id = elab_body(alloc, g, t, scope, made, !opens_inside(dec), body.get())?;
-            end_let(alloc, g, t, *at, from, to, id)
+            let before = scope.mark();
+            let result = elab_inside(alloc, g, t, scope, exp);
+            scope.leave(before);
+            let inside = result?;
+            end_let(alloc, g, t, *at, from, inside.to, inside.id)
         }
         _ => Err(Fault::NoMemory),
     }
@@ -209,24 +215,29 @@ fn elab_under(
     result
 }
 
-/// The body of a `let` under what its declaration made, which is left again.
+/// The body of a `let` behind its declaration. What that made stays in scope. Another expression is answered as want of
+/// memory is.
 #[cycle(elab_in_scope)]
-fn elab_body(
+fn elab_inside(
     alloc: Global,
     g: &mut EnvGraph,
     t: &mut TypeTable,
     scope: &mut CoreScope,
-    made: Made<OwnVariable>,
-    with_schemes: bool,
     exp: &Exp,
-) -> Result<TyId, Fault>
-    requires { IsReadyBehind (moment g.old t.old scope.old) made }
-    ensures { IsBehind (moment g.old t.old scope.old) made (exp_phrase exp.now) (moment g.new t.new scope.new) result }
+) -> Result<LetBody, Fault>
+    requires scope { IsReadyAt (moment g.old t.old scope.old) }
+    requires front { IsFrontOf scope.old scope.old }
+    ensures { IsInside (moment g.old t.old scope.old) (exp_phrase exp.now) (moment g.new t.new scope.new) result }
 {
-    let before = scope.mark();
-    enter_made(alloc, t, scope, made, with_schemes)?;
-    is_ready(g, t, scope);
-    let result = elab_in_scope(alloc, g, t, scope, exp);
-    scope.leave(before);
-    result
+    match exp {
+        Exp::Let(dec, body, _) => {
+            let mut made = nothing_made(alloc);
+            elab_entered(alloc, g, t, scope, dec.get(), &mut made)?;
+            is_ready(g, t, scope);
+            let to = g.made();
+            let id = elab_in_scope(alloc, g, t, scope, body.get())?;
+            Ok(LetBody { to, id })
+        }
+        _ => Err(Fault::NoMemory),
+    }
 }

@@ -1,6 +1,5 @@
 //! Declarations that open structures.
 
-use cm_base::Boxed;
 use sml_trees::Dec;
 
 /// Whether structures are opened by a declaration, or by one of a sequence. Most of what that brings is never used, so
@@ -21,9 +20,4 @@ fn any_opens(decs: &[Dec]) -> bool {
         }
     }
     false
-}
-
-/// The same of the declaration of a `let`, or the hidden one of a `local`.
-pub(crate) fn opens_inside(dec: &Boxed<Dec>) -> bool {
-    opens(dec.get())
 }

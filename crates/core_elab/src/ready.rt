@@ -6,11 +6,10 @@ ghost use Rattle.type_nodes.specs.Tables.{Has, IsFrontOf};
 ghost use Rattle.type_schemes.specs.Schemes.{HaveAll};
 ghost use Rattle.value_closing.specs.Groups.{groups_of};
 ghost use Rattle.core_rules.specs.Moments.{moment};
-ghost use Rattle.core_rules.specs.Ready.{IsReadyAt, IsReadyBehind, IsReadyUnder};
+ghost use Rattle.core_rules.specs.Ready.{IsReadyAt, IsReadyUnder};
 ghost use Rattle.core_elab.specs.Vals.{IsBehindBinds};
 
 use cm_base::List;
-use core_scopes::Made;
 use name_trails::NameTrail;
 use pattern_elab::{CoreScope, OwnVariable};
 use semantic_objects::TyId;
@@ -24,19 +23,6 @@ use value_closing::BoundGroup;
 pub(crate) fn is_ready(g: &EnvGraph, t: &TypeTable, scope: &CoreScope)
     requires { IsKept t.now → IsReadyAt (moment g.now t.now scope.now) }
     ensures { IsReadyAt (moment g.now t.now scope.now) }
-{
-    t.is_kept();
-}
-
-/// .. under what a declaration made.
-pub(crate) fn is_ready_behind(
-    g: &EnvGraph,
-    t: &TypeTable,
-    scope: &CoreScope,
-    made: &Made<OwnVariable>,
-)
-    requires { IsKept t.now → IsReadyBehind (moment g.now t.now scope.now) made.now }
-    ensures { IsReadyBehind (moment g.now t.now scope.now) made.now }
 {
     t.is_kept();
 }

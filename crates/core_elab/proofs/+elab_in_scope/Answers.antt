@@ -9,17 +9,15 @@ use Rattle.core_rules.proofs.Fields.{field_first, field_second, field_done, fiel
 use Rattle.core_rules.proofs.MatchSteps.{rule_first, rule_second, rule_third, rule_done, match_begin, match_next, match_fails, match_ends}
 use Rattle.core_rules.proofs.Parted.{as_phrase, plain, app_first, app_second, app_done, typed_first, typed_done, handle_first, handle_second, handle_done, raise_first, raise_done, fn_first, fn_done, record_first, record_done, under_done}
 use Rattle.core_rules.proofs.Joining.{decs_begin, decs_ready, decs_next, decs_fail, decs_memory, decs_end, decs_all}
-use Rattle.core_rules.proofs.Readying.{later, table_later, entered, behind, own_ready, recs_ready}
-use Rattle.core_rules.proofs.Declaring.{as_dec, dec_passed, dec_memory, val_declared, local_first, local_second, local_done, shown_done, body_done, let_first, let_second, let_numbered, declared_before, typed_before, made_after, behind_after}
-use Rattle.core_rules.specs.Ready.{made_at}
-use Rattle.static_semantics.specs.Inferring.{under, under_bound}
+use Rattle.core_rules.proofs.Readying.{later, table_later, entered, own_ready, recs_ready}
+use Rattle.core_rules.proofs.Declaring.{as_dec, dec_passed, dec_memory, val_declared, made_after}
+use Rattle.static_semantics.specs.Inferring.{under_bound}
 use Rattle.core_rules.proofs.RecBinding.{rec_first, rec_second, rec_done, rec_of, recs_begin, recs_next, recs_fail, recs_stop, recs_end, has_first}
 use Rattle.core_rules.proofs.Under.{recs_under, binds_alone, val_first, val_second, val_third, val_done, val_distinct, val_front}
 use Rattle.core_rules.proofs.WholeVal.{val_stops, val_whole, under_as}
 use Rattle.core_rules.specs.Bindings.{IsBind, AreBinds}
 use Rattle.core_rules.specs.Joined.{AreEntered}
 use Rattle.core_rules.specs.Moments.{moment, scope_at}
-use Rattle.type_phrases.proofs.Keeping.{keeps_all}
 use Rattle.pattern_elab.proofs.Scoping.{core_later}
 use Rattle.pattern_elab.specs.Scopes.{scope_of, bound_of}
 use Rattle.sml_trees.specs.declared.exp.Dec.{Dec}
@@ -30,7 +28,9 @@ use Rattle.sml_types.proofs.Frames.{drop_past}
 use Rattle.type_phrases.proofs.PartsRead.{drop_item}
 use Rattle.value_closing.specs.Groups.{groups_of}
 use Rattle.core_elab.specs.Vals.{binds_of}
-use Rattle.core_elab.proofs.Vals.{val_phrase, of_val, as_under, of_values, of_recs, as_recs_under, at_once, at_entering, behind_phrase, of_rows}
+use Rattle.core_elab.proofs.Inside.{enters_all, enters_one, enters_memory, enters_failed, enters_as, ready_inside, inside_done, inside_second, inside_first, inside_as, inside_memory, shown_behind, shown_first, shown_as, shown_memory, body_of, local_of, let_refused, let_ended, local_refused, local_ended}
+use Rattle.core_elab.specs.Inside.{Enters, IsInside, IsShown}
+use Rattle.core_elab.proofs.Vals.{val_phrase, of_val, as_under, of_values, of_recs, as_recs_under, at_once, behind_phrase, of_rows}
 use Rattle.core_elab.proofs.+elab_in_scope.Goals as goal
 
 pub exp::elab_in_scope-returns-in-Int : goal.exp::elab_in_scope-returns-in-Int
@@ -520,65 +520,8 @@ val::elab_val-returns-in_ok-own-in-Val t c =
     (front_same c.args.scope.now c.own_variables.new.scope c.elab_val_under-result.new.scope
     c.in_ok-own-in-Val.ensures.ok.front c.elab_val_under-result.ensures.left)))
 
-pub exp::elab_body-returns : goal.exp::elab_body-returns
-exp::elab_body-returns t c =
-    typed_before c.args.made (exp_phrase c.args.exp.now) c.enter_made.ensures.kept c.in_ok-enter_made.ensures.state
-    (body_done c.args.made (exp_phrase c.args.exp.now)
-    (core_later c.args.g.now c.args.t.now c.enter_made.new.t c.args.scope.now c.enter_made.ensures.kept c.requires.core)
-    (c.in_ok-enter_made.ensures.ok c.args.g.now c.requires.envs)
-    c.elab_in_scope-result.ensures
-    (c.leave.ensures c.args.scope.now c.mark-before.ensures.is
-    (front_same c.args.scope.now c.enter_made.new.scope c.elab_in_scope-result.new.scope
-    (c.in_ok-enter_made.ensures.ok c.args.g.now c.requires.envs).front c.elab_in_scope-result.ensures.left)))
-
-pub exp::elab_body-returns-in_err-enter_made : goal.exp::elab_body-returns-in_err-enter_made
-exp::elab_body-returns-in_err-enter_made t c =
-    passed c.from_residual.result fault.NoMemory c.from_residual.ensures.1
-    (at_entering c.enter_made.ensures.kept c.in_err-enter_made.ensures.err c.requires.core)
-
-pub declared::elab_shown-returns-in_err-enter_made : goal.declared::elab_shown-returns-in_err-enter_made
-declared::elab_shown-returns-in_err-enter_made t c =
-    dec_passed c.from_residual.result fault.NoMemory c.from_residual.ensures.1 (record {
-      elabs = at_entering c.enter_made.ensures.kept c.in_err-enter_made.ensures.err c.requires.core;
-      envs = tt;
-    })
-
-pub declared::elab_shown-returns : goal.declared::elab_shown-returns
-declared::elab_shown-returns t c =
-    declared_before c.args.made (dec_phrase c.args.dec.now) c.enter_made.ensures.kept c.in_ok-enter_made.ensures.state
-    (shown_done c.args.made (dec_phrase c.args.dec.now)
-    (core_later c.args.g.now c.args.t.now c.enter_made.new.t c.args.scope.now c.enter_made.ensures.kept c.requires.core)
-    (c.in_ok-enter_made.ensures.ok c.args.g.now c.requires.envs)
-    c.elab_declared-result.ensures
-    (c.leave.ensures c.args.scope.now c.mark-before.ensures.is
-    (front_same c.args.scope.now c.enter_made.new.scope c.elab_declared-result.new.scope
-    (c.in_ok-enter_made.ensures.ok c.args.g.now c.requires.envs).front c.elab_declared-result.ensures.elabs.left)))
-
 pub exp::elab_let-returns-in_default : goal.exp::elab_let-returns-in_default
 exp::elab_let-returns-in_default t c = at_once c.requires.core
-
-pub exp::elab_let-returns-in_err-made-in-Let : goal.exp::elab_let-returns-in_err-made-in-Let
-exp::elab_let-returns-in_err-made-in-Let t c =
-    passed c.from_residual.result c.in_err-made-in-Let.field-0.0 c.from_residual.ensures.1
-    (as_phrase (ap exp_phrase c.in-Let.is ∙ exp_phrase-Let c.in-Let.dec c.in-Let.body c.in-Let.at
-    ∙ ap (λ p. ExpPhrase.Let (dec_phrase p) (exp_phrase c.in-Let.body) c.in-Let.at) (sym c.get.ensures))
-    (let_first (dec_phrase c.get.result.now) (exp_phrase c.in-Let.body) c.in-Let.at c.in_err-made-in-Let.ensures))
-
-pub exp::elab_let-returns-in_err-id-in-Let : goal.exp::elab_let-returns-in_err-id-in-Let
-exp::elab_let-returns-in_err-id-in-Let t c =
-    passed c.from_residual-in_err-id-in-Let.result c.in_err-id-in-Let.field-0.0 c.from_residual-in_err-id-in-Let.ensures.1
-    (as_phrase (ap exp_phrase c.in-Let.is ∙ exp_phrase-Let c.in-Let.dec c.in-Let.body c.in-Let.at
-    ∙ ap₂ (λ p q. ExpPhrase.Let (dec_phrase p) (exp_phrase q) c.in-Let.at) (sym c.get.ensures) (sym c.get-in-Let.ensures))
-    (let_second (dec_phrase c.get.result.now) (exp_phrase c.get-in-Let.result.now) c.in-Let.at c.requires.core
-    c.in_ok-made-in-Let.ensures c.in_err-id-in-Let.ensures))
-
-pub exp::elab_let-returns-in_ok-id-in-Let : goal.exp::elab_let-returns-in_ok-id-in-Let
-exp::elab_let-returns-in_ok-id-in-Let t c =
-    (as_phrase (ap exp_phrase c.in-Let.is ∙ exp_phrase-Let c.in-Let.dec c.in-Let.body c.in-Let.at
-    ∙ ap₂ (λ p q. ExpPhrase.Let (dec_phrase p) (exp_phrase q) c.in-Let.at) (sym c.get.ensures) (sym c.get-in-Let.ensures))
-    (let_numbered (dec_phrase c.get.result.now) (exp_phrase c.get-in-Let.result.now) c.in-Let.at
-    c.made-from.result c.made-to.result c.requires.core c.in_ok-made-in-Let.ensures
-    c.in_ok-id-in-Let.ensures c.made-from.ensures c.made-to.ensures c.end_let.ensures))
 
 pub declared::elab_declared-returns-in-Types : goal.declared::elab_declared-returns-in-Types
 declared::elab_declared-returns-in-Types t c =
@@ -667,36 +610,6 @@ declared::elab_declared-returns-in-Exceptions t c =
     ∙ ap (λ binds. DecPhrase.Exceptions (map ex_phrase binds) c.in-Exceptions.at) (sym c.as_slice-in-Exceptions.ensures))
     c.declare_exceptions.ensures
 
-pub declared::elab_declared-returns-in_err-before-in-Local : goal.declared::elab_declared-returns-in_err-before-in-Local
-declared::elab_declared-returns-in_err-before-in-Local t c =
-    dec_passed c.from_residual.result c.in_err-before-in-Local.field-0.0 c.from_residual.ensures.1
-    (as_dec (ap dec_phrase c.in-Local.is ∙ dec_phrase-Local c.in-Local.hidden c.in-Local.shown c.in-Local.at
-    ∙ ap (λ p. DecPhrase.Local (dec_phrase p) (dec_phrase c.in-Local.shown) c.in-Local.at) (sym c.get.ensures))
-    (local_first (dec_phrase c.get.result.now) (dec_phrase c.in-Local.shown) c.in-Local.at
-    c.in_err-before-in-Local.ensures))
-
-pub declared::elab_declared-returns-in_err-made-in-Local : goal.declared::elab_declared-returns-in_err-made-in-Local
-declared::elab_declared-returns-in_err-made-in-Local t c =
-    dec_passed c.from_residual-in_err-made-in-Local.result c.in_err-made-in-Local.field-0.0
-    c.from_residual-in_err-made-in-Local.ensures.1
-    (as_dec (ap dec_phrase c.in-Local.is ∙ dec_phrase-Local c.in-Local.hidden c.in-Local.shown c.in-Local.at
-    ∙ ap₂ (λ p q. DecPhrase.Local (dec_phrase p) (dec_phrase q) c.in-Local.at) (sym c.get.ensures)
-    (sym c.get-in-Local.ensures))
-    (local_second (dec_phrase c.get.result.now) (dec_phrase c.get-in-Local.result.now) c.in-Local.at c.requires.core
-    c.in_ok-before-in-Local.ensures c.in_err-made-in-Local.ensures))
-
-pub declared::elab_declared-check_made-requires : goal.declared::elab_declared-check_made-requires
-declared::elab_declared-check_made-requires t c = c.in_ok-made-in-Local.ensures.envs
-
-pub declared::elab_declared-returns-in_ok-made-in-Local : goal.declared::elab_declared-returns-in_ok-made-in-Local
-declared::elab_declared-returns-in_ok-made-in-Local t c =
-    as_dec (ap dec_phrase c.in-Local.is ∙ dec_phrase-Local c.in-Local.hidden c.in-Local.shown c.in-Local.at
-    ∙ ap₂ (λ p q. DecPhrase.Local (dec_phrase p) (dec_phrase q) c.in-Local.at) (sym c.get.ensures)
-    (sym c.get-in-Local.ensures))
-    (local_done (dec_phrase c.get.result.now) (dec_phrase c.get-in-Local.result.now) c.in-Local.at c.requires.core
-    c.in_ok-before-in-Local.ensures c.in_ok-made-in-Local.ensures c.check_made.ensures.same
-    c.check_made.ensures.answer c.check_made.ensures.it)
-
 pub binds::elab_binds-loop-rule-init : goal.binds::elab_binds-loop-rule-init
 binds::elab_binds-loop-rule-init t c =
     binds_begin (moment c.args.g.now c.args.t.now c.args.scope.now) (map rule_phrase c.args.rules.now) c.args.bound.now
@@ -738,10 +651,6 @@ pub exp::elab_in_scope-is_ready-requires-in-Handle : goal.exp::elab_in_scope-is_
 exp::elab_in_scope-is_ready-requires-in-Handle t c =
     λ k. later c.requires k c.in_ok-id-in-Handle.ensures.goes c.in_ok-id-in-Handle.ensures.left
 
-pub exp::elab_let-is_ready_behind-requires : goal.exp::elab_let-is_ready_behind-requires
-exp::elab_let-is_ready_behind-requires t c =
-    λ k. behind (dec_phrase c.get.result.now) c.in_ok-made-in-Let.made c.requires k c.in_ok-made-in-Let.ensures
-
 pub exp::elab_fields-is_ready-requires : goal.exp::elab_fields-is_ready-requires
 exp::elab_fields-is_ready-requires t c =
     λ k. later {old = moment c.args.g.now c.args.t.now c.args.scope.now} c.requires k
@@ -767,34 +676,6 @@ val::elab_recs_under-is_ready-requires t c =
     (under_bound (bound_of c.args.bound.now) (scope_at (moment c.args.g.now c.args.t.now c.args.scope.now)))
     (c.in_ok-enter_variables.ensures.ok c.args.g.now).seen
     ((c.in_ok-enter_variables.ensures.ok c.args.g.now).there c.args.t.now c.requires.scope.core) k c.requires.scope.state
-
-pub exp::elab_body-is_ready-requires : goal.exp::elab_body-is_ready-requires
-exp::elab_body-is_ready-requires t c =
-    λ k.
-    let ready = behind_after c.args.made c.enter_made.ensures.kept c.in_ok-enter_made.ensures.state k c.requires in
-    entered (moment c.args.g.now c.enter_made.new.t c.args.scope.now)
-    (moment c.args.g.now c.enter_made.new.t c.enter_made.new.scope)
-    (under (made_at (moment c.args.g.now c.enter_made.new.t c.args.scope.now) c.args.made)
-    (scope_at (moment c.args.g.now c.enter_made.new.t c.args.scope.now)))
-    (c.in_ok-enter_made.ensures.ok c.args.g.now c.requires.envs).seen
-    ((c.in_ok-enter_made.ensures.ok c.args.g.now c.requires.envs).there c.enter_made.new.t
-    (keeps_all c.enter_made.new.t) ready.core) k ready.state
-
-pub declared::elab_shown-is_ready-requires : goal.declared::elab_shown-is_ready-requires
-declared::elab_shown-is_ready-requires t c =
-    λ k.
-    let ready = behind_after c.args.made c.enter_made.ensures.kept c.in_ok-enter_made.ensures.state k c.requires in
-    entered (moment c.args.g.now c.enter_made.new.t c.args.scope.now)
-    (moment c.args.g.now c.enter_made.new.t c.enter_made.new.scope)
-    (under (made_at (moment c.args.g.now c.enter_made.new.t c.args.scope.now) c.args.made)
-    (scope_at (moment c.args.g.now c.enter_made.new.t c.args.scope.now)))
-    (c.in_ok-enter_made.ensures.ok c.args.g.now c.requires.envs).seen
-    ((c.in_ok-enter_made.ensures.ok c.args.g.now c.requires.envs).there c.enter_made.new.t
-    (keeps_all c.enter_made.new.t) ready.core) k ready.state
-
-pub declared::elab_declared-is_ready_behind-requires : goal.declared::elab_declared-is_ready_behind-requires
-declared::elab_declared-is_ready_behind-requires t c =
-    λ k. behind (dec_phrase c.get.result.now) c.in_ok-before-in-Local.before c.requires k c.in_ok-before-in-Local.ensures
 
 pub declared::elab_each-is_ready-requires : goal.declared::elab_each-is_ready-requires
 declared::elab_each-is_ready-requires t c =
@@ -836,3 +717,143 @@ val::elab_recs_of-returns-in-Val t c =
     (ap dec_phrase c.in-Val.is ∙ dec_phrase-Val c.in-Val.field-0 c.in-Val.field-1 c.in-Val.recs c.in-Val.field-3)
     refl c.as_slice.ensures)
     c.elab_recs_under.ensures
+
+pub exp::elab_let-returns-in_err-inside-in-Let : goal.exp::elab_let-returns-in_err-inside-in-Let
+exp::elab_let-returns-in_err-inside-in-Let t c =
+    passed c.from_residual.result c.in_err-inside-in-Let.field-0.0 c.from_residual.ensures.1
+    (let_refused (c.leave.ensures c.args.scope.now c.mark-before.ensures.is c.elab_inside-result.ensures.front)
+    c.in_err-inside-in-Let.ensures)
+
+pub exp::elab_let-end_let-requires : goal.exp::elab_let-end_let-requires
+exp::elab_let-end_let-requires t c =
+    (body_of (dec_phrase c.in-Let.field-0) (exp_phrase c.in-Let.field-1) c.in-Let.at
+    (ap exp_phrase c.in-Let.is ∙ exp_phrase-Let c.in-Let.field-0 c.in-Let.field-1 c.in-Let.at)
+    c.in_ok-inside-in-Let.ensures).behind.has
+
+pub exp::elab_let-returns-in_ok-inside-in-Let : goal.exp::elab_let-returns-in_ok-inside-in-Let
+exp::elab_let-returns-in_ok-inside-in-Let t c =
+    let_ended (c.leave.ensures c.args.scope.now c.mark-before.ensures.is c.elab_inside-result.ensures.front)
+    (dec_phrase c.in-Let.field-0) (exp_phrase c.in-Let.field-1) c.in-Let.at c.made-from.result
+    (ap exp_phrase c.in-Let.is ∙ exp_phrase-Let c.in-Let.field-0 c.in-Let.field-1 c.in-Let.at)
+    c.requires.core
+    (body_of (dec_phrase c.in-Let.field-0) (exp_phrase c.in-Let.field-1) c.in-Let.at
+    (ap exp_phrase c.in-Let.is ∙ exp_phrase-Let c.in-Let.field-0 c.in-Let.field-1 c.in-Let.at)
+    c.in_ok-inside-in-Let.ensures)
+    c.made-from.ensures c.end_let.ensures
+
+pub exp::elab_inside-returns-in_default : goal.exp::elab_inside-returns-in_default
+exp::elab_inside-returns-in_default t c = inside_memory c.requires.scope.core c.requires.front
+
+pub exp::elab_inside-returns-in_err-elab_entered-in-Let : goal.exp::elab_inside-returns-in_err-elab_entered-in-Let
+exp::elab_inside-returns-in_err-elab_entered-in-Let t c =
+    passed_on (IsInside (moment c.args.g.now c.args.t.now c.args.scope.now) (exp_phrase c.args.exp.now)
+    (moment c.elab_entered.new.g c.elab_entered.new.t c.elab_entered.new.scope)) c.from_residual.result
+    c.in_err-elab_entered-in-Let.field-0.0 c.from_residual.ensures.1
+    (inside_as (ap exp_phrase c.in-Let.is ∙ exp_phrase-Let c.in-Let.dec c.in-Let.body c.in-Let.field-2
+    ∙ ap (λ p. ExpPhrase.Let (dec_phrase p) (exp_phrase c.in-Let.body) c.in-Let.field-2) (sym c.get.ensures))
+    (inside_first (dec_phrase c.get.result.now) c.in-Let.field-2 c.in_err-elab_entered-in-Let.ensures
+    (exp_phrase c.in-Let.body)))
+
+pub exp::elab_inside-is_ready-requires : goal.exp::elab_inside-is_ready-requires
+exp::elab_inside-is_ready-requires t c =
+    λ k. ready_inside (dec_phrase c.get.result.now) c.elab_entered.new.all c.in-Let.field-2
+    c.in_ok-elab_entered-in-Let.ensures c.requires.scope k
+
+pub exp::elab_inside-returns-in_err-id-in-Let : goal.exp::elab_inside-returns-in_err-id-in-Let
+exp::elab_inside-returns-in_err-id-in-Let t c =
+    passed_on (IsInside (moment c.args.g.now c.args.t.now c.args.scope.now) (exp_phrase c.args.exp.now)
+    (moment c.elab_in_scope.new.g c.elab_in_scope.new.t c.elab_in_scope.new.scope)) c.from_residual-in_err-id-in-Let.result
+    c.in_err-id-in-Let.field-0.0 c.from_residual-in_err-id-in-Let.ensures.1
+    (inside_as (ap exp_phrase c.in-Let.is ∙ exp_phrase-Let c.in-Let.dec c.in-Let.body c.in-Let.field-2
+    ∙ ap₂ (λ p q. ExpPhrase.Let (dec_phrase p) (exp_phrase q) c.in-Let.field-2) (sym c.get.ensures) (sym c.get-in-Let.ensures))
+    (inside_second (dec_phrase c.get.result.now) c.elab_entered.new.all c.in-Let.field-2
+    c.in_ok-elab_entered-in-Let.ensures (exp_phrase c.get-in-Let.result.now) c.requires.scope.core
+    c.in_err-id-in-Let.ensures))
+
+pub exp::elab_inside-returns-in_ok-id-in-Let : goal.exp::elab_inside-returns-in_ok-id-in-Let
+exp::elab_inside-returns-in_ok-id-in-Let t c =
+    inside_as (ap exp_phrase c.in-Let.is ∙ exp_phrase-Let c.in-Let.dec c.in-Let.body c.in-Let.field-2
+    ∙ ap₂ (λ p q. ExpPhrase.Let (dec_phrase p) (exp_phrase q) c.in-Let.field-2) (sym c.get.ensures) (sym c.get-in-Let.ensures))
+    (inside_done (dec_phrase c.get.result.now) c.elab_entered.new.all c.in-Let.field-2
+    c.in_ok-elab_entered-in-Let.ensures (exp_phrase c.get-in-Let.result.now)
+    (record { to = c.made-to.result; id = c.in_ok-id-in-Let.id }) c.made-to.ensures c.in_ok-id-in-Let.ensures)
+
+pub declared::elab_declared-returns-in_err-made-in-Local : goal.declared::elab_declared-returns-in_err-made-in-Local
+declared::elab_declared-returns-in_err-made-in-Local t c =
+    dec_passed c.from_residual.result c.in_err-made-in-Local.field-0.0 c.from_residual.ensures.1
+    (local_refused (c.leave.ensures c.args.scope.now c.mark-before.ensures.is c.elab_shown-result.ensures.front)
+    c.in_err-made-in-Local.ensures)
+
+pub declared::elab_declared-check_made-requires : goal.declared::elab_declared-check_made-requires
+declared::elab_declared-check_made-requires t c =
+    (local_of (dec_phrase c.in-Local.field-0) (dec_phrase c.in-Local.field-1) c.in-Local.at
+    (ap dec_phrase c.in-Local.is ∙ dec_phrase-Local c.in-Local.field-0 c.in-Local.field-1 c.in-Local.at)
+    c.in_ok-made-in-Local.ensures).behind.envs
+
+pub declared::elab_declared-returns-in_ok-made-in-Local : goal.declared::elab_declared-returns-in_ok-made-in-Local
+declared::elab_declared-returns-in_ok-made-in-Local t c =
+    local_ended (c.leave.ensures c.args.scope.now c.mark-before.ensures.is c.elab_shown-result.ensures.front)
+    (dec_phrase c.in-Local.field-0) (dec_phrase c.in-Local.field-1) c.in-Local.at
+    (ap dec_phrase c.in-Local.is ∙ dec_phrase-Local c.in-Local.field-0 c.in-Local.field-1 c.in-Local.at)
+    c.requires.core
+    (local_of (dec_phrase c.in-Local.field-0) (dec_phrase c.in-Local.field-1) c.in-Local.at
+    (ap dec_phrase c.in-Local.is ∙ dec_phrase-Local c.in-Local.field-0 c.in-Local.field-1 c.in-Local.at)
+    c.in_ok-made-in-Local.ensures)
+    c.check_made.ensures.same c.check_made.ensures.answer c.check_made.ensures.it
+
+pub declared::elab_shown-returns-in_default : goal.declared::elab_shown-returns-in_default
+declared::elab_shown-returns-in_default t c = shown_memory c.requires.scope.core c.requires.front
+
+pub declared::elab_shown-returns-in_err-elab_entered-in-Local : goal.declared::elab_shown-returns-in_err-elab_entered-in-Local
+declared::elab_shown-returns-in_err-elab_entered-in-Local t c =
+    passed_on (IsShown (moment c.args.g.now c.args.t.now c.args.scope.now) (dec_phrase c.args.dec.now)
+    (moment c.elab_entered.new.g c.elab_entered.new.t c.elab_entered.new.scope)) c.from_residual.result
+    c.in_err-elab_entered-in-Local.field-0.0 c.from_residual.ensures.1
+    (shown_as (ap dec_phrase c.in-Local.is ∙ dec_phrase-Local c.in-Local.hidden c.in-Local.shown c.in-Local.field-2
+    ∙ ap (λ p. DecPhrase.Local (dec_phrase p) (dec_phrase c.in-Local.shown) c.in-Local.field-2) (sym c.get.ensures))
+    (shown_first (dec_phrase c.get.result.now) c.in-Local.field-2 c.in_err-elab_entered-in-Local.ensures
+    (dec_phrase c.in-Local.shown)))
+
+pub declared::elab_shown-is_ready-requires : goal.declared::elab_shown-is_ready-requires
+declared::elab_shown-is_ready-requires t c =
+    λ k. ready_inside (dec_phrase c.get.result.now) c.elab_entered.new.all c.in-Local.field-2
+    c.in_ok-elab_entered-in-Local.ensures c.requires.scope k
+
+pub declared::elab_shown-returns-in_ok-elab_entered-in-Local : goal.declared::elab_shown-returns-in_ok-elab_entered-in-Local
+declared::elab_shown-returns-in_ok-elab_entered-in-Local t c =
+    shown_as (ap dec_phrase c.in-Local.is ∙ dec_phrase-Local c.in-Local.hidden c.in-Local.shown c.in-Local.field-2
+    ∙ ap₂ (λ p q. DecPhrase.Local (dec_phrase p) (dec_phrase q) c.in-Local.field-2) (sym c.get.ensures) (sym c.get-in-Local.ensures))
+    (shown_behind (dec_phrase c.get.result.now) c.elab_entered.new.all c.in-Local.field-2
+    c.in_ok-elab_entered-in-Local.ensures (dec_phrase c.get-in-Local.result.now) c.elab_declared.result
+    c.requires.scope.core c.elab_declared.ensures)
+
+pub declared::elab_entered-returns-in-Sequence : goal.declared::elab_entered-returns-in-Sequence
+declared::elab_entered-returns-in-Sequence t c =
+    enters_as (ap dec_phrase c.in-Sequence.is ∙ dec_phrase-Sequence c.in-Sequence.decs c.in-Sequence.field-1
+    ∙ ap (λ decs. DecPhrase.Sequence (dec_phrases (map dec_phrase decs)) c.in-Sequence.field-1)
+    (sym c.as_slice.ensures)) (enters_all c.in-Sequence.field-1 c.requires.scope.core c.elab_each.ensures)
+
+pub declared::elab_entered-returns-in_err-made-in_default : goal.declared::elab_entered-returns-in_err-made-in_default
+declared::elab_entered-returns-in_err-made-in_default t c =
+    passed_on (Enters (moment c.args.g.now c.args.t.now c.args.scope.now) (dec_phrase c.args.dec.now) c.args.all.now
+    (moment c.elab_declared.new.g c.elab_declared.new.t c.elab_declared.new.scope)) c.from_residual.result
+    c.in_err-made-in_default.field-0.0 c.from_residual.ensures.1
+    (enters_failed (dec_phrase c.args.dec.now) c.requires.front c.in_err-made-in_default.ensures)
+
+pub declared::elab_entered-returns-in_err-enter_behind-in_default : goal.declared::elab_entered-returns-in_err-enter_behind-in_default
+declared::elab_entered-returns-in_err-enter_behind-in_default t c =
+    passed_on (Enters (moment c.args.g.now c.args.t.now c.args.scope.now) (dec_phrase c.args.dec.now) c.enter_behind.new.all
+    (moment c.elab_declared.new.g c.enter_behind.new.t c.enter_behind.new.scope))
+    c.from_residual-in_err-enter_behind-in_default.result fault.NoMemory
+    c.from_residual-in_err-enter_behind-in_default.ensures.1
+    (enters_memory (dec_phrase c.args.dec.now) c.in_ok-made-in_default.made c.enter_behind.ensures.kept
+    c.in_ok-made-in_default.ensures c.enter_behind.new.all c.requires.scope.core c.requires.front
+    c.in_err-enter_behind-in_default.ensures.err)
+
+pub declared::elab_entered-returns-in_ok-enter_behind-in_default : goal.declared::elab_entered-returns-in_ok-enter_behind-in_default
+declared::elab_entered-returns-in_ok-enter_behind-in_default t c =
+    enters_one (dec_phrase c.args.dec.now) c.in_ok-made-in_default.made c.enter_behind.ensures.kept
+    c.in_ok-made-in_default.ensures c.args.all.now c.enter_behind.new.all c.requires.all
+    c.in_ok-enter_behind-in_default.ensures.state
+    (c.in_ok-enter_behind-in_default.ensures.scope c.elab_declared.new.g c.in_ok-made-in_default.ensures.envs)
+    c.in_ok-enter_behind-in_default.ensures.all
