@@ -68,14 +68,6 @@ pub at_once : {W R : Type 0} {m : Moment} {want : Scope → Answer W} {reads : M
 at_once {W} {R} {m} {want} {reads} {have} core =
     memory (passes_table m m.table m.scope (keeps_all m.table)) refl core
 
--- .. or when the table alone has grown
-pub at_entering : {W R : Type 0} {g : Graph} {t u : Table} {sc after : Bindings OwnVariable} {want : Scope → Answer W}
-    {reads : Moment → R → W} {have : Table → R → Type 0} → KeepsTypes t u → after ≡ sc → IsCoreAt (moment g t sc)
-    → Elabs (moment g t sc) want reads have (moment g u after) (Err fault.NoMemory)
-at_entering {W} {R} {g} {t} {u} {sc} {after} keeps same core =
-    let goes : Passes (moment g t sc) (moment g u after) = passes_table (moment g t sc) u after keeps in
-    memory goes same (core_kept core goes same)
-
 -- ---- behind the plain bindings
 
 pub behind_phrase : {p : DecPhrase} (tyvars : List Name) (binds : Rules) (rows : List (PatPhrase × ExpPhrase))

@@ -1,6 +1,6 @@
 -- A declaration that is entered into its scope, and the phrase that stands behind it there. Only private functions cite
 -- this file.
-use Rattle.std.specs.Prelude.{◌≡◌, length, Result, Ok, Err, IfOk}
+use Rattle.std.specs.Prelude.{◌≡◌, length, Bool, true, false, Result, Ok, Err, IfOk}
 use Rattle.cm_base.specs.declared.fault.Fault.{Fault}
 use Rattle.bare_phrases.specs.Phrases.{ExpPhrase, DecPhrase}
 use Rattle.core_scopes.specs.declared.made.Made.{Made}
@@ -14,8 +14,13 @@ use Rattle.core_rules.specs.Declarations.{IsDeclared, IsDeclaredBehind, IsBehind
 use Rattle.core_rules.specs.Joined.{made_where}
 use Rattle.core_elab.specs.declared.exp.LetBody.{LetBody}
 
--- what a declaration makes stands in scope, and marks of the scope before stay good; where that scope were left, it would
--- be as a call answers that leaves it
+-- a declaration is an `open`
+abbrev pub is_open : DecPhrase → Bool
+is_open (DecPhrase.Open longs at) = true
+is_open _ = false
+
+-- what a declaration makes stands in scope, and marks of the scope before stay good; with that scope left, the answer is
+-- that of a call that leaves it
 pub record Enters (old : Moment) (phrase : DecPhrase) (all : Made OwnVariable) (new : Moment)
     (result : Result (Unit {0}) Fault) : Type 0 where
   pub declares : IsDeclared old phrase (moment new.graph new.table old.scope) (made_where all result)

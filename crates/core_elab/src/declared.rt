@@ -9,11 +9,11 @@ ghost use Rattle.core_rules.specs.Declarations.{IsDeclared};
 ghost use Rattle.core_rules.specs.Joined.{IsNothing, AreDeclared, AreEntered};
 ghost use Rattle.core_elab.specs.Inside.{Enters, IsShown};
 
-use crate::opening::opens;
+use crate::entering::enter_declared;
 use crate::ready::is_ready;
 use crate::val::elab_val;
 use cm_base::Fault;
-use core_rules::{enter_behind, made_where, nothing_made};
+use core_rules::{made_where, nothing_made};
 use core_scopes::Made;
 use declaration_forms::{
     check_made, declare_datatypes, declare_exceptions, declare_open, declare_replica, declare_types,
@@ -84,9 +84,8 @@ fn elab_shown(
     }
 }
 
-/// A declaration that is entered into the scope in which it stands, each of a sequence behind those before it. What it
-/// makes is added to nothing. What an `open` brings is bound without its schemes in the table, since most of it is never
-/// used.
+/// A declaration that is entered into the scope in which it stands, each of a sequence behind those before it. `all` has
+/// nothing before, and what was made behind it.
 #[cycle(elab_in_scope)]
 pub(crate) fn elab_entered(
     alloc: Global,
@@ -105,7 +104,7 @@ pub(crate) fn elab_entered(
         Dec::Sequence(decs, _) => elab_each(alloc, g, t, scope, decs.as_slice(), all),
         _ => {
             let made = elab_declared(alloc, g, t, scope, dec)?;
-            enter_behind(alloc, t, scope, all, made, !opens(dec))?;
+            enter_declared(alloc, t, scope, all, made, dec)?;
             Ok(())
         }
     }
@@ -150,7 +149,7 @@ fn elab_each(
     for dec in decs {
         is_ready(g, t, scope);
         let made = elab_declared(alloc, g, t, scope, dec)?;
-        enter_behind(alloc, t, scope, all, made, !opens(dec))?;
+        enter_declared(alloc, t, scope, all, made, dec)?;
         t.is_kept();
     }
     Ok(())

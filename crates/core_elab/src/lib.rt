@@ -3,8 +3,8 @@
 
 mod binds;
 mod declared;
+mod entering;
 mod exp;
-mod opening;
 mod patterns;
 mod ready;
 mod rec_exps;

@@ -9,8 +9,6 @@ use Rattle.semantic_objects.specs.Environments.{Env}
 use Rattle.unification.specs.Types.{Ty, State}
 use Rattle.unification.specs.Unification.{depth}
 use Rattle.type_nodes.specs.Tables.{Table, state}
-use Rattle.type_nodes.specs.Keeping.{IsKept}
-use Rattle.closing_laws.specs.Promises.{IsOfState}
 use Rattle.sml_modules.specs.declared.parts.NamedEnv.{NamedEnv}
 use Rattle.sml_modules.specs.Graphs.{Graph, HasEnvs}
 use Rattle.bare_phrases.specs.Phrases.{ExpPhrase, DecPhrase}
@@ -22,12 +20,12 @@ use Rattle.core_scopes.specs.Marks.{env_of_made}
 use Rattle.type_phrases.specs.Inferred.{Answers, KeepsTypes, home_scope, progress}
 use Rattle.type_phrases.proofs.Keeping.{keeps_all, keeps_later}
 use Rattle.pattern_elab.specs.declared.own.OwnVariable.{OwnVariable}
-use Rattle.pattern_elab.specs.Scopes.{own_entry, scope_of}
+use Rattle.pattern_elab.specs.Scopes.{own_entry}
 use Rattle.value_closing.specs.Under.{IsUnder}
 use Rattle.core_rules.specs.Rules.{IsRule}
 use Rattle.core_rules.specs.Moments.{Moment, moment, progress_at, IsCoreAt, typed_as, Passes, Elabs}
 use Rattle.core_rules.specs.Expressions.{IsExp, ends_sized}
-use Rattle.core_rules.specs.Ready.{made_at, IsReadyBehind}
+use Rattle.core_rules.specs.Ready.{made_at}
 use Rattle.pattern_elab.proofs.Scoping.{core_later}
 use Rattle.core_rules.specs.Values.{read_made}
 use Rattle.core_rules.specs.Declarations.{Declares, IsDeclared, IsDeclaredBehind, IsBehind, Whatever, dec_sized}
@@ -69,11 +67,6 @@ pub same_table : {m : Moment} {want : Scope → Answer (Env × Progress)} {r : R
     (new : Table) → new ≡ m.table → Declares m want m r → Declares m want (moment m.graph new m.scope) r
 same_table {m} {want} {r} new e h =
     subst (λ (z : Table). Declares m want (moment m.graph z m.scope) r) (sym e) h
-
-pub declared_passed : {old new : Moment} {want : Scope → Answer (Env × Progress)}
-    {x : Result (Made OwnVariable) Fault} (r : Result (Made OwnVariable) Fault) → r ≡ x
-    → Declares old want new x → Declares old want new r
-declared_passed {old} {new} {want} {x} r e h = subst (λ z. Declares old want new z) (sym e) h
 
 -- a phrase as it is written
 pub as_dec : {old new : Moment} {p q : DecPhrase} {r : Result (Made OwnVariable) Fault} → p ≡ q
@@ -165,44 +158,11 @@ module _ {m0 m1 : Moment} (hidden shown : DecPhrase) (at : At) where
         envs = ends.envs;
       })
 
--- ---- a table that grew before, of which as much is known
+-- ---- a table that grew behind a declaration, of which as much is known
 
 progress_same : (g : Graph) (t new : Table) → state new ≡ state t → progress new g ≡ progress t g
 progress_same g t new e = ap (λ (s : State). (let p : Progress = record { types = s; names = length g.made } in p)) e
 
-passes_before : {g : Graph} {t t1 : Table} {sc : Bindings OwnVariable} {new : Moment} → KeepsTypes t t1
-    → Passes (moment g t1 sc) new → Passes (moment g t sc) new
-passes_before {g} {t} {t1} {sc} {new} k p =
-    record { graph = p.graph; home = p.home; ids = keeps_later t t1 new.table k p.ids }
-
-pub declared_before : {g : Graph} {t t1 : Table} {sc : Bindings OwnVariable} {new : Moment}
-    {r : Result (Made OwnVariable) Fault} (made : Made OwnVariable) (p : DecPhrase) → KeepsTypes t t1 → state t1 ≡ state t
-    → IsDeclaredBehind (moment g t1 sc) made p new r → IsDeclaredBehind (moment g t sc) made p new r
-declared_before {g} {t} {t1} {sc} {new} {r} made p k e h = record {
-  elabs = record {
-    infers = subst (λ (st : Progress). Answers (infer_dec depth (under (made_at (moment g t sc) made) (scope_of g sc)) p st)
-        (read_made new) r) (progress_same g t t1 e) h.elabs.infers;
-    has = h.elabs.has;
-    goes = passes_before k h.elabs.goes;
-    left = h.elabs.left;
-    core = h.elabs.core;
-  };
-  envs = h.envs;
-}
-
-pub typed_before : {g : Graph} {t t1 : Table} {sc : Bindings OwnVariable} {new : Moment} {r : Result TyId Fault}
-    (made : Made OwnVariable) (p : ExpPhrase) → KeepsTypes t t1 → state t1 ≡ state t → IsBehind (moment g t1 sc) made p new r
-    → IsBehind (moment g t sc) made p new r
-typed_before {g} {t} {t1} {sc} {new} {r} made p k e h = record {
-  infers = subst (λ (st : Progress). Answers (infer_exp depth (under (made_at (moment g t sc) made) (scope_of g sc)) p st)
-      (typed_as new) r) (progress_same g t t1 e) h.infers;
-  has = h.has;
-  goes = passes_before k h.goes;
-  left = h.left;
-  core = h.core;
-}
-
--- .. and after
 pub made_after : {old : Moment} {g : Graph} {t t1 : Table} {sc : Bindings OwnVariable} (made : Made OwnVariable) (p : DecPhrase)
     → KeepsTypes t t1 → state t1 ≡ state t → IsDeclared old p (moment g t sc) (Ok made)
     → IsDeclared old p (moment g t1 sc) (Ok made)
@@ -220,16 +180,6 @@ made_after {old} {g} {t} {t1} {sc} made p k e h = record {
     core = core_later g t t1 sc k h.elabs.core;
   };
   envs = h.envs;
-}
-
--- what a declaration made is ready to be entered
-pub behind_after : {g : Graph} {t t1 : Table} {sc : Bindings OwnVariable} (made : Made OwnVariable) → KeepsTypes t t1
-    → state t1 ≡ state t → IsKept t1 → IsReadyBehind (moment g t sc) made → IsReadyBehind (moment g t1 sc) made
-behind_after {g} {t} {t1} {sc} made k e kept r = record {
-  core = core_later g t t1 sc k r.core;
-  kept = kept;
-  state = subst (IsOfState (under (made_at (moment g t sc) made) (scope_of g sc))) (sym (progress_same g t t1 e)) r.state;
-  envs = r.envs;
 }
 
 -- ---- what stands under what a declaration made

@@ -1,6 +1,6 @@
 //! What declarations make, one after another.
 
-ghost use Rattle.std.specs.Prelude.{◌≡◌, ◌++◌, IfOk, IsTrue, OnOk, OnErr};
+ghost use Rattle.std.specs.Prelude.{◌≡◌, ◌++◌, IsTrue, OnOk, OnErr};
 ghost use Rattle.sml_modules.specs.Graphs.{Graph, HasEnvs};
 ghost use Rattle.type_nodes.specs.Tables.{state};
 ghost use Rattle.core_scopes.specs.Marks.{env_of_made};
@@ -86,8 +86,9 @@ pub fn add_made(
 }
 
 /// Enters what a declaration makes into the scope in which the next one stands, and adds it to what those before it make.
-/// The schemes of its values go into the table where that is asked for. Want of memory leaves the scope as it was, and so
-/// does a scheme that isn't one of this table. The Definition of Standard ML (Revised), rule 24.
+/// The schemes of its values go into the table where that is asked for. One in which a variable is free that the table
+/// doesn't have is refused as want of memory is, and that leaves the scope as it was; what is added then may stay. The
+/// Definition of Standard ML (Revised), rule 24.
 pub fn enter_behind(
     alloc: Global,
     t: &mut TypeTable,
@@ -99,7 +100,7 @@ pub fn enter_behind(
     ensures all { OnOk result (all.new ≡ joined all.old made) }
     ensures scope { OnOk result ((g : Graph) → HasEnvs g made.structures
         → IsUnder g t.new (env_of_made g own_entry made) scope.old scope.new) }
-    ensures given { IsTrue with_schemes → OnOk result (BindsGiven scope.old scope.new) }
+    ensures given { IsTrue with_schemes → OnOk result (BindsGiven made.values scope.old scope.new) }
     ensures state { OnOk result (state t.new ≡ state t.old) }
     ensures kept { KeepsTypes t.old t.new }
     ensures err { OnErr result (scope.new ≡ scope.old) }

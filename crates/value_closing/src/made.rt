@@ -18,8 +18,8 @@ use std::alloc::Global;
 /// Enters what a declaration makes into the scope in which it stands; with the schemes of its values into the table where
 /// that is asked for, so that a use of a value copies no more of its type than what the scheme's variables stand in. Where
 /// it isn't, since most of what an `open` brings is never used, each use copies the whole type. A mark from before leaves
-/// the scope again. Want of memory leaves the scope as it was, and so does a scheme that isn't one of this table. The
-/// Definition of Standard ML (Revised), section 4.3.
+/// the scope again. A scheme that is asked for, in which a variable is free that the table doesn't have, is refused as want
+/// of memory is, and that leaves the scope as it was. The Definition of Standard ML (Revised), section 4.3.
 pub fn enter_made(
     alloc: Global,
     t: &mut TypeTable,
@@ -29,7 +29,7 @@ pub fn enter_made(
 ) -> Result<(), NoMemory>
     ensures ok { OnOk result ((g : Graph) → HasEnvs g made.structures
         → IsUnder g t.new (env_of_made g own_entry made) scope.old scope.new) }
-    ensures given { IsTrue with_schemes → OnOk result (BindsGiven scope.old scope.new) }
+    ensures given { IsTrue with_schemes → OnOk result (BindsGiven made.values scope.old scope.new) }
     ensures state { OnOk result (state t.new ≡ state t.old) }
     ensures kept { KeepsTypes t.old t.new }
     ensures err { OnErr result (scope.new ≡ scope.old) }

@@ -15,7 +15,8 @@ use pattern_elab::OwnVariable;
 use sml_types::{TableScheme, TypeTable};
 use std::alloc::Global;
 
-/// What the table has of the scheme of a value from now on: nothing of a variable that a pattern bound.
+/// What the table has of the scheme of a value from now on: nothing of a variable that a pattern bound. A scheme in which
+/// a variable is free that the table doesn't have is refused as want of memory is.
 fn entered_of(
     t: &mut TypeTable,
     value: &ValueInScope<OwnVariable>,
@@ -31,7 +32,7 @@ fn entered_of(
     }
 }
 
-/// A value as it is bound, with its scheme in the table where that is asked for.
+/// A value as it is bound, with its scheme in the table where that is asked for, or refused for it.
 fn bound_value(
     t: &mut TypeTable,
     value: ValueInScope<OwnVariable>,
@@ -51,7 +52,7 @@ fn bound_value(
     Ok(BoundValue { value, scheme })
 }
 
-/// Values as they are bound, with what the table has of their schemes where that is asked for.
+/// Values as they are bound, with what the table has of their schemes where that is asked for, or refused for one.
 pub(crate) fn bound_values(
     alloc: Global,
     t: &mut TypeTable,

@@ -567,9 +567,9 @@ declared::elab_each-loop-dec-preserved t c =
     (ap (λ (decs : List Dec). dec_phrases (map dec_phrase decs))
     (drop_item c.args.decs.now c.loop-dec.dec-index c.dec-item.result c.loop-dec-test.true c.dec-item.is))
     c.is_ready.ensures.kept c.is_kept.ensures
-    (made_after c.in_ok-made.made (dec_phrase c.dec-item.result) c.enter_behind.ensures.kept
-    c.in_ok-enter_behind.ensures.state c.in_ok-made.ensures)
-    (c.in_ok-enter_behind.ensures.scope c.elab_declared.new.g c.in_ok-made.ensures.envs) c.in_ok-enter_behind.ensures.all
+    (made_after c.in_ok-made.made (dec_phrase c.dec-item.result) c.enter_declared.ensures.kept
+    c.in_ok-enter_declared.ensures.state c.in_ok-made.ensures)
+    (c.in_ok-enter_declared.ensures.scope c.elab_declared.new.g c.in_ok-made.ensures.envs) c.in_ok-enter_declared.ensures.all
 
 pub declared::elab_each-returns-in_err-made : goal.declared::elab_each-returns-in_err-made
 declared::elab_each-returns-in_err-made t c =
@@ -582,15 +582,15 @@ declared::elab_each-returns-in_err-made t c =
     (drop_item c.args.decs.now c.loop-dec.dec-index c.dec-item.result c.loop-dec-test.true c.dec-item.is))
     c.in_err-made.ensures)
 
-pub declared::elab_each-returns-in_err-enter_behind : goal.declared::elab_each-returns-in_err-enter_behind
-declared::elab_each-returns-in_err-enter_behind t c =
+pub declared::elab_each-returns-in_err-enter_declared : goal.declared::elab_each-returns-in_err-enter_declared
+declared::elab_each-returns-in_err-enter_declared t c =
     passed_on (AreEntered (moment c.args.g.now c.args.t.now c.args.scope.now)
-    (dec_phrases (map dec_phrase c.args.decs.now)) c.enter_behind.new.all
-    (moment c.elab_declared.new.g c.enter_behind.new.t c.enter_behind.new.scope))
-    c.from_residual-in_err-enter_behind.result fault.NoMemory c.from_residual-in_err-enter_behind.ensures.1
+    (dec_phrases (map dec_phrase c.args.decs.now)) c.enter_declared.new.all
+    (moment c.elab_declared.new.g c.enter_declared.new.t c.enter_declared.new.scope))
+    c.from_residual-in_err-enter_declared.result fault.NoMemory c.from_residual-in_err-enter_declared.ensures.1
     (decs_memory c.loop-dec.invariant (ap (λ (decs : List Dec). dec_phrases (map dec_phrase decs))
     (drop_item c.args.decs.now c.loop-dec.dec-index c.dec-item.result c.loop-dec-test.true c.dec-item.is))
-    c.enter_behind.ensures.kept c.in_ok-made.ensures c.in_err-enter_behind.ensures.err)
+    c.enter_declared.ensures.kept c.in_ok-made.ensures c.in_err-enter_declared.ensures.err)
 
 pub declared::elab_each-returns : goal.declared::elab_each-returns
 declared::elab_each-returns t c =
@@ -840,20 +840,20 @@ declared::elab_entered-returns-in_err-made-in_default t c =
     c.in_err-made-in_default.field-0.0 c.from_residual.ensures.1
     (enters_failed (dec_phrase c.args.dec.now) c.requires.front c.in_err-made-in_default.ensures)
 
-pub declared::elab_entered-returns-in_err-enter_behind-in_default : goal.declared::elab_entered-returns-in_err-enter_behind-in_default
-declared::elab_entered-returns-in_err-enter_behind-in_default t c =
-    passed_on (Enters (moment c.args.g.now c.args.t.now c.args.scope.now) (dec_phrase c.args.dec.now) c.enter_behind.new.all
-    (moment c.elab_declared.new.g c.enter_behind.new.t c.enter_behind.new.scope))
-    c.from_residual-in_err-enter_behind-in_default.result fault.NoMemory
-    c.from_residual-in_err-enter_behind-in_default.ensures.1
-    (enters_memory (dec_phrase c.args.dec.now) c.in_ok-made-in_default.made c.enter_behind.ensures.kept
-    c.in_ok-made-in_default.ensures c.enter_behind.new.all c.requires.scope.core c.requires.front
-    c.in_err-enter_behind-in_default.ensures.err)
+pub declared::elab_entered-returns-in_err-enter_declared-in_default : goal.declared::elab_entered-returns-in_err-enter_declared-in_default
+declared::elab_entered-returns-in_err-enter_declared-in_default t c =
+    passed_on (Enters (moment c.args.g.now c.args.t.now c.args.scope.now) (dec_phrase c.args.dec.now) c.enter_declared.new.all
+    (moment c.elab_declared.new.g c.enter_declared.new.t c.enter_declared.new.scope))
+    c.from_residual-in_err-enter_declared-in_default.result fault.NoMemory
+    c.from_residual-in_err-enter_declared-in_default.ensures.1
+    (enters_memory (dec_phrase c.args.dec.now) c.in_ok-made-in_default.made c.enter_declared.ensures.kept
+    c.in_ok-made-in_default.ensures c.enter_declared.new.all c.requires.scope.core c.requires.front
+    c.in_err-enter_declared-in_default.ensures.err)
 
-pub declared::elab_entered-returns-in_ok-enter_behind-in_default : goal.declared::elab_entered-returns-in_ok-enter_behind-in_default
-declared::elab_entered-returns-in_ok-enter_behind-in_default t c =
-    enters_one (dec_phrase c.args.dec.now) c.in_ok-made-in_default.made c.enter_behind.ensures.kept
-    c.in_ok-made-in_default.ensures c.args.all.now c.enter_behind.new.all c.requires.all
-    c.in_ok-enter_behind-in_default.ensures.state
-    (c.in_ok-enter_behind-in_default.ensures.scope c.elab_declared.new.g c.in_ok-made-in_default.ensures.envs)
-    c.in_ok-enter_behind-in_default.ensures.all
+pub declared::elab_entered-returns-in_ok-enter_declared-in_default : goal.declared::elab_entered-returns-in_ok-enter_declared-in_default
+declared::elab_entered-returns-in_ok-enter_declared-in_default t c =
+    enters_one (dec_phrase c.args.dec.now) c.in_ok-made-in_default.made c.enter_declared.ensures.kept
+    c.in_ok-made-in_default.ensures c.args.all.now c.enter_declared.new.all c.requires.all
+    c.in_ok-enter_declared-in_default.ensures.state
+    (c.in_ok-enter_declared-in_default.ensures.scope c.elab_declared.new.g c.in_ok-made-in_default.ensures.envs)
+    c.in_ok-enter_declared-in_default.ensures.all

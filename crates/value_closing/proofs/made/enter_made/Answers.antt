@@ -14,5 +14,9 @@ returns-clause-ok c = λ g h.
     (c.in_ok-bind_entered.ensures.ok g h)
 
 pub returns-clause-given : goal.returns-clause-given
-returns-clause-given c = λ w.
-    (bound_rows c.in_ok-values.values, c.in_ok-bind_entered.ensures.bound, c.in_ok-values.ensures.given w)
+returns-clause-given c = λ w. (
+  bound_rows c.in_ok-values.values,
+  c.in_ok-bind_entered.ensures.bound,
+  c.in_ok-values.ensures.rows,
+  c.in_ok-values.ensures.given w,
+)
