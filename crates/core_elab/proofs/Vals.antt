@@ -14,13 +14,10 @@ use Rattle.bare_phrases.specs.PhraseOf.{rule_phrase, rules_of}
 use Rattle.static_semantics.specs.Inferring.{Scope, Answer}
 use Rattle.core_scopes.specs.declared.made.Made.{Made}
 use Rattle.pattern_elab.specs.declared.own.OwnVariable.{OwnVariable}
-use Rattle.sml_modules.specs.Graphs.{Graph}
-use Rattle.core_scopes.specs.Scopes.{Bindings}
-use Rattle.type_phrases.specs.Inferred.{KeepsTypes}
 use Rattle.type_phrases.proofs.Keeping.{keeps_all}
-use Rattle.core_rules.specs.Moments.{Moment, moment, IsCoreAt, Passes, Elabs}
+use Rattle.core_rules.specs.Moments.{Moment, IsCoreAt, Elabs}
 use Rattle.core_rules.specs.Values.{AreRecsUnder, IsValUnder, IsVal}
-use Rattle.core_rules.proofs.Chains.{passes_table, core_kept, memory}
+use Rattle.core_rules.proofs.Chains.{passes_table, memory}
 use Rattle.core_elab.specs.Vals.{AreRecsOf, IsValOf, IsOfValues, binds_of}
 
 -- the phrase of a `val` whose rules are these
