@@ -1,6 +1,6 @@
 //! Instances of schemes.
 
-ghost use Rattle.std.specs.Prelude.{◌≡◌, ◌++◌, ◌<◌, length, false, Some, IfOk, OnErr, OnOk};
+ghost use Rattle.std.specs.Prelude.{◌≡◌, ◌++◌, ◌<◌, ◌≤◌, length, false, None, Some, IfOk, OnErr, OnOk};
 ghost use Rattle.semantic_objects.specs.Nodes.{AreNodes, AreTree, root, tree_at};
 ghost use Rattle.unification.specs.Instances.{instance, with_variables};
 ghost use Rattle.type_nodes.specs.Tables.{Has, state, type_of};
@@ -28,7 +28,8 @@ pub fn add_variables(table: &mut TypeBindings, marks: &[bool]) -> Result<(), NoM
 
 /// The variable with this number, if the table has one.
 pub fn variable(table: &TypeBindings, number: usize) -> Option<TyId>
-    ensures { (id : TyId) → result ≡ Some id → (number < length table.now.births) × (id ≡ TyId.Variable number) }
+    ensures some { (id : TyId) → result ≡ Some id → (number < length table.now.births) × (id ≡ TyId.Variable number) }
+    ensures none { result ≡ None → length table.now.births ≤ number }
 {
     if number < table.variables() {
         Some(TyId::Variable(number))

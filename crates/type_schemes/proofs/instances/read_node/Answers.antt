@@ -35,7 +35,7 @@ returns-in-Some-clause-read c =
     let at : slice_get nodes c.args.at ≡ Some (node.Bound c.in-Bound.i) =
     slice_get_read nodes (length nodes) c.args.at _ refl c.requires.within c.index-nodes-at.is ∙ ap Some c.in-Bound.is in
     read_variable c.args.table.now c.args.base c.in-Some.number _ c.variable.result
-    (ap (instance_at c.args.base) (noted nodes c.args.at _ c.requires.nodes at) ∙ ap Ty.Var (sym c.in-Some.ensures.1)) c.variable.ensures
+    (ap (instance_at c.args.base) (noted nodes c.args.at _ c.requires.nodes at) ∙ ap Ty.Var (sym c.in-Some.ensures.1)) c.variable.ensures.some
 
 pub returns-in-Some-clause-added : goal.returns-in-Some-clause-added
 returns-in-Some-clause-added c = adds_nothing c.args.table.now
@@ -49,7 +49,7 @@ returns-in-Free-clause-read c =
     let at : slice_get nodes c.args.at ≡ Some (node.Free c.in-Free.number) =
     slice_get_read nodes (length nodes) c.args.at _ refl c.requires.within c.index-nodes-at.is ∙ ap Some c.in-Free.is in
     read_variable c.args.table.now c.args.base c.in-Free.number _ c.variable-in-Free.result
-    (ap (instance_at c.args.base) (noted nodes c.args.at _ c.requires.nodes at)) c.variable-in-Free.ensures
+    (ap (instance_at c.args.base) (noted nodes c.args.at _ c.requires.nodes at)) c.variable-in-Free.ensures.some
 
 pub returns-in-Free-clause-added : goal.returns-in-Free-clause-added
 returns-in-Free-clause-added c = adds_nothing c.args.table.now
