@@ -1,0 +1,305 @@
+"""Proves the crates of this repository, in a folder of their own, by the steps of the toolchain's `rt`."""
+import contextlib
+import copy
+import fcntl
+import importlib.machinery
+import importlib.util
+import json
+import os
+import re
+import signal
+import subprocess
+import sys
+import tempfile
+import time
+import traceback
+
+TOP = os.path.dirname(os.path.dirname(os.path.realpath(__file__)))
+UNKNOWN_SECONDS = 60
+# The memory that is counted for a proof.
+KILOBYTES_EACH = 4 << 20
+# How the process of a crate ends.
+PROVED, FAILED, KEPT, KILLED = 0, 1, 2, 3
+TOLD = {PROVED: "proved", FAILED: "NOT PROVED", KEPT: "kept by an earlier run", KILLED: "killed"}
+
+
+def place_of_clone():
+    """Returns the folder in which the files of this clone are proved as they stand."""
+    cache = os.environ.get("XDG_CACHE_HOME") or os.path.expanduser("~/.cache")
+    return f"{cache}/cm{TOP.replace('/', '-')}"
+
+
+def load_rt():
+    """Loads the toolchain's `rt`, whose steps are called here."""
+    found = subprocess.run(["sh", "-c", "command -v rt"], capture_output=True, text=True).stdout.strip()
+    path = os.path.realpath(found or "/opt/rattle/bin/rt")
+    loader = importlib.machinery.SourceFileLoader("rt_main", path)
+    made = importlib.util.module_from_spec(importlib.util.spec_from_loader("rt_main", loader))
+    sys.modules["rt_main"] = made
+    loader.exec_module(made)
+    return made
+
+
+def below_once(rt):
+    """Has each crate remember those below it, which rt finds anew at each way that leads to it."""
+
+    def below(crate):
+        if not hasattr(crate, "known_below"):
+            crate.known_below = list({it.name: it for dep in crate.deps for it in [*below(dep), dep]}.values())
+        return list(crate.known_below)
+
+    rt.rtlib.Crate.below = below
+
+
+def with_files(rt):
+    """Has each program know its files args and status, as rt has it."""
+    made = rt.rtlib.Crate.__init__
+
+    def make(crate, *given, **named):
+        made(crate, *given, **named)
+        rt.read_files(crate)
+
+    rt.rtlib.Crate.__init__ = make
+
+
+def pack(as_is):
+    """Starts to write what is to be proved, as an archive: the last commit, or the files as they stand."""
+    words = ["git", "-C", TOP, "archive", "HEAD"]
+    if as_is:
+        no_out = ["--anchored", "--no-wildcards-match-slash", "--exclude=crates/*/out"]
+        words = ["tar", "-c", "-C", TOP, *no_out, "crates.txt", "HANDLES", "crates"]
+    return subprocess.Popen(words, stdout=subprocess.PIPE)
+
+
+def unpack(folder, as_is):
+    """Brings what is to be proved into the folder. What was built there of a crate stays."""
+    os.makedirs(f"{folder}/repo/.git", exist_ok=True)
+    with tempfile.TemporaryDirectory(dir=folder) as room:
+        packed = pack(as_is)
+        unpacked = subprocess.run(["tar", "-x", "-C", room], stdin=packed.stdout).returncode
+        if packed.wait() or unpacked:
+            sys.exit(f"tools/prove: the files to prove can't be read, or not be written in {folder}")
+        for at, _, names in os.walk(f"{folder}/repo"):
+            inside = os.path.relpath(at, f"{folder}/repo")
+            if not re.match(r"\.git(/|$)|crates/\w+/out(/|$)", inside):
+                for name in names:
+                    if not os.path.isfile(f"{room}/{inside}/{name}"):
+                        os.remove(f"{at}/{name}")
+        subprocess.run(["cp", "-a", f"{room}/.", f"{folder}/repo"], check=True)
+
+
+def seconds_of_crates():
+    """Reads the table of figures."""
+    with open(f"{TOP}/docs/DEVELOPING.md", encoding="utf-8") as it:
+        return {name: int(count) for name, count in re.findall(r"(?m)^\| `(\w+)` \| \d+ \| (\d+) \|", it.read())}
+
+
+def chains(crates):
+    """Returns for each crate how long the longest chain is that begins with it."""
+    seconds, longest = seconds_of_crates(), {}
+    for crate in sorted(crates, key=lambda it: -len(it.below())):
+        longest[crate.name] = longest.get(crate.name, 0) + seconds.get(crate.name, UNKNOWN_SECONDS)
+        for dep in crate.deps:
+            longest[dep.name] = max(longest.get(dep.name, 0), longest[crate.name])
+    return longest
+
+
+def next_ones(ready, running, lanes, killed):
+    """Returns the crates that begin now: one whose proof was killed begins when no other goes on, and none beside it."""
+    if any(it.name in killed for it, _ in running.values()):
+        return []
+    others = [it for it in ready if it.name not in killed]
+    if not others and not running:
+        return ready[:1]
+    return others[: max(0, lanes - len(running))]
+
+
+def processors():
+    return len(os.sched_getaffinity(0))
+
+
+def free_kilobytes():
+    """Returns how much memory is free, by the machine and by the control group."""
+    with open("/proc/meminfo", encoding="utf-8") as it:
+        free = int(re.search(r"(?m)^MemAvailable: +(\d+)", it.read())[1])
+    with contextlib.suppress(OSError, ValueError), open("/sys/fs/cgroup/memory.max", encoding="utf-8") as most:
+        with open("/sys/fs/cgroup/memory.current", encoding="utf-8") as used:
+            free = min(free, (int(most.read()) - int(used.read())) // 1024)
+    return free
+
+
+def default_lanes():
+    """Returns how many proofs go on at once: one a processor and one more, since a proof often waits for one below it, as
+    far as there is memory for each."""
+    count = processors()
+    return max(1, min(count + 1 if count > 1 else 1, free_kilobytes() // KILOBYTES_EACH))
+
+
+def jobs_of_first(count, lanes):
+    """Returns how many parts of a crate are proved at once on which the longest chain stands, where so many crates are
+    proved at once: it has the processors that are left."""
+    return max(1, min(lanes, processors()) - count + 1)
+
+
+class Place:
+    """A folder with a copy of the repository, in which one call at a time proves crates."""
+
+    def __init__(self, folder, as_is, anew=False, runs=True):
+        self.folder, self.root, self.runs = os.path.abspath(folder), f"{os.path.abspath(folder)}/repo", runs
+        try:
+            os.makedirs(f"{self.folder}/logs", exist_ok=True)
+            self.hold()
+        except OSError as it:
+            sys.exit(f"tools/prove: no file can be written in {self.folder}: {it.strerror}")
+        self.rt = load_rt()
+        below_once(self.rt)
+        with_files(self.rt)
+        unpack(self.folder, as_is)
+        os.chdir(self.root)
+        self.rt.Crate.cuts_libraries = True
+        self.rt.Crate.allowed = self.rt.handles_of(self.root)
+        self.every = self.rt.crates_of(self.root)
+        self.kept = self.rt.Kept(self.every, anew)
+        self.stamps, self.seen = {}, f"{self.folder}/proved.json"
+        for it in self.every:
+            self.rt.stamp_of(it, self.stamps)
+        # (the toolchain makes a crate's sum anew at each way that leads to the crate, and twice where it builds one)
+        self.rt.rtlib.Crate.stamp = lambda crate: self.stamps[crate.name]
+        self.proved = {}
+        if os.path.isfile(self.seen):
+            with open(self.seen, encoding="utf-8") as it:
+                self.proved = json.load(it)
+
+    def hold(self):
+        """Waits until no other call works in the folder."""
+        self.lock = open(f"{self.folder}/lock", "w", encoding="utf-8")
+        try:
+            fcntl.flock(self.lock, fcntl.LOCK_EX | fcntl.LOCK_NB)
+        except BlockingIOError:
+            print(f"tools/prove: another call works in {self.folder}; waiting for it", file=sys.stderr, flush=True)
+            fcntl.flock(self.lock, fcntl.LOCK_EX)
+
+    def wanted(self, names):
+        """Returns the crates of these names and those below them, or all crates where none is named."""
+        lacking = sorted(set(names) - {it.name for it in self.every})
+        if lacking:
+            sys.exit(f"tools/prove: crates.txt has no crate {lacking[0]}")
+        found = {it.name for crate in self.every if crate.name in names for it in [crate, *crate.below()]}
+        return [it for it in self.every if not names or it.name in found]
+
+    def crate(self, name):
+        """Returns the crate of this name."""
+        return self.wanted([name])[-1]
+
+    def check(self, crate, words, kept):
+        """Returns the words of a check over the libraries of this folder, which keeps what it checked in another one."""
+        os.makedirs(kept, exist_ok=True)
+        made = crate.words(["--jobs", "1", *words], keeps=False)
+        return [self.rt.rtlib.RATTLE, "check", *made, "--incremental", kept]
+
+    def marks(self, crate):
+        """Returns what is noted of a crate that is proved, for each way that serves: a program that wasn't run is no more
+        than proved."""
+        stamp = self.stamps[crate.name]
+        return [stamp] if self.runs or not crate.is_program else [f"{stamp} not run", stamp]
+
+    def is_here(self, crate):
+        """Whether the crate was proved in this folder, and is still the same."""
+        is_same = self.proved.get(crate.name) in self.marks(crate)
+        return is_same and self.kept.is_whole(crate, False, self.kept.made(crate, False))
+
+    def note(self, crate):
+        """Notes that a crate is proved."""
+        self.kept.is_built(crate)
+        self.proved[crate.name] = self.marks(crate)[0]
+        with open(self.seen, "w", encoding="utf-8") as it:
+            json.dump(self.proved, it)
+
+    def said_of(self, crate):
+        """Returns what was said of a crate when it was proved."""
+        with contextlib.suppress(OSError), open(f"{self.folder}/logs/{crate.name}", errors="replace") as it:
+            return it.read()
+        return ""
+
+    def prove(self, crate, jobs):
+        """Proves and runs one crate, in a process of its own, and returns the status to end with."""
+        rt, kept = self.rt, self.kept
+        # (its first call sets a signal's handler, which only the main thread may)
+        rt.rtlib.guarded()
+        key = kept.key(crate)
+        with open(f"{self.folder}/logs/{crate.name}", "w+", encoding="utf-8", errors="replace") as crate.out:
+            os.dup2(crate.out.fileno(), 1)
+            os.dup2(crate.out.fileno(), 2)
+            for look in (rt.rtlib.stop_on_links, lambda it: rt.rtlib.stop_on_unread(it, self.every)):
+                look(crate.folder)
+            rt.rtlib.stop_on_text(crate, "verdict")
+            rt.stop_on_words(crate)
+            os.makedirs(f"{crate.folder}/out", exist_ok=True)
+            is_given = kept.give(crate, False, key)
+            if not is_given:
+                status = rt.rtlib.fmt(crate.folder, "--check", crate.out) or crate.ci(["--jobs", str(jobs)], False)
+                if status:
+                    return KILLED if status == -signal.SIGKILL else FAILED
+                kept.is_built(crate)
+                kept.keep(crate, False, key)
+            ends = rt.BACKENDS.values() if crate.is_program and self.runs else ()
+            made = [it for it in ends if os.path.isfile(f"{crate.folder}/out/{crate.name}{it}")]
+            is_well = all([rt.run(crate, False, it) for it in made])
+            return FAILED if not is_well else KEPT if is_given else PROVED
+
+    def start(self, crate, is_first, jobs):
+        """Starts a proof, and returns its process."""
+        print(f"{crate.name} begun", flush=True)
+        child = os.fork()
+        if child:
+            return child
+        status = FAILED
+        try:
+            os.nice(0 if is_first else 5)
+            status = self.prove(copy.copy(crate), jobs)
+        except SystemExit:
+            pass
+        except BaseException:
+            traceback.print_exc()
+        finally:
+            os._exit(status)
+
+    def prove_all(self, crates, lanes=None):
+        """Proves crates, tells of each, and returns the names of those that failed or stand on one."""
+        lanes = lanes or default_lanes()
+        running, failed, killed = {}, [], set()
+        rank = chains(crates)
+        left = sorted((it for it in crates if not self.is_here(it)), key=lambda it: -rank[it.name])
+        for it in [it for it in crates if it not in left]:
+            self.kept.is_built(it)
+            print(f"{it.name} proved before", flush=True)
+        while left or running:
+            lost = [it for it in left if any(dep.name in failed for dep in it.deps)]
+            for it in lost:
+                print(f"{it.name} not proved: it stands on one that failed", flush=True)
+            failed += [it.name for it in lost]
+            left = [it for it in left if it not in lost]
+            open_names = {it.name for it in left} | {it.name for it, _ in running.values()}
+            ready = [it for it in left if not any(dep.name in open_names for dep in it.deps)]
+            begins = next_ones(ready, running, lanes, killed)
+            jobs = jobs_of_first(len(begins) + len(running), lanes)
+            for it in begins:
+                is_first = all(rank[it.name] >= rank[other.name] for other, _ in running.values())
+                has_more = is_first and it.name not in killed
+                running[self.start(it, is_first, jobs if has_more else 1)] = it, time.time()
+                left.remove(it)
+            if running:
+                child, status, used = os.wait4(-1, 0)
+                crate, begun = running.pop(child)
+                came_to = os.waitstatus_to_exitcode(status)
+                took = f"{used.ru_utime + used.ru_stime:.0f} processor seconds, {time.time() - begun:.0f} in all"
+                print(f"{crate.name} {TOLD.get(came_to, TOLD[FAILED])}: {took}", flush=True)
+                if came_to in (PROVED, KEPT):
+                    self.note(crate)
+                elif came_to == KILLED and crate.name not in killed:
+                    killed.add(crate.name)
+                    left.append(crate)
+                else:
+                    failed.append(crate.name)
+                    print(self.said_of(crate), end="", flush=True)
+        return failed
