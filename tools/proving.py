@@ -163,8 +163,6 @@ class Place:
         self.stamps, self.seen = {}, f"{self.folder}/proved.json"
         for it in self.every:
             self.rt.stamp_of(it, self.stamps)
-        # (the toolchain makes a crate's sum anew at each way that leads to the crate, and twice where it builds one)
-        self.rt.rtlib.Crate.stamp = lambda crate: self.stamps[crate.name]
         self.proved = {}
         if os.path.isfile(self.seen):
             with open(self.seen, encoding="utf-8") as it:
