@@ -10,6 +10,7 @@ ghost use Rattle.command_words.specs.Words.{call_of};
 ghost use Rattle.tool_deriving.specs.Toolboxes.{rules_of};
 ghost use Rattle.group_loader.specs.Loading.{Failed, Tends, states_by};
 ghost use Rattle.command_parts.specs.Headline.{Ends, IsUsageEnd, KeepsOutside, Stays, run_of};
+ghost use Rattle.command_parts.specs.Performing.{LeavesAt};
 ghost use Rattle.command_parts.specs.Sessions.{KeepsTarget};
 ghost use Rattle.cm_top.specs.Headline.{Completes, IsAsPromised, IsComplete, Ran};
 ghost use Rattle.cm_top.specs.Performing.{Performs, stage_of};
@@ -111,7 +112,8 @@ fn run_call<F: Folder, S: Sink, C: Compiler, T: Tool>(
 ///
 /// There a command whose folder, output and tools met no failure ends with the meaning's status, or for want of memory.
 ///
-/// Over any store: it does what `doing_of_call` says; whatever the answer, each path that this doesn't write is as it was,
+/// Over any store: it does what `doing_of_call` says, and where no fault came its status and its files, whatever the
+/// output tells; whatever the answer, each path that this doesn't write is as it was,
 /// and so is each one outside the store but OUT of `link`, the files of a generated project and the paths of a session's
 /// edits. `FolderFault` and `SinkFault` come only where the folder or the sink failed, `ToolFault` only where a tool failed
 /// that this call ran, and `Usage` only for words that mean nothing. The box has the same classes and rules.
@@ -144,6 +146,10 @@ pub fn run_cm<F: Folder, S: Sink, C: Compiler, T: Tool>(
     ensures project { Told (F.holds folder.old) (λ files. KeepsTarget (call_of (map string_bytes words.now)) files
         (F.holds folder.new)) }
     ensures stays { Told (F.holds folder.old) (λ files. Stays C.defines files
+        (meaning_of_call C.defines (rules_of T.class T.rule tools.old) (map string_bytes words.now) files).effect
+        (F.holds folder.new)) }
+    ensures leaves { Told (F.holds folder.old) (λ files. LeavesAt result C.defines files
+        (doing_of_call C.defines (rules_of T.class T.rule tools.old) (map string_bytes words.now) files).effect
         (meaning_of_call C.defines (rules_of T.class T.rule tools.old) (map string_bytes words.now) files).effect
         (F.holds folder.new)) }
     ensures promise { Told (F.holds folder.old) (λ files. Told (S.written out.old) (λ text. IsAsPromised C.defines files

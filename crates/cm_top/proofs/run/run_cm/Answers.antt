@@ -89,6 +89,21 @@ returns-clause-stays g c = λ files is.
     (box_rules g.T.Tool.class g.T.Tool.rule g.T.Tool.ran g.T.Tool.faults c.args.tools.now) c.run_call.ensures.performs in
     all.effect.stays files is
 
+pub returns-clause-leaves : goal.returns-clause-leaves
+returns-clause-leaves g c = λ files is.
+    let by : Definitions = g.C.Compiler.defines in
+    let words = map string_bytes c.args.words.now in
+    let t0 = states_by g.T.Tool.class g.T.Tool.rule g.T.Tool.ran g.T.Tool.faults c.args.tools.now in
+    let t1 = states_by g.T.Tool.class g.T.Tool.rule g.T.Tool.ran g.T.Tool.faults c.run_call.new.tools in
+    let s0 = state_of (g.S.Sink.written c.args.out.now) (g.F.Folder.holds c.args.folder.now)
+    (g.C.Compiler.asked c.args.compiler.now) (g.C.Compiler.asked_skeletons c.args.compiler.now) in
+    let s1 = state_of (g.S.Sink.written c.run_call.new.out) (g.F.Folder.holds c.run_call.new.folder)
+    (g.C.Compiler.asked c.run_call.new.compiler) (g.C.Compiler.asked_skeletons c.run_call.new.compiler) in
+    let all = by_box by words c.run_call.result (stage s0 t0) (stage s1 t1)
+    (rules_of g.T.Tool.class g.T.Tool.rule c.args.tools.now)
+    (box_rules g.T.Tool.class g.T.Tool.rule g.T.Tool.ran g.T.Tool.faults c.args.tools.now) c.run_call.ensures.performs in
+    all.effect.leaves files is
+
 pub returns-clause-promise : goal.returns-clause-promise
 returns-clause-promise g c = λ files is text before.
     let by : Definitions = g.C.Compiler.defines in
