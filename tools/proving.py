@@ -2,12 +2,15 @@
 import contextlib
 import copy
 import fcntl
+import hashlib
 import importlib.machinery
 import importlib.util
 import json
 import os
 import re
+import shutil
 import signal
+import stat
 import subprocess
 import sys
 import tempfile
@@ -17,16 +20,21 @@ import traceback
 TOP = os.path.dirname(os.path.dirname(os.path.realpath(__file__)))
 UNKNOWN_SECONDS = 60
 # The memory that is counted for a proof.
-KILOBYTES_EACH = 4 << 20
+BYTES_EACH = 4 << 30
 # How the process of a crate ends.
 PROVED, FAILED, KEPT, KILLED = 0, 1, 2, 3
 TOLD = {PROVED: "proved", FAILED: "NOT PROVED", KEPT: "kept by an earlier run", KILLED: "killed"}
 
 
 def place_of_clone():
-    """Returns the folder in which the files of this clone are proved as they stand."""
-    cache = os.environ.get("XDG_CACHE_HOME") or os.path.expanduser("~/.cache")
-    return f"{cache}/cm{TOP.replace('/', '-')}"
+    """Returns the folder in which the files of this clone are proved as they stand: no two clones have one."""
+    cache = os.environ.get("XDG_CACHE_HOME", "")
+    if not os.path.isabs(cache):
+        cache = os.path.expanduser("~/.cache")
+    if not os.path.isabs(cache):
+        sys.exit("tools/prove: there is no home directory: set XDG_CACHE_HOME to the folder of a cache")
+    name = TOP.replace("%", "%25").replace("-", "%2D").replace("/", "-")
+    return f"{cache}/cm{name}"
 
 
 def load_rt():
@@ -51,15 +59,30 @@ def below_once(rt):
     rt.rtlib.Crate.below = below
 
 
-def with_files(rt):
-    """Has each program know its files args and status, as rt has it."""
-    made = rt.rtlib.Crate.__init__
+def sum_of_run(crate):
+    """Returns a sum of the files of a crate that only its run reads: what it is given, its data, and what it is to print."""
+    found = hashlib.sha256()
+    for at, folders, names in os.walk(crate.folder):
+        if at == crate.folder:
+            folders[:] = [it for it in folders if it not in ("src", "specs", "proofs", "must-fail", "out")]
+        folders.sort()
+        for name in sorted(names):
+            with open(f"{at}/{name}", "rb") as it:
+                found.update(repr((os.path.relpath(at, crate.folder), name, it.read())).encode())
+    return found.hexdigest()
 
-    def make(crate, *given, **named):
-        made(crate, *given, **named)
-        rt.read_files(crate)
 
-    rt.rtlib.Crate.__init__ = make
+def refusal_of(rt, crate):
+    """Returns why rt refuses the text of a crate whether it is proved or not, if it does."""
+    code = rt.rtlib.code_of(crate.folder)
+    beyond = [it for it, words in rt.REACHES.items() if it not in crate.allowed and re.search(words, code)]
+    if beyond:
+        return f"{crate.name} names what only the handle {beyond[0]} reaches, and HANDLES does not allow it"
+    if re.search(rt.RENAMES, code):
+        return f"{crate.name} renames std, or takes it whole"
+    if re.search(rt.IGNORED, code):
+        return f"{crate.name} has a test under #[ignore]"
+    return None
 
 
 def pack(as_is):
@@ -71,20 +94,37 @@ def pack(as_is):
     return subprocess.Popen(words, stdout=subprocess.PIPE)
 
 
+def kind_of(path):
+    """Returns whether a path is a file, a folder, a link or nothing."""
+    with contextlib.suppress(OSError):
+        return stat.S_IFMT(os.lstat(path).st_mode)
+    return None
+
+
+def remove(path):
+    """Removes a file or a folder with all that is in it."""
+    if kind_of(path) == stat.S_IFDIR:
+        shutil.rmtree(path)
+    else:
+        os.remove(path)
+
+
 def unpack(folder, as_is):
     """Brings what is to be proved into the folder. What was built there of a crate stays."""
     os.makedirs(f"{folder}/repo/.git", exist_ok=True)
     with tempfile.TemporaryDirectory(dir=folder) as room:
         packed = pack(as_is)
         unpacked = subprocess.run(["tar", "-x", "-C", room], stdin=packed.stdout).returncode
+        packed.stdout.close()
         if packed.wait() or unpacked:
             sys.exit(f"tools/prove: the files to prove can't be read, or not be written in {folder}")
-        for at, _, names in os.walk(f"{folder}/repo"):
+        for at, folders, names in os.walk(f"{folder}/repo"):
             inside = os.path.relpath(at, f"{folder}/repo")
-            if not re.match(r"\.git(/|$)|crates/\w+/out(/|$)", inside):
-                for name in names:
-                    if not os.path.isfile(f"{room}/{inside}/{name}"):
-                        os.remove(f"{at}/{name}")
+            folders[:] = [it for it in folders if not re.fullmatch(r"\./\.git|crates/\w+/out", f"{inside}/{it}")]
+            for name in [*names, *folders]:
+                if kind_of(f"{room}/{inside}/{name}") != kind_of(f"{at}/{name}"):
+                    remove(f"{at}/{name}")
+            folders[:] = [it for it in folders if os.path.isdir(f"{at}/{it}")]
         subprocess.run(["cp", "-a", f"{room}/.", f"{folder}/repo"], check=True)
 
 
@@ -114,63 +154,35 @@ def next_ones(ready, running, lanes, killed):
     return others[: max(0, lanes - len(running))]
 
 
-def processors():
-    return len(os.sched_getaffinity(0))
-
-
-def free_kilobytes():
-    """Returns how much memory is free, by the machine and by the control group."""
-    with open("/proc/meminfo", encoding="utf-8") as it:
-        free = int(re.search(r"(?m)^MemAvailable: +(\d+)", it.read())[1])
-    with contextlib.suppress(OSError, ValueError), open("/sys/fs/cgroup/memory.max", encoding="utf-8") as most:
-        with open("/sys/fs/cgroup/memory.current", encoding="utf-8") as used:
-            free = min(free, (int(most.read()) - int(used.read())) // 1024)
-    return free
-
-
-def default_lanes():
-    """Returns how many proofs go on at once: one a processor and one more, since a proof often waits for one below it, as
-    far as there is memory for each."""
-    count = processors()
-    return max(1, min(count + 1 if count > 1 else 1, free_kilobytes() // KILOBYTES_EACH))
-
-
-def jobs_of_first(count, lanes):
-    """Returns how many parts of a crate are proved at once on which the longest chain stands, where so many crates are
-    proved at once: it has the processors that are left."""
-    return max(1, min(lanes, processors()) - count + 1)
-
-
 class Place:
     """A folder with a copy of the repository, in which one call at a time proves crates."""
 
     def __init__(self, folder, as_is, anew=False, runs=True):
         self.folder, self.root, self.runs = os.path.abspath(folder), f"{os.path.abspath(folder)}/repo", runs
         try:
-            os.makedirs(f"{self.folder}/logs", exist_ok=True)
             self.hold()
         except OSError as it:
             sys.exit(f"tools/prove: no file can be written in {self.folder}: {it.strerror}")
         self.rt = load_rt()
         below_once(self.rt)
-        with_files(self.rt)
         unpack(self.folder, as_is)
         os.chdir(self.root)
         self.rt.Crate.cuts_libraries = True
         self.rt.Crate.allowed = self.rt.handles_of(self.root)
         self.every = self.rt.crates_of(self.root)
         self.kept = self.rt.Kept(self.every, anew)
-        self.stamps, self.seen = {}, f"{self.folder}/proved.json"
+        self.stamps, self.notes = {}, {} if anew else self.read_notes()
         for it in self.every:
             self.rt.stamp_of(it, self.stamps)
-        self.proved = {}
-        if os.path.isfile(self.seen):
-            with open(self.seen, encoding="utf-8") as it:
-                self.proved = json.load(it)
 
     def hold(self):
-        """Waits until no other call works in the folder."""
+        """Makes the folder if need be, and waits until no other call works in it."""
+        is_new = not os.path.isdir(self.folder) or not os.listdir(self.folder)
+        if not is_new and not os.path.isfile(f"{self.folder}/lock"):
+            sys.exit(f"tools/prove: {self.folder} has files that are none of tools/prove: name a new folder")
+        os.makedirs(self.folder, exist_ok=True)
         self.lock = open(f"{self.folder}/lock", "w", encoding="utf-8")
+        os.makedirs(f"{self.folder}/logs", exist_ok=True)
         try:
             fcntl.flock(self.lock, fcntl.LOCK_EX | fcntl.LOCK_NB)
         except BlockingIOError:
@@ -190,34 +202,97 @@ class Place:
         return self.wanted([name])[-1]
 
     def check(self, crate, words, kept):
-        """Returns the words of a check over the libraries of this folder, which keeps what it checked in another one."""
+        """Returns the words of a check over the libraries of this folder, which keeps what it checked in another one, and
+        ends when this script does."""
         os.makedirs(kept, exist_ok=True)
         made = crate.words(["--jobs", "1", *words], keeps=False)
-        return [self.rt.rtlib.RATTLE, "check", *made, "--incremental", kept]
+        return [*self.rt.rtlib.guarded(), self.rt.rtlib.RATTLE, "check", *made, "--incremental", kept]
 
-    def marks(self, crate):
-        """Returns what is noted of a crate that is proved, for each way that serves: a program that wasn't run is no more
-        than proved."""
-        stamp = self.stamps[crate.name]
-        return [stamp] if self.runs or not crate.is_program else [f"{stamp} not run", stamp]
+    def default_lanes(self):
+        """Returns how many proofs go on at once: one a processor and one more where there are several, since a proof often
+        waits for one below it, as far as there is memory for each."""
+        count = self.rt.processors()
+        return max(1, min(count + 1 if count > 1 else 1, self.rt.free() // BYTES_EACH))
+
+    def jobs_of_first(self, count, lanes):
+        """Returns how many parts of a crate are proved at once on which the longest chain stands, where so many crates are
+        proved at once: it has the processors that are left."""
+        return max(1, min(lanes, self.rt.processors()) - count + 1)
+
+    # ---- what is noted of crates that are proved
+
+    def read_notes(self):
+        """Returns what is noted of each crate that was proved here: a file that can't be read counts as none."""
+        with contextlib.suppress(OSError, ValueError), open(f"{self.folder}/proved.json", encoding="utf-8") as it:
+            found = json.load(it)
+            return found if isinstance(found, dict) else {}
+        return {}
+
+    def write_notes(self):
+        with open(f"{self.folder}/proved.json.new", "w", encoding="utf-8") as it:
+            json.dump(self.notes, it)
+        os.replace(f"{self.folder}/proved.json.new", f"{self.folder}/proved.json")
+
+    def made(self, crate):
+        """Returns the files that were built of a crate, each with what changes where another one takes its place or it is
+        written to."""
+        found = []
+        for it in self.kept.made(crate, False):
+            st = os.stat(f"{crate.folder}/out/{it}")
+            found.append([it, st.st_ino, st.st_size, st.st_mtime_ns])
+        return found
 
     def is_here(self, crate):
-        """Whether the crate was proved in this folder, and is still the same."""
-        is_same = self.proved.get(crate.name) in self.marks(crate)
-        return is_same and self.kept.is_whole(crate, False, self.kept.made(crate, False))
+        """Whether the crate was proved in this folder, and run where runs are asked for, and all of that is still the
+        same."""
+        note = self.notes.get(crate.name)
+        if not isinstance(note, dict) or note.get("stamp") != self.stamps[crate.name]:
+            return False
+        made = self.made(crate)
+        if note.get("made") != made or not self.kept.is_whole(crate, False, [it[0] for it in made]):
+            return False
+        return not self.runs or not crate.is_program or note.get("ran") == sum_of_run(crate)
+
+    def take(self, crate):
+        """Takes a crate that was proved here as proved: the sum of its library was noted."""
+        self.kept.rlibs[crate.name], self.kept.marks[crate.name] = self.notes[crate.name]["sum"], self.kept.mark(crate)
 
     def note(self, crate):
-        """Notes that a crate is proved."""
+        """Notes that a crate is proved, and run where runs are asked for."""
         self.kept.is_built(crate)
-        self.proved[crate.name] = self.marks(crate)[0]
-        with open(self.seen, "w", encoding="utf-8") as it:
-            json.dump(self.proved, it)
+        self.notes[crate.name] = {
+            "stamp": self.stamps[crate.name],
+            "made": self.made(crate),
+            "sum": self.kept.rlibs[crate.name],
+            "ran": sum_of_run(crate) if self.runs and crate.is_program else None,
+            "kept": self.kept.place(crate, False, self.kept.key(crate)) if self.kept.at else None,
+        }
+        self.write_notes()
+
+    def forget(self, crate):
+        """Notes that a crate isn't proved, before it is."""
+        if self.notes.pop(crate.name, None):
+            self.write_notes()
+
+    def shrink(self):
+        """Has the toolchain's store shrink to its bounds. What stands in this folder stays there too."""
+        self.kept.used |= {it["kept"] for it in self.notes.values() if it["kept"]}
+        self.kept.shrink()
 
     def said_of(self, crate):
         """Returns what was said of a crate when it was proved."""
         with contextlib.suppress(OSError), open(f"{self.folder}/logs/{crate.name}", errors="replace") as it:
             return it.read()
         return ""
+
+    # ---- proving
+
+    def empty(self, crate):
+        """Removes what was built of a crate, of this text or another one. A library that is kept is one file under two
+        names, so nothing may be written into it."""
+        os.makedirs(f"{crate.folder}/out", exist_ok=True)
+        for it in ("rlib", *(crate.name + end for end in self.rt.BACKENDS.values())):
+            self.rt.clear(f"{crate.folder}/out/{it}")
 
     def prove(self, crate, jobs):
         """Proves and runs one crate, in a process of its own, and returns the status to end with."""
@@ -232,7 +307,11 @@ class Place:
                 look(crate.folder)
             rt.rtlib.stop_on_text(crate, "verdict")
             rt.stop_on_words(crate)
-            os.makedirs(f"{crate.folder}/out", exist_ok=True)
+            why = refusal_of(rt, crate)
+            if why:
+                print(why, flush=True)
+                return FAILED
+            self.empty(crate)
             is_given = kept.give(crate, False, key)
             if not is_given:
                 status = rt.rtlib.fmt(crate.folder, "--check", crate.out) or crate.ci(["--jobs", str(jobs)], False)
@@ -248,6 +327,7 @@ class Place:
     def start(self, crate, is_first, jobs):
         """Starts a proof, and returns its process."""
         print(f"{crate.name} begun", flush=True)
+        self.forget(crate)
         child = os.fork()
         if child:
             return child
@@ -264,13 +344,14 @@ class Place:
 
     def prove_all(self, crates, lanes=None):
         """Proves crates, tells of each, and returns the names of those that failed or stand on one."""
-        lanes = lanes or default_lanes()
+        lanes = lanes or self.default_lanes()
         running, failed, killed = {}, [], set()
         rank = chains(crates)
         left = sorted((it for it in crates if not self.is_here(it)), key=lambda it: -rank[it.name])
         for it in [it for it in crates if it not in left]:
-            self.kept.is_built(it)
+            self.take(it)
             print(f"{it.name} proved before", flush=True)
+        is_new = bool(left)
         while left or running:
             lost = [it for it in left if any(dep.name in failed for dep in it.deps)]
             for it in lost:
@@ -280,7 +361,7 @@ class Place:
             open_names = {it.name for it in left} | {it.name for it, _ in running.values()}
             ready = [it for it in left if not any(dep.name in open_names for dep in it.deps)]
             begins = next_ones(ready, running, lanes, killed)
-            jobs = jobs_of_first(len(begins) + len(running), lanes)
+            jobs = self.jobs_of_first(len(begins) + len(running), lanes)
             for it in begins:
                 is_first = all(rank[it.name] >= rank[other.name] for other, _ in running.values())
                 has_more = is_first and it.name not in killed
@@ -289,7 +370,7 @@ class Place:
             if running:
                 child, status, used = os.wait4(-1, 0)
                 crate, begun = running.pop(child)
-                came_to = os.waitstatus_to_exitcode(status)
+                came_to = os.WEXITSTATUS(status) if os.WIFEXITED(status) else KILLED
                 took = f"{used.ru_utime + used.ru_stime:.0f} processor seconds, {time.time() - begun:.0f} in all"
                 print(f"{crate.name} {TOLD.get(came_to, TOLD[FAILED])}: {took}", flush=True)
                 if came_to in (PROVED, KEPT):
@@ -300,4 +381,6 @@ class Place:
                 else:
                     failed.append(crate.name)
                     print(self.said_of(crate), end="", flush=True)
+        if is_new:
+            self.shrink()
         return failed
