@@ -265,7 +265,6 @@ class Place:
             "made": self.made(crate),
             "sum": self.kept.rlibs[crate.name],
             "ran": sum_of_run(crate) if self.runs and crate.is_program else None,
-            "kept": self.kept.place(crate, False, self.kept.key(crate)) if self.kept.at else None,
         }
         self.write_notes()
 
@@ -273,11 +272,6 @@ class Place:
         """Notes that a crate isn't proved, before it is."""
         if self.notes.pop(crate.name, None):
             self.write_notes()
-
-    def shrink(self):
-        """Has the toolchain's store shrink to its bounds. What stands in this folder stays there too."""
-        self.kept.used |= {it["kept"] for it in self.notes.values() if it["kept"]}
-        self.kept.shrink()
 
     def said_of(self, crate):
         """Returns what was said of a crate when it was proved."""
@@ -351,7 +345,6 @@ class Place:
         for it in [it for it in crates if it not in left]:
             self.take(it)
             print(f"{it.name} proved before", flush=True)
-        is_new = bool(left)
         while left or running:
             lost = [it for it in left if any(dep.name in failed for dep in it.deps)]
             for it in lost:
@@ -381,6 +374,4 @@ class Place:
                 else:
                     failed.append(crate.name)
                     print(self.said_of(crate), end="", flush=True)
-        if is_new:
-            self.shrink()
         return failed
