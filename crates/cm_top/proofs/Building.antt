@@ -77,7 +77,7 @@ module _ (by : Definitions) (p : Printed) (target : Option (List ℕ)) (defs : L
 
   outside : (result : Result Report WorkFault) → Work result → (files : Files) → s0.holds ≡ Some files
       → KeepsOutside (target_paths target) files s1.holds
-  outside result work files is = target_outside target files s1.holds (work files is).project
+  outside result work files is = target_outside _ target files s1.holds (work files is).project
 
   stays : (result : Result Report WorkFault) → Work result → (files : Files) → s0.holds ≡ Some files
       → Stays by files (meant files) s1.holds

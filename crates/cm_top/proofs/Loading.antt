@@ -47,8 +47,9 @@ module _ (files : Files) (holds : Option Files) (runs : List ToolUse)
       out : (path : List ℕ) → target ≡ Some path → is_stored path ≡ false
       out path at = subst IsOutside at outside
 
-  pub records_others : (target : Option (List ℕ)) → IsOutside target → KeepsOthers target files holds
-  records_others target outside =
+  pub records_others : (Is : List ℕ → Type 0) (target : Option (List ℕ)) → IsOutside target
+      → KeepsOthers Is target files holds
+  records_others Is target outside =
       let one = keeps.rest files refl in
       record {
         after = one.0;
@@ -67,10 +68,10 @@ records_same files here holds runs keeps is q out =
     ap (λ (f : Files). get f q) (sym same) ∙ one.2 q (not_among files holds runs keeps q out)
 
 -- and what stays from there on stays
-pub others_then : (target : Option (List ℕ)) (files here : Files) (holds : Option Files) → IsOutside target
-    → ((q : List ℕ) → is_stored q ≡ false → get here q ≡ get files q) → KeepsOthers target here holds
-    → KeepsOthers target files holds
-others_then target files here holds outside same two = record {
+pub others_then : (Is : List ℕ → Type 0) (target : Option (List ℕ)) (files here : Files) (holds : Option Files)
+    → IsOutside target → ((q : List ℕ) → is_stored q ≡ false → get here q ≡ get files q)
+    → KeepsOthers Is target here holds → KeepsOthers Is target files holds
+others_then Is target files here holds outside same two = record {
   after = two.after;
   tells = two.tells;
   kept = λ q out apart. two.kept q out apart ∙ same q out;
@@ -78,8 +79,8 @@ others_then target files here holds outside same two = record {
 }
   where
     by_last : (path : List ℕ) → is_stored path ≡ false
-        → (get two.after path ≡ get here path) ⊎ FollowsLinked path two.after
-        → (get two.after path ≡ get files path) ⊎ FollowsLinked path two.after
+        → (get two.after path ≡ get here path) ⊎ FollowsLinked Is path two.after
+        → (get two.after path ≡ get files path) ⊎ FollowsLinked Is path two.after
     by_last path out (inl kept) = inl (kept ∙ same path out)
     by_last path out (inr follows) = inr follows
 
@@ -156,10 +157,10 @@ module _ (by : Definitions) (works : Files → Work) (written : Option (List ℕ
     answered_same files is here now =
         records_same files here new (runs_of files (works files).uses) (left_of files is).keeps now
 
-    pub answered_others : (target : Option (List ℕ)) → IsOutside target → (files : Files) → old ≡ Some files
-        → KeepsOthers target files new
-    answered_others target outside files is =
-        records_others files new (runs_of files (works files).uses) (left_of files is).keeps target outside
+    pub answered_others : (Is : List ℕ → Type 0) (target : Option (List ℕ)) → IsOutside target → (files : Files)
+        → old ≡ Some files → KeepsOthers Is target files new
+    answered_others Is target outside files is =
+        records_others files new (runs_of files (works files).uses) (left_of files is).keeps Is target outside
 
   -- it was cut off
   module _ (step : Told old (λ files. CutOff (origin_of files before) (works files).uses (world_of new after))) where
@@ -222,7 +223,7 @@ module _ (by : Definitions) (works : Files → Work) (written : Option (List ℕ
         → Does by done done status.NoMemory (stage s0 before) (stage s1 after)
     wanting tends blamed = cut_does status.NoMemory (λ plain. plain) tends blamed wanting_plain
 
-    pub cut_others : (target : Option (List ℕ)) → IsOutside target → (files : Files) → old ≡ Some files
-        → KeepsOthers target files new
-    cut_others target outside files is =
-        records_others files new (runs_of files (works files).uses) (cut_of files is).keeps target outside
+    pub cut_others : (Is : List ℕ → Type 0) (target : Option (List ℕ)) → IsOutside target → (files : Files)
+        → old ≡ Some files → KeepsOthers Is target files new
+    cut_others Is target outside files is =
+        records_others files new (runs_of files (works files).uses) (cut_of files is).keeps Is target outside

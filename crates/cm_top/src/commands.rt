@@ -7,12 +7,12 @@ ghost use Rattle.cm_description.specs.WellFormed.{IsWellFormed};
 ghost use Rattle.loader_parts.specs.LoadedProjects.{HasSources, IsWithinLimits};
 ghost use Rattle.group_loader.specs.Loading.{Tends, states_by};
 ghost use Rattle.command_parts.specs.Answers.{IsOutside};
-ghost use Rattle.command_parts.specs.Headline.{KeepsOthers};
+ghost use Rattle.command_parts.specs.Headline.{KeepsOthersOf};
 ghost use Rattle.command_parts.specs.Performing as plain;
 ghost use Rattle.command_parts.specs.ProjectBuild as build;
 ghost use Rattle.command_parts.specs.Targets.{out_in, target_of, path_in};
 ghost use Rattle.cm_top.specs.Meaning.{of_command, of_link, of_project, of_root};
-ghost use Rattle.cm_top.specs.Performing.{IsSessionEnd, Performs, stage_of};
+ghost use Rattle.cm_top.specs.Performing.{IsSessionEnd, Performs, rules_among, stage_of};
 ghost use Rattle.cm_top.specs.Ways.{plain_way, store_way};
 
 use crate::printed::{Printed, print_part};
@@ -48,8 +48,9 @@ fn run_project<F: Folder, S: Sink, C: Compiler>(
         (of_project part (build.plain_way C.defines) target.now defs.now (Ok project.now)) result
         (plain.state_of (S.written out.old) (F.holds folder.old) (C.asked compiler.old) (C.asked_skeletons compiler.old))
         (plain.state_of (S.written out.new) (F.holds folder.new) (C.asked compiler.new) (C.asked_skeletons compiler.new)) }
-    ensures others { IsOutside target.now
-        → Told (F.holds folder.old) (λ files. KeepsOthers target.now files (F.holds folder.new)) }
+    ensures others { IsOutside target.now → Told (F.holds folder.old) (λ files. KeepsOthersOf
+        (of_project part (build.store_way C.defines) target.now defs.now (Ok project.now) files) target.now files
+        (F.holds folder.new)) }
 {
     match build_project(alloc, defs, target, folder, compiler, project) {
         Ok(report) => print_part(alloc, out, part, &report),
@@ -83,8 +84,9 @@ fn run_root<F: Folder, S: Sink, C: Compiler, T: Tool>(
         (states_by T.class T.rule T.ran T.faults tools.old))
         (stage_of (S.written out.new) (F.holds folder.new) (C.asked compiler.new) (C.asked_skeletons compiler.new)
         (states_by T.class T.rule T.ran T.faults tools.new)) }
-    ensures others { IsOutside target.now
-        → Told (F.holds folder.old) (λ files. KeepsOthers target.now files (F.holds folder.new)) }
+    ensures others { IsOutside target.now → Told (F.holds folder.old) (λ files. KeepsOthersOf
+        (of_root part (store_way C.defines (rules_among (states_by T.class T.rule T.ran T.faults tools.old))) target.now
+        defs.now root.now files).effect target.now files (F.holds folder.new)) }
 {
     match load(alloc, folder, tools, defs, root, false) {
         Ok(project) => run_project(alloc, part, defs, target, folder, out, compiler, &project),
@@ -119,7 +121,9 @@ fn run_link<F: Folder, S: Sink, C: Compiler, T: Tool>(
         (states_by T.class T.rule T.ran T.faults tools.old))
         (stage_of (S.written out.new) (F.holds folder.new) (C.asked compiler.new) (C.asked_skeletons compiler.new)
         (states_by T.class T.rule T.ran T.faults tools.new)) }
-    ensures others { Told (F.holds folder.old) (λ files. KeepsOthers (path_in (out_in files root.now target.now)) files
+    ensures others { Told (F.holds folder.old) (λ files. KeepsOthersOf
+        (of_link part (store_way C.defines (rules_among (states_by T.class T.rule T.ran T.faults tools.old))) defs.now
+        root.now files (out_in files root.now target.now)).effect (path_in (out_in files root.now target.now)) files
         (F.holds folder.new)) }
 {
     match find_target(alloc, folder, root, target) {
@@ -160,8 +164,9 @@ pub fn run_command<F: Folder, S: Sink, C: Compiler, T: Tool>(
         (states_by T.class T.rule T.ran T.faults tools.old))
         (stage_of (S.written out.new) (F.holds folder.new) (C.asked compiler.new) (C.asked_skeletons compiler.new)
         (states_by T.class T.rule T.ran T.faults tools.new)) }
-    ensures others { Told (F.holds folder.old) (λ files. KeepsOthers (target_of files command.now) files
-        (F.holds folder.new)) }
+    ensures others { Told (F.holds folder.old) (λ files. KeepsOthersOf
+        (of_command part (store_way C.defines (rules_among (states_by T.class T.rule T.ran T.faults tools.old))) files
+        command.now).effect (target_of files command.now) files (F.holds folder.new)) }
 {
     match command {
         Command::Build { defs, root } => run_root(

@@ -13,7 +13,7 @@ ghost use Rattle.command_parts.specs.Headline.{Ends, IsUsageEnd, KeepsOutside, S
 ghost use Rattle.command_parts.specs.Performing.{LeavesAt};
 ghost use Rattle.command_parts.specs.Sessions.{KeepsTarget};
 ghost use Rattle.cm_top.specs.Headline.{Completes, IsAsPromised, IsComplete, Ran};
-ghost use Rattle.cm_top.specs.Performing.{Performs, stage_of};
+ghost use Rattle.cm_top.specs.Performing.{Performs, rules_among, stage_of};
 ghost use Rattle.cm_top.specs.Sessions.{doing_of_call, meaning_of_call, of_call, of_line};
 ghost use Rattle.cm_top.specs.Ways.{plain_way, store_way};
 
@@ -82,8 +82,9 @@ fn run_call<F: Folder, S: Sink, C: Compiler, T: Tool>(
         (states_by T.class T.rule T.ran T.faults tools.old))
         (stage_of (S.written out.new) (F.holds folder.new) (C.asked compiler.new) (C.asked_skeletons compiler.new)
         (states_by T.class T.rule T.ran T.faults tools.new)) }
-    ensures project { Told (F.holds folder.old) (λ files. KeepsTarget (call_of (map string_bytes words.now)) files
-        (F.holds folder.new)) }
+    ensures project { Told (F.holds folder.old) (λ files. KeepsTarget (call_of (map string_bytes words.now))
+        (of_call (store_way C.defines (rules_among (states_by T.class T.rule T.ran T.faults tools.old))) files
+        (call_of (map string_bytes words.now))).effect files (F.holds folder.new)) }
 {
     match read_call(alloc, words) {
         Ok(Some(Call::Single(command))) => run_command(
@@ -143,7 +144,8 @@ pub fn run_cm<F: Folder, S: Sink, C: Compiler, T: Tool>(
     ensures outside { Told (F.holds folder.old) (λ files. KeepsOutside
         (doing_of_call C.defines (rules_of T.class T.rule tools.old) (map string_bytes words.now) files).effect.outside
         files (F.holds folder.new)) }
-    ensures project { Told (F.holds folder.old) (λ files. KeepsTarget (call_of (map string_bytes words.now)) files
+    ensures project { Told (F.holds folder.old) (λ files. KeepsTarget (call_of (map string_bytes words.now))
+        (doing_of_call C.defines (rules_of T.class T.rule tools.old) (map string_bytes words.now) files).effect files
         (F.holds folder.new)) }
     ensures stays { Told (F.holds folder.old) (λ files. Stays C.defines files
         (meaning_of_call C.defines (rules_of T.class T.rule tools.old) (map string_bytes words.now) files).effect

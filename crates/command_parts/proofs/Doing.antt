@@ -22,8 +22,8 @@ use Rattle.build_laws.specs.Planned.{interfaces_of, NamesDiffer}
 use Rattle.cutoff_builder.specs.Answers.{Cuts}
 use Rattle.cutoff_builder.specs.Theorem.{Builds}
 use Rattle.cutoff_builder.specs.declared.builder.BuildFault.TheVariants as stop
-use Rattle.command_parts.specs.Answers.{AsksFor, Does, EndsSo, IsOutside, LawfulFromGood, TouchesLinked, Works, WorksWell}
-use Rattle.command_parts.specs.Headline.{KeepsOthers}
+use Rattle.command_parts.specs.Answers.{AsksFor, Does, EndsSo, IsLinkedBy, IsOutside, LawfulFromGood, TouchesLinked, Works, WorksWell}
+use Rattle.command_parts.specs.Headline.{KeepsOthers, MeansLinked}
 use Rattle.command_parts.specs.Lines.{report as report_text, diag_line, last_line}
 use Rattle.command_parts.specs.Meaning.{ended_in, ended_with, interfaces_in, linked_paths, paths_in, status_of, with_linked, written_paths}
 use Rattle.command_parts.specs.ProjectBuild.{built, ending, plain_over, store_over}
@@ -38,9 +38,9 @@ use Rattle.command_parts.proofs.TargetLeaves.{others_of}
 
 -- ---- where nothing is written
 
-same_project : (files : Files) (target : Option (List ℕ)) (holds : Option Files) → holds ≡ Some files
-    → KeepsOthers target files holds
-same_project files target holds is =
+same_project : (Is : List ℕ → Type 0) (files : Files) (target : Option (List ℕ)) (holds : Option Files)
+    → holds ≡ Some files → KeepsOthers Is target files holds
+same_project Is files target holds is =
     record { after = files; tells = is; kept = λ path outside apart. refl; last = λ path at. inl refl }
 
 still_good : (by : Definitions) (known more : List (List ℕ)) (files : Files) (holds : Option Files) → holds ≡ Some files
@@ -72,7 +72,7 @@ does_nothing by files target over plain fault holds before is = record {
   from_good = λ known apart good.
       nothing_well by files target (built (plain_over by) files plain) (Err fault) holds before before is
       (cut_works target (built (plain_over by) files plain) fault holds before) known good;
-  project = same_project files target holds is;
+  project = same_project (IsLinkedBy target (built (store_over by) files over)) files target holds is;
 }
 
 -- a refusal before the first unit
@@ -100,7 +100,8 @@ does_same by files target over plain same result holds before after is from_good
       subst (λ u. HashesApart (known ++ interfaces_in (built (plain_over by) files u).units)
       → WorksWell by known files target result (built (plain_over by) files u) holds before after)
       (sym (from_good known good)) (λ apart'. does.from_good known apart' good) apart;
-  project = does.project;
+  project = subst (λ u. KeepsOthers (IsLinkedBy target (built (store_over by) files u)) target files holds) (sym is)
+      does.project;
 }
 
 pub does_refused : (by : Definitions) (files : Files) (target : Option (List ℕ))
@@ -116,7 +117,7 @@ does_refused by files target over plain diag report holds before refused from_go
       from_good = λ known apart good.
           nothing_well by files target (ending [] (Some diag) files) (Ok report) holds before before is
           (refused_works files target diag report holds before is stands says last) known good;
-      project = same_project files target holds is;
+      project = same_project (IsLinkedBy target (ending [] (Some diag) files)) files target holds is;
     })
 
 -- ---- a build that ended, and its linking
@@ -169,8 +170,8 @@ module _ (by : Definitions) (files : Files) (target : Option (List ℕ)) (outsid
 
   -- over a good store the build is the plain build as it comes, so what holds of the one holds of the other
   does_over : (result : Result Report WorkFault) (new : Option Files) → Works target result over new before after
-      → Keeps (Some files) new (written_paths target over) → LeavesGood new → KeepsOthers target files new
-      → Does by files target (Ok planned) (Ok planned) result new before after
+      → Keeps (Some files) new (written_paths target over) → LeavesGood new
+      → KeepsOthers (IsLinkedBy target over) target files new → Does by files target (Ok planned) (Ok planned) result new before after
   does_over result new works frame leaves others = record {
     over_store = works;
     frame = frame;
@@ -186,19 +187,30 @@ module _ (by : Definitions) (files : Files) (target : Option (List ℕ)) (outsid
 
   -- a build that ended, and of which the linked program may have been touched
   ended_frame : (units : List BuiltUnit) (ended : Option Diag) (between new : Option Files) → over.units ≡ units
-      → over.ended ≡ ended → between ≡ Some over.files → TouchesLinked target (ended_with ended units) between new
+      → over.ended ≡ ended → between ≡ Some over.files → TouchesLinked target (ended_with ended units) units between new
       → Keeps (Some files) new (written_paths target over)
   ended_frame units ended between new are stops is touches =
       keeps_then
       (subst (λ o. Keeps (Some files) o (paths_in over.units)) (sym is) (cut_frame by.compiled planned files []))
-      (link_keeps target (ended_in over) between new
-      (subst (λ f. TouchesLinked target f between new) (ap₂ ended_with (sym stops) (sym are)) touches))
+      (link_keeps target (ended_in over) units between new
+      (subst (λ f. TouchesLinked target f units between new) (ap₂ ended_with (sym stops) (sym are)) touches))
+
+  -- what is left of the target
+  ended_others : (units : List BuiltUnit) (ended : Option Diag) (between new : Option Files) → over.units ≡ units
+      → over.ended ≡ ended → TouchesLinked target (ended_with ended units) units between new
+      → KeepsProject files between → KeepsOthers (IsLinkedBy target over) target files new
+  ended_others units ended between new are stops touches kept =
+      subst (λ e. KeepsOthers (MeansLinked (status_of (ended_with e over.units))
+      (with_linked target (ended_with e over.units) over.units over.files)) target files new) (sym stops)
+      (subst (λ us. KeepsOthers (MeansLinked (status_of (ended_with ended us))
+      (with_linked target (ended_with ended us) us over.files)) target files new) (sym are)
+      (link_others files over.files target (ended_with ended units) units between new outside touches kept))
 
   pub does_built : (built : Built) (between new : Option Files) (result : Result Report WorkFault)
       → Cuts (Ok built) by.compiled files planned (cut_build by.compiled files planned) between before after
       → Builds by files planned (Ok built) between before after → KeepsProject files between
       → Told between (λ files. EndsSo target result (ending built.units None files) new)
-      → TouchesLinked target (ended_with None built.units) between new
+      → TouchesLinked target (ended_with None built.units) built.units between new
       → Does by files target (Ok planned) (Ok planned) result new before after
   does_built built between new result cuts builds kept ends touches =
       does_over result new
@@ -206,14 +218,15 @@ module _ (by : Definitions) (files : Files) (target : Option (List ℕ)) (outsid
       cuts.asks)
       (ended_frame built.units None between new cuts.leaves.0 cuts.leaves.1 cuts.leaves.2 touches)
       (λ known apart good. link_good by (known ++ interfaces_of (plain_build by.compiled planned).units) target
-      (ended_with None built.units) between new outside touches (builds known differ (lawful known good) apart good).good)
-      (link_others files target (ended_with None built.units) between new outside touches kept)
+      (ended_with None built.units) built.units between new outside touches
+      (builds known differ (lawful known good) apart good).good)
+      (ended_others built.units None between new cuts.leaves.0 cuts.leaves.1 touches kept)
 
   pub does_stopped : (diag : Diag) (done : Built) (between new : Option Files) (result : Result Report WorkFault)
       → Cuts (Err (stop.Stop diag done)) by.compiled files planned (cut_build by.compiled files planned) between before after
       → Builds by files planned (Err (stop.Stop diag done)) between before after → KeepsProject files between
       → Told between (λ files. EndsSo target result (ending done.units (Some diag) files) new)
-      → TouchesLinked target (ended_with (Some diag) done.units) between new
+      → TouchesLinked target (ended_with (Some diag) done.units) done.units between new
       → Does by files target (Ok planned) (Ok planned) result new before after
   does_stopped diag done between new result cuts builds kept ends touches =
       does_over result new
@@ -221,8 +234,9 @@ module _ (by : Definitions) (files : Files) (target : Option (List ℕ)) (outsid
       ends cuts.asks)
       (ended_frame done.units (Some diag) between new cuts.leaves.0 cuts.leaves.1 cuts.leaves.2 touches)
       (λ known apart good. link_good by (known ++ interfaces_of (plain_build by.compiled planned).units) target
-      (ended_with (Some diag) done.units) between new outside touches (builds known differ (lawful known good) apart good).good)
-      (link_others files target (ended_with (Some diag) done.units) between new outside touches kept)
+      (ended_with (Some diag) done.units) done.units between new outside touches
+      (builds known differ (lawful known good) apart good).good)
+      (ended_others done.units (Some diag) between new cuts.leaves.0 cuts.leaves.1 touches kept)
 
   -- a build that was cut off
   cut_written : (new : Option Files) → LeftByCut by.compiled files planned new
@@ -237,7 +251,7 @@ module _ (by : Definitions) (files : Files) (target : Option (List ℕ)) (outsid
       → Does by files target (Ok planned) (Ok planned) (Err fault) new before after
   does_failed new fault cuts builds kept =
       does_over (Err fault) new (record { ends = tt; asks = cuts.asks }) (cut_written new cuts.leaves)
-      (λ known apart good. (builds known differ (lawful known good) apart good).good) (others_of target files new outside kept)
+      (λ known apart good. (builds known differ (lawful known good) apart good).good) (others_of (IsLinkedBy target over) target files new outside kept)
 
   pub does_wanting : (new : Option Files) (fault : WorkFault)
       → Cuts (Err stop.NoMemory) by.compiled files planned (cut_build by.compiled files planned) new before after
@@ -245,7 +259,7 @@ module _ (by : Definitions) (files : Files) (target : Option (List ℕ)) (outsid
       → Does by files target (Ok planned) (Ok planned) (Err fault) new before after
   does_wanting new fault cuts builds kept =
       does_over (Err fault) new (record { ends = tt; asks = cuts.asks }) (cut_written new cuts.leaves)
-      (λ known apart good. (builds known differ (lawful known good) apart good).good) (others_of target files new outside kept)
+      (λ known apart good. (builds known differ (lawful known good) apart good).good) (others_of (IsLinkedBy target over) target files new outside kept)
 
 -- ---- whatever the answer
 

@@ -1,6 +1,6 @@
 -- How a command ends, from the work that was done and what was printed.
 use Rattle.std.proofs.Common.{◌≡◌, ◌∙◌, ◌⊎◌, sym, ap, refl, inl, inr, arith, ℕ, List, [], ◌++◌, Option, Some, take, append-nil}
-use Rattle.std.specs.Prelude.{Contains, Result, Ok}
+use Rattle.std.specs.Prelude.{Contains, Result}
 use Rattle.std.proofs.lemmas.List.Elements.{Contains-append_left}
 use Rattle.cm_base.specs.Causes.{Rose}
 use Rattle.cm_base.specs.Definitions.{Definitions}
@@ -87,9 +87,9 @@ stays_still by files m holds is = record {
       store_more (λ t h. Contains-append_left known m.interfaces t h) (store_is_good is good);
 }
 
-pub same_outside : (target : Option (List ℕ)) (files : Files) (holds : Option Files) → holds ≡ Some files
-    → KeepsOthers target files holds
-same_outside target files holds is =
+pub same_outside : (Is : List ℕ → Type 0) (target : Option (List ℕ)) (files : Files) (holds : Option Files)
+    → holds ≡ Some files → KeepsOthers Is target files holds
+same_outside Is target files holds is =
     record { after = files; tells = is; kept = λ path outside apart. refl; last = λ path at. inl refl }
 
 -- nothing was done at all: want of memory

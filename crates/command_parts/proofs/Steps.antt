@@ -18,7 +18,7 @@ use Rattle.command_words.specs.declared.call.Call.{Call}
 use Rattle.command_words.specs.declared.call.Call.TheVariants as call
 use Rattle.command_parts.specs.Answers.{Prints}
 use Rattle.command_parts.specs.InTurn.{edit}
-use Rattle.command_parts.specs.Headline.{Ends, IsCutOff, IsCutShort, IsMeaning, IsPlain, IsUsageEnd, KeepsOthers, KeepsOutside, Run, Stays}
+use Rattle.command_parts.specs.Headline.{Ends, IsCutOff, IsCutShort, IsMeaning, IsPlain, IsUsageEnd, KeepsOthers, KeepsOutside, MeansLinked, Run, Stays}
 use Rattle.command_parts.specs.Lines.{diag_line, status_line}
 use Rattle.command_parts.specs.Meaning.{Meaning, target_paths, usage}
 use Rattle.command_parts.specs.Performing.{Performs, State, between, edit_end, is_plain, state_of}
@@ -138,14 +138,14 @@ module _ (by : Definitions) (path : List ℕ) (out : is_stored path ≡ false) (
 
 -- ---- commands
 
-pub target_outside : (target : Option (List ℕ)) (files : Files) (holds : Option Files) → KeepsOthers target files holds
-    → KeepsOutside (target_paths target) files holds
-target_outside None files holds kept = record {
+pub target_outside : (Is : List ℕ → Type 0) (target : Option (List ℕ)) (files : Files) (holds : Option Files)
+    → KeepsOthers Is target files holds → KeepsOutside (target_paths target) files holds
+target_outside Is None files holds kept = record {
   after = kept.after;
   tells = kept.tells;
   kept = λ path out apart. kept.kept path out (λ same. absurd (cc (same)));
 }
-target_outside (Some target) files holds kept = record {
+target_outside Is (Some target) files holds kept = record {
   after = kept.after;
   tells = kept.tells;
   kept = λ path out apart. kept.kept path out (λ same.
@@ -392,10 +392,11 @@ module _ (by : Definitions) (d m : Files → Meaning) (s0 s1 : State) (written :
   }
 
 -- where nothing was done
-pub target_still : (call : Option Call) (files : Files) (holds : Option Files) → holds ≡ Some files
-    → KeepsTarget call files holds
-target_still None files holds is = same_outside None files holds is
-target_still (Some (call.Single command)) files holds is = same_outside (target_of files command) files holds is
-target_still (Some (call.Gen n)) files holds is =
+pub target_still : (call : Option Call) (m : Meaning) (files : Files) (holds : Option Files) → holds ≡ Some files
+    → KeepsTarget call m files holds
+target_still None m files holds is = same_outside (MeansLinked m.status m.files) None files holds is
+target_still (Some (call.Single command)) m files holds is =
+    same_outside (MeansLinked m.status m.files) (target_of files command) files holds is
+target_still (Some (call.Gen n)) m files holds is =
     record { after = files; tells = is; kept = λ path out apart. refl }
-target_still (Some (call.Session file)) files holds is = tt
+target_still (Some (call.Session file)) m files holds is = tt

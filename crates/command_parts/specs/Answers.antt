@@ -6,13 +6,15 @@ use Rattle.cm_base.specs.Files.{Files, is_stored, told}
 use Rattle.cm_base.specs.Fronts.{GrowsUpTo}
 use Rattle.cm_base.specs.Keeping.{Keeps, Touches}
 use Rattle.cm_base.specs.declared.diag.Diag.{Diag}
+use Rattle.cm_base.specs.declared.record.BuiltUnit.{BuiltUnit}
 use Rattle.cm_base.specs.declared.record.PlannedUnit.{PlannedUnit}
 use Rattle.cm_bytes.specs.Hashes.{HashesApart}
 use Rattle.bin_store.specs.GoodStore.{IsGoodStore, StoreIsGood}
 use Rattle.bin_store.specs.Paths.{linked_path}
+use Rattle.linker.specs.Linked.{linked_program}
 use Rattle.build_laws.specs.CutBuild.{Cut}
 use Rattle.build_laws.specs.Planned.{HaveSkeletons}
-use Rattle.command_parts.specs.Headline.{KeepsOthers}
+use Rattle.command_parts.specs.Headline.{KeepsOthers, MeansLinked}
 use Rattle.command_parts.specs.Lines.{last_line, report as report_text}
 use Rattle.command_parts.specs.Meaning.{ended_in, interfaces_in, status_of, with_linked, written_paths}
 use Rattle.command_parts.specs.ProjectBuild.{built, plain_over, store_over}
@@ -50,14 +52,20 @@ pub record WritesLinked (target : Option (List ℕ)) (bytes : List ℕ) (old new
   pub added : TouchesTarget target bytes between new
   pub order : (new ≡ between) ⊎ (between ≡ told (λ files. insert files linked_path bytes) old)
 
--- the linked program: it isn't written, or whatever its writes leave stands there, and then there is no diagnostic
-pub record LinkLeaves (target : Option (List ℕ)) (fault : Option Diag) (old new : Option Files) : Type 0 where
+-- the linked program of units: it isn't written, or whatever its writes leave stands there, and then there is no
+-- diagnostic
+pub record LinkLeaves (target : Option (List ℕ)) (fault : Option Diag) (units : List BuiltUnit) (old new : Option Files) :
+    Type 0 where
   pub well : fault ≡ None
-  pub bytes : List ℕ
-  pub writes : WritesLinked target bytes old new
+  pub writes : WritesLinked target (linked_program units) old new
 
-abbrev pub TouchesLinked : Option (List ℕ) → Option Diag → Option Files → Option Files → Type 0
-TouchesLinked target fault old new = (new ≡ old) ⊎ LinkLeaves target fault old new
+abbrev pub TouchesLinked : Option (List ℕ) → Option Diag → List BuiltUnit → Option Files → Option Files → Type 0
+TouchesLinked target fault units old new = (new ≡ old) ⊎ LinkLeaves target fault units old new
+
+-- the linked program of a build
+abbrev pub IsLinkedBy : Option (List ℕ) → Cut → List ℕ → Type 0
+IsLinkedBy target cut =
+    MeansLinked (status_of (ended_in cut)) (with_linked target (ended_in cut) cut.units cut.files)
 
 -- a target lies outside the store
 abbrev pub IsOutside : Option (List ℕ) → Type 0
@@ -116,7 +124,7 @@ pub record Does (by : Definitions) (files : Files) (target : Option (List ℕ)) 
   pub from_good : (known : List (List ℕ))
       → HashesApart (known ++ interfaces_in (built (plain_over by) files plain).units) → IsGoodStore by known files
       → WorksWell by known files target result (built (plain_over by) files plain) holds before after
-  pub project : KeepsOthers target files holds
+  pub project : KeepsOthers (IsLinkedBy target (built (store_over by) files over)) target files holds
 
 -- ---- printing
 

@@ -104,19 +104,30 @@ pub record Stays (by : Definitions) (files : Files) (m : Meaning) (holds : Optio
   -- The store is good for what was known and for the command's own interfaces, so the next command starts well.
   pub good : FromGood by files m (λ known. StoreIsGood by (known ++ m.interfaces) holds)
 
+-- the linked program of a command that means to end so and to leave these files
+abbrev pub MeansLinked : Status → Files → List ℕ → Type 0
+MeansLinked end done bytes = (end ≡ status.Ok) × (get done linked_path ≡ Some bytes)
+
 -- a path at which the linked program is written once it stands in the store: nothing stands there, or a front of it
-pub record FollowsLinked (path : List ℕ) (after : Files) : Type 0 where
+pub record FollowsLinked (IsLinked : List ℕ → Type 0) (path : List ℕ) (after : Files) : Type 0 where
   pub bytes : List ℕ
+  pub is : IsLinked bytes
   pub linked : get after linked_path ≡ Some bytes
   pub front : (get after path ≡ None) ⊎ ((n : ℕ) × (get after path ≡ Some (take n bytes)))
 
 -- Each path outside the store is as it was, but for the target of the command. That is as it was too, unless the linked
--- program stands in the store.
-pub record KeepsOthers (target : Option (List ℕ)) (files : Files) (new : Option Files) : Type 0 where
+-- program of the command stands in the store.
+pub record KeepsOthers (IsLinked : List ℕ → Type 0) (target : Option (List ℕ)) (files : Files) (new : Option Files) :
+    Type 0 where
   pub after : Files
   pub tells : new ≡ Some after
   pub kept : (path : List ℕ) → is_stored path ≡ false → target ≢ Some path → get after path ≡ get files path
-  pub last : (path : List ℕ) → target ≡ Some path → (get after path ≡ get files path) ⊎ FollowsLinked path after
+  pub last : (path : List ℕ) → target ≡ Some path
+      → (get after path ≡ get files path) ⊎ FollowsLinked IsLinked path after
+
+-- .. of a command that means this
+abbrev pub KeepsOthersOf : Meaning → Option (List ℕ) → Files → Option Files → Type 0
+KeepsOthersOf m target files new = KeepsOthers (MeansLinked m.status m.files) target files new
 
 -- each path outside the store is as it was, but for these
 pub record KeepsOutside (paths : List (List ℕ)) (files : Files) (new : Option Files) : Type 0 where

@@ -1,5 +1,5 @@
 -- The script of a session, what is printed behind its commands, and what a command by itself keeps.
-use Rattle.std.specs.Prelude.{ℕ, ◌≡◌, false, List, [], ◌∷◌, ◌++◌, Option, Some, None, Result, Ok}
+use Rattle.std.specs.Prelude.{ℕ, ◌≡◌, false, List, [], ◌∷◌, ◌++◌, Option, Some, None, Result}
 use Rattle.std.specs.FinMap.{get}
 use Rattle.cm_base.specs.Diags.{◌>>=◌}
 use Rattle.cm_base.specs.Files.{Files, is_stored}
@@ -12,8 +12,7 @@ use Rattle.session_scripts.specs.declared.step.Step.TheVariants as step
 use Rattle.command_words.specs.declared.call.Call.{Call}
 use Rattle.command_words.specs.declared.call.Call.TheVariants as call
 use Rattle.command_parts.specs.Generating.{files_of}
-use Rattle.command_parts.specs.Headline.{KeepsOthers, KeepsOutside}
-use Rattle.command_parts.specs.InTurn.{edit}
+use Rattle.command_parts.specs.Headline.{KeepsOthersOf, KeepsOutside}
 use Rattle.command_parts.specs.Lines.{diag_line, status_line}
 use Rattle.command_parts.specs.Meaning.{Meaning, prints_last}
 use Rattle.command_parts.specs.Targets.{target_of}
@@ -71,10 +70,10 @@ refused files diag = record {
   outside = [];
 }
 
--- a command by itself changes nothing outside the store but its target, and that only once the linked program stands;
--- and a generated project nothing there but its files
-abbrev pub KeepsTarget : Option Call → Files → Option Files → Type 0
-KeepsTarget None files new = KeepsOthers None files new
-KeepsTarget (Some (call.Single command)) files new = KeepsOthers (target_of files command) files new
-KeepsTarget (Some (call.Gen n)) files new = KeepsOutside (files_of n) files new
-KeepsTarget (Some (call.Session file)) files new = Unit {0}
+-- a command by itself that does this changes nothing outside the store but its target, and that only once its linked
+-- program stands; and a generated project nothing there but its files
+abbrev pub KeepsTarget : Option Call → Meaning → Files → Option Files → Type 0
+KeepsTarget None m files new = KeepsOthersOf m None files new
+KeepsTarget (Some (call.Single command)) m files new = KeepsOthersOf m (target_of files command) files new
+KeepsTarget (Some (call.Gen n)) m files new = KeepsOutside (files_of n) files new
+KeepsTarget (Some (call.Session file)) m files new = Unit {0}

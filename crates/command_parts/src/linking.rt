@@ -73,7 +73,8 @@ fn linked<F: Folder>(
     ensures cause { HasCause (F.faults folder.old) (F.faults folder.new) (result ≡ Err WorkFault.Folder) }
     ensures links { Told (F.holds folder.old) (λ files. LinksTo result (link_fault built.now.units)
         (with_linked target.now (link_fault built.now.units) built.now.units files) (F.holds folder.new)) }
-    ensures touches { TouchesLinked target.now (link_fault built.now.units) (F.holds folder.old) (F.holds folder.new) }
+    ensures touches { TouchesLinked target.now (link_fault built.now.units) built.now.units (F.holds folder.old)
+        (F.holds folder.new) }
 {
     let path = linked_name(alloc)?;
     let file = linked_file(alloc, built)?;
@@ -99,7 +100,7 @@ pub fn end<F: Folder>(
     ensures cause { HasCause (F.faults folder.old) (F.faults folder.new) (result ≡ Err WorkFault.Folder) }
     ensures links { Told (F.holds folder.old) (λ files. LinksTo result (ended_with ended built.now.units)
         (with_linked target.now (ended_with ended built.now.units) built.now.units files) (F.holds folder.new)) }
-    ensures touches { TouchesLinked target.now (ended_with ended built.now.units) (F.holds folder.old)
+    ensures touches { TouchesLinked target.now (ended_with ended built.now.units) built.now.units (F.holds folder.old)
         (F.holds folder.new) }
 {
     match ended {

@@ -106,7 +106,7 @@ fn finish<F: Folder>(
     ensures plain { IfOk result (λ report. IsReported report.status) }
     ensures ends { Told (F.holds folder.old) (λ files. EndsSo target.now result (ending built.now.units ended files)
         (F.holds folder.new)) }
-    ensures touches { TouchesLinked target.now (ended_with ended built.now.units) (F.holds folder.old)
+    ensures touches { TouchesLinked target.now (ended_with ended built.now.units) built.now.units (F.holds folder.old)
         (F.holds folder.new) }
 {
     let ended = end(alloc, folder, target, built, ended)?;

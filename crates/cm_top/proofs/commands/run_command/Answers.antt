@@ -2,11 +2,11 @@ use Rattle.std.proofs.Common.{sym, subst}
 use Rattle.cm_base.specs.Definitions.{Definitions}
 use Rattle.command_words.specs.declared.command.Command.{Command}
 use Rattle.group_loader.specs.Loading.{states_by}
-use Rattle.command_parts.specs.Headline.{KeepsOthers}
+use Rattle.command_parts.specs.Headline.{KeepsOthersOf}
 use Rattle.command_parts.specs.Performing.{state_of}
 use Rattle.command_parts.specs.Targets.{target_of}
 use Rattle.cm_top.specs.Meaning.{of_command}
-use Rattle.cm_top.specs.Performing.{Performs}
+use Rattle.cm_top.specs.Performing.{Performs, rules_among}
 use Rattle.cm_top.specs.Ways.{plain_way, store_way}
 use Rattle.cm_top.proofs.InTurn.{stage}
 use Rattle.cm_top.proofs.commands.run_command.Goals as goal
@@ -41,10 +41,16 @@ returns-in-Link-clause-performs g c =
 
 pub returns-in-Build-clause-others : goal.returns-in-Build-clause-others
 returns-in-Build-clause-others g c = λ files is.
-    subst (λ (command : Command). KeepsOthers (target_of files command) files (g.F.Folder.holds c.run_root.new.folder))
+    let by : Definitions = g.C.Compiler.defines in
+    let rules = rules_among (states_by g.T.Tool.class g.T.Tool.rule g.T.Tool.ran g.T.Tool.faults c.args.tools.now) in
+    subst (λ (command : Command). KeepsOthersOf (of_command c.args.part (store_way by rules) files command).effect
+    (target_of files command) files (g.F.Folder.holds c.run_root.new.folder))
     (sym c.in-Build.is) (c.run_root.ensures.others tt files is)
 
 pub returns-in-Link-clause-others : goal.returns-in-Link-clause-others
 returns-in-Link-clause-others g c = λ files is.
-    subst (λ (command : Command). KeepsOthers (target_of files command) files (g.F.Folder.holds c.run_link.new.folder))
+    let by : Definitions = g.C.Compiler.defines in
+    let rules = rules_among (states_by g.T.Tool.class g.T.Tool.rule g.T.Tool.ran g.T.Tool.faults c.args.tools.now) in
+    subst (λ (command : Command). KeepsOthersOf (of_command c.args.part (store_way by rules) files command).effect
+    (target_of files command) files (g.F.Folder.holds c.run_link.new.folder))
     (sym c.in-Link.is) (c.run_link.ensures.others files is)

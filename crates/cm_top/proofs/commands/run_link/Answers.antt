@@ -4,7 +4,7 @@ use Rattle.cm_base.specs.Definitions.{Definitions}
 use Rattle.cm_base.specs.Files.{Files}
 use Rattle.group_loader.specs.Loading.{states_by}
 use Rattle.command_parts.specs.Answers.{IsOutside}
-use Rattle.command_parts.specs.Headline.{KeepsOthers}
+use Rattle.command_parts.specs.Headline.{KeepsOthersOf}
 use Rattle.command_parts.specs.Performing.{state_of}
 use Rattle.command_parts.specs.Sessions.{refused}
 use Rattle.command_parts.specs.Targets.{out_in, path_in}
@@ -124,22 +124,25 @@ returns-in-Ok-clause-others g c = λ files is.
     let gives : out_in files c.args.root.now c.args.target.now ≡ Ok c.in-Ok.path = c.in-Ok.ensures.gives files is in
     let outside : IsOutside (Some c.in-Ok.path) =
     subst (λ r. IsOutside (path_in r)) gives (out_outside files c.args.root.now c.args.target.now) in
-    subst (λ r. KeepsOthers (path_in r) files (g.F.Folder.holds c.run_root.new.folder)) (sym gives)
+    let by : Definitions = g.C.Compiler.defines in
+    let rules = rules_among (states_by g.T.Tool.class g.T.Tool.rule g.T.Tool.ran g.T.Tool.faults c.args.tools.now) in
+    subst (λ r. KeepsOthersOf (of_link c.args.part (store_way by rules) c.args.defs.now c.args.root.now files r).effect
+    (path_in r) files (g.F.Folder.holds c.run_root.new.folder)) (sym gives)
     (c.run_root.ensures.others outside files (c.in-Ok.ensures.same ∙ is))
 
 pub returns-in-Err-Diag-clause-others : goal.returns-in-Err-Diag-clause-others
 returns-in-Err-Diag-clause-others g c = λ files is.
-    same_outside (path_in (out_in files c.args.root.now c.args.target.now)) files
+    same_outside _ (path_in (out_in files c.args.root.now c.args.target.now)) files
     (g.F.Folder.holds c.find_target.new.folder) (c.in-Err-Diag.ensures.same ∙ is)
 
 pub returns-in-Err-Folder-clause-others : goal.returns-in-Err-Folder-clause-others
 returns-in-Err-Folder-clause-others g c = λ files is.
-    same_outside (path_in (out_in files c.args.root.now c.args.target.now)) files
+    same_outside _ (path_in (out_in files c.args.root.now c.args.target.now)) files
     (g.F.Folder.holds c.find_target.new.folder) (c.in-Err-Folder.ensures.same ∙ is)
 
 pub returns-in-Err-NoMemory-clause-others : goal.returns-in-Err-NoMemory-clause-others
 returns-in-Err-NoMemory-clause-others g c = λ files is.
-    same_outside (path_in (out_in files c.args.root.now c.args.target.now)) files
+    same_outside _ (path_in (out_in files c.args.root.now c.args.target.now)) files
     (g.F.Folder.holds c.find_target.new.folder) (c.in-Err-NoMemory.ensures.same ∙ is)
 
 pub returns-in-Err-Diag-clause-end : goal.returns-in-Err-Diag-clause-end

@@ -1,10 +1,13 @@
-use Rattle.std.proofs.Common.{◌∙◌, ap}
-use Rattle.std.specs.Prelude.{Ok, Err}
+use Rattle.std.proofs.Common.{◌∙◌, ap, sym, subst}
+use Rattle.std.specs.Prelude.{Result, Ok, Err}
 use Rattle.cm_base.specs.Definitions.{Definitions}
 use Rattle.cm_base.specs.Files.{Files}
+use Rattle.cm_base.specs.declared.diag.Diag.{Diag}
+use Rattle.cm_description.specs.declared.loaded.Project.{Project}
 use Rattle.group_loader.specs.Loading.{states_by}
 use Rattle.group_loader.specs.declared.fault.LoadFault.TheVariants as fault
 use Rattle.group_loader.proofs.Ending.{tends_as}
+use Rattle.command_parts.specs.Headline.{KeepsOthersOf}
 use Rattle.command_parts.specs.Performing.{state_of}
 use Rattle.command_parts.specs.ProjectBuild.{plain_way, store_way}
 use Rattle.command_parts.specs.declared.status.Status.TheVariants as status
@@ -142,12 +145,15 @@ returns-in-Ok-clause-others g c = λ outside files is.
     c.in-Ok.ensures.over in
     let here : Files = (works files).files in
     let now = (steps files is).leads.holds in
-    others_then c.args.target.now files here (g.F.Folder.holds c.run_project.new.folder) outside
+    let holds = g.F.Folder.holds c.run_project.new.folder in
+    subst (λ (r : Result Project Diag). KeepsOthersOf (of_project c.args.part (store_way by) c.args.target.now c.args.defs.now
+    r here) c.args.target.now files holds) (sym (steps files is).gives)
+    (others_then _ c.args.target.now files here holds outside
     (answered_same by works (g.S.Sink.written c.args.out.now)
     (g.C.Compiler.asked c.args.compiler.now) (g.C.Compiler.asked_skeletons c.args.compiler.now)
     (g.F.Folder.holds c.args.folder.now) (g.F.Folder.holds c.load.new.folder) t0 t1
     (λ files is. (steps files is).leads) files is here now)
-    (c.run_project.ensures.others outside here now)
+    (c.run_project.ensures.others outside here now))
 
 pub returns-in-Err-Diag-clause-others : goal.returns-in-Err-Diag-clause-others
 returns-in-Err-Diag-clause-others g c = λ outside files is.
@@ -162,7 +168,7 @@ returns-in-Err-Diag-clause-others g c = λ outside files is.
     answered_others by works (g.S.Sink.written c.args.out.now)
     (g.C.Compiler.asked c.args.compiler.now) (g.C.Compiler.asked_skeletons c.args.compiler.now)
     (g.F.Folder.holds c.args.folder.now) (g.F.Folder.holds c.load.new.folder) t0 t1
-    (λ files is. (steps files is).leads) c.args.target.now outside files is
+    (λ files is. (steps files is).leads) _ c.args.target.now outside files is
 
 pub returns-in-Err-Folder-clause-others : goal.returns-in-Err-Folder-clause-others
 returns-in-Err-Folder-clause-others g c = λ outside files is.
@@ -177,7 +183,7 @@ returns-in-Err-Folder-clause-others g c = λ outside files is.
     cut_others by works (g.S.Sink.written c.args.out.now)
     (g.C.Compiler.asked c.args.compiler.now) (g.C.Compiler.asked_skeletons c.args.compiler.now)
     (g.F.Folder.holds c.args.folder.now) (g.F.Folder.holds c.load.new.folder) t0 t1
-    (λ files is. (steps files is).cut) c.args.target.now outside files is
+    (λ files is. (steps files is).cut) _ c.args.target.now outside files is
 
 pub returns-in-Err-Tool-clause-others : goal.returns-in-Err-Tool-clause-others
 returns-in-Err-Tool-clause-others g c = λ outside files is.
@@ -192,7 +198,7 @@ returns-in-Err-Tool-clause-others g c = λ outside files is.
     cut_others by works (g.S.Sink.written c.args.out.now)
     (g.C.Compiler.asked c.args.compiler.now) (g.C.Compiler.asked_skeletons c.args.compiler.now)
     (g.F.Folder.holds c.args.folder.now) (g.F.Folder.holds c.load.new.folder) t0 t1
-    (λ files is. (steps files is).cut) c.args.target.now outside files is
+    (λ files is. (steps files is).cut) _ c.args.target.now outside files is
 
 pub returns-in-Err-NoMemory-clause-others : goal.returns-in-Err-NoMemory-clause-others
 returns-in-Err-NoMemory-clause-others g c = λ outside files is.
@@ -207,7 +213,7 @@ returns-in-Err-NoMemory-clause-others g c = λ outside files is.
     cut_others by works (g.S.Sink.written c.args.out.now)
     (g.C.Compiler.asked c.args.compiler.now) (g.C.Compiler.asked_skeletons c.args.compiler.now)
     (g.F.Folder.holds c.args.folder.now) (g.F.Folder.holds c.load.new.folder) t0 t1
-    (λ files is. (steps files is).cut) c.args.target.now outside files is
+    (λ files is. (steps files is).cut) _ c.args.target.now outside files is
 
 pub returns-in-Ok-clause-tools : goal.returns-in-Ok-clause-tools
 returns-in-Ok-clause-tools g c =

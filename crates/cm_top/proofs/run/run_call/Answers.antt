@@ -37,7 +37,10 @@ pub returns-in-Ok-Some-Single-clause-project : goal.returns-in-Ok-Some-Single-cl
 returns-in-Ok-Some-Single-clause-project g c = λ files is.
     let call : Some (call.Single c.in-Ok-Some-Single.command) ≡ call_of (map string_bytes c.args.words.now) =
     cc (c.in-Ok-Some-Single.field-0-is, c.in-Ok-Some-Single.field-0-0-is, c.in-Ok-Some-Single.ensures.is) in
-    subst (λ (o : Option Call). KeepsTarget o files (g.F.Folder.holds c.run_command.new.folder)) call
+    let by : Definitions = g.C.Compiler.defines in
+    let rules = rules_among (states_by g.T.Tool.class g.T.Tool.rule g.T.Tool.ran g.T.Tool.faults c.args.tools.now) in
+    subst (λ (o : Option Call). KeepsTarget o (of_call (store_way by rules) files o).effect files
+    (g.F.Folder.holds c.run_command.new.folder)) call
     (c.run_command.ensures.others files is)
 
 pub returns-in-Ok-Some-Gen-clause-performs : goal.returns-in-Ok-Some-Gen-clause-performs
@@ -59,7 +62,10 @@ pub returns-in-Ok-Some-Gen-clause-project : goal.returns-in-Ok-Some-Gen-clause-p
 returns-in-Ok-Some-Gen-clause-project g c = λ files is.
     let call : Some (call.Gen c.in-Ok-Some-Gen.n) ≡ call_of (map string_bytes c.args.words.now) =
     cc (c.in-Ok-Some-Gen.field-0-is, c.in-Ok-Some-Gen.field-0-0-is, c.in-Ok-Some-Gen.ensures.is) in
-    subst (λ (o : Option Call). KeepsTarget o files (g.F.Folder.holds c.generate.new.folder)) call
+    let by : Definitions = g.C.Compiler.defines in
+    let rules = rules_among (states_by g.T.Tool.class g.T.Tool.rule g.T.Tool.ran g.T.Tool.faults c.args.tools.now) in
+    subst (λ (o : Option Call). KeepsTarget o (of_call (store_way by rules) files o).effect files
+    (g.F.Folder.holds c.generate.new.folder)) call
     (c.generate.ensures.project files is)
 
 pub returns-in-Ok-Some-Session-clause-performs : goal.returns-in-Ok-Some-Session-clause-performs
@@ -106,8 +112,8 @@ returns-in-Err-clause-performs g c =
 
 pub returns-in-Ok-None-clause-project : goal.returns-in-Ok-None-clause-project
 returns-in-Ok-None-clause-project g c = λ files is.
-    target_still (call_of (map string_bytes c.args.words.now)) files (g.F.Folder.holds c.args.folder.now) is
+    target_still (call_of (map string_bytes c.args.words.now)) _ files (g.F.Folder.holds c.args.folder.now) is
 
 pub returns-in-Err-clause-project : goal.returns-in-Err-clause-project
 returns-in-Err-clause-project g c = λ files is.
-    target_still (call_of (map string_bytes c.args.words.now)) files (g.F.Folder.holds c.args.folder.now) is
+    target_still (call_of (map string_bytes c.args.words.now)) _ files (g.F.Folder.holds c.args.folder.now) is

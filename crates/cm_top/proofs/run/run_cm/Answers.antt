@@ -1,11 +1,14 @@
-use Rattle.std.proofs.Common.{map}
+use Rattle.std.proofs.Common.{map, subst}
 use Rattle.std.specs.Prelude.{string_bytes}
 use Rattle.cm_base.specs.Causes.{Rose}
 use Rattle.cm_base.specs.Definitions.{Definitions}
+use Rattle.cm_base.specs.Derived.{ToolRules}
+use Rattle.command_words.specs.Words.{call_of}
 use Rattle.tool_deriving.specs.Toolboxes.{rules_of}
 use Rattle.group_loader.specs.Loading.{Failed, states_by}
 use Rattle.command_parts.specs.Performing.{between, state_of}
-use Rattle.cm_top.specs.Sessions.{meaning_of_call}
+use Rattle.command_parts.specs.Sessions.{KeepsTarget}
+use Rattle.cm_top.specs.Sessions.{doing_of_call, meaning_of_call}
 use Rattle.cm_top.proofs.Calls.{by_box, completes}
 use Rattle.cm_top.proofs.Counts.{box_rules}
 use Rattle.cm_top.proofs.InTurn.{stage}
@@ -73,6 +76,15 @@ returns-clause-outside g c = λ files is.
     (rules_of g.T.Tool.class g.T.Tool.rule c.args.tools.now)
     (box_rules g.T.Tool.class g.T.Tool.rule g.T.Tool.ran g.T.Tool.faults c.args.tools.now) c.run_call.ensures.performs in
     all.effect.outside files is
+
+pub returns-clause-project : goal.returns-clause-project
+returns-clause-project g c = λ files is.
+    let by : Definitions = g.C.Compiler.defines in
+    let words = map string_bytes c.args.words.now in
+    subst (λ (rules : ToolRules). KeepsTarget (call_of words) (doing_of_call by rules words files).effect files
+    (g.F.Folder.holds c.run_call.new.folder))
+    (box_rules g.T.Tool.class g.T.Tool.rule g.T.Tool.ran g.T.Tool.faults c.args.tools.now)
+    (c.run_call.ensures.project files is)
 
 pub returns-clause-stays : goal.returns-clause-stays
 returns-clause-stays g c = λ files is.
