@@ -17,8 +17,8 @@ use Rattle.fitting_names.specs.Names.{HasFitNames}
 abbrev pub bare_source : List ℕ → List ℕ → Result BareUnit Diag
 bare_source file source = parsed_unit file source >>= bare_unit
 
--- a bare unit as its format wants it: what is to be a sequence is one, an integer has eight bytes and a character one,
--- a name has 1 to 255 bytes from 33 to 126, and at most 1,024 tags stand in one another
+-- a bare unit that fits its format: what is to be a sequence is one, an integer has eight bytes and a character one, and
+-- at most 1,024 tags stand in one another; and of a name more than the format asks, it has 1 to 255 bytes from 33 to 126
 pub record FitsFormat (unit : BareUnit) : Type 0 where
   pub sequences : IsPlain unit
   pub constants : HasFitConstants unit
